@@ -1,0 +1,15 @@
+-- Words that fill parts one by one.
+use Rattle.std.proofs.Common.{List, ℕ, [], ◌∷◌}
+use Rattle.naga_check.specs.Forms.{Part, Fill, Fills}
+
+-- a fact holds of every list of words that fills the parts
+abbrev pub HoldsFilled : List Part → (List (List ℕ) → Type 0) → Type 0
+HoldsFilled [] P = P []
+HoldsFilled (p ∷ ps) P = (w : List ℕ) → Fills p w → HoldsFilled ps (λ ws. P (w ∷ ws))
+
+-- what holds of every list of words that fills the parts holds of words that do
+pub by_parts : (ps : List Part) (ws : List (List ℕ)) (P : List (List ℕ) → Type 0) → Fill ps ws → HoldsFilled ps P → P ws
+by_parts [] [] P f h = h
+by_parts [] (w ∷ ws) P f h = absurd f
+by_parts (p ∷ ps) [] P f h = absurd f
+by_parts (p ∷ ps) (w ∷ ws) P f h = by_parts ps ws (λ vs. P (w ∷ vs)) f.1 (h w f.0)

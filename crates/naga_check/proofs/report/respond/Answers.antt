@@ -1,0 +1,22 @@
+use Rattle.std.proofs.Common.{◌≡◌, ◌⊎◌, ℕ, inl, inr, refl, subst}
+use Rattle.std.proofs.lemmas.Result.{IfOk-weaker}
+use Rattle.naga_check.specs.Report.{readable, unreadable}
+use Rattle.naga_check.specs.Results.{NamesLine}
+use Rattle.naga_check.specs.Text.{IsFirstUnreadable}
+use Rattle.naga_check.specs.Words.{lines_of}
+use Rattle.naga_check.specs.declared.text.TextError.{TextError}
+use Rattle.naga_check.specs.declared.text.TextError.TheVariants.{Line, OutOfMemory}
+use Rattle.naga_check.proofs.report.respond.Goals as goal
+
+-- an error that is a line names it
+named : (e : TextError) (n : ℕ) (P : ℕ → Type 0) → e ≡ Line n → (e ≡ OutOfMemory) ⊎ NamesLine e P → P n
+named e n P is (inl none) = cc
+named e n P is (inr names) = subst (λ e. NamesLine e P) is names
+
+pub returns-in-Ok : goal.returns-in-Ok
+returns-in-Ok c = IfOk-weaker c.report_on.result _ _ (λ a h. readable c.in-Ok.contents c.in-Ok.ensures.answer h) c.report_on.ensures
+
+pub returns-in_ok-format-in-Err-Line : goal.returns-in_ok-format-in-Err-Line
+returns-in_ok-format-in-Err-Line c =
+    let first = named c.in-Err-Line.field-0 c.in-Err-Line.n (IsFirstUnreadable (lines_of c.args.input.now)) c.in-Err-Line.field-0-is c.in-Err-Line.ensures.answer in
+    unreadable c.in-Err-Line.n first c.in_ok-format-in-Err-Line.ensures.ok refl

@@ -1,0 +1,8 @@
+pub mod Forms
+pub mod Reading
+pub mod Report
+pub mod Results
+pub mod Run
+pub mod Telling
+pub mod Text
+pub mod Words

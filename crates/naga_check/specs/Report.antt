@@ -1,0 +1,93 @@
+-- What is reported of a text.
+use Rattle.std.specs.Fmt.{digit_glyph}
+use Rattle.std.specs.Prelude.{◌≡◌, ◌⊎◌, ℕ, ◌+◌, ◌/◌, ◌%◌, false, List, [], ◌∷◌, ◌++◌, Result, Ok, Err, codes, decimal}
+use Rattle.naga_types.specs.declared.error.Disalignment.{Disalignment}
+use Rattle.naga_types.specs.declared.error.Disalignment.TheVariants.{ArrayStride, StructSpan, MemberOffset, MemberOffsetAfterStruct, UnsizedMember, NonHostShareable}
+use Rattle.naga_types.specs.declared.error.TypeError.{TypeError}
+use Rattle.naga_types.specs.declared.error.TypeError.TheVariants.{MatrixElementNotFloat, WidthError}
+use Rattle.naga_types.specs.declared.info.TypeInfo.{TypeInfo}
+use Rattle.naga_typing.specs.declared.layouter.LayoutErrorInner.{LayoutErrorInner}
+use Rattle.naga_typing.specs.declared.layouter.LayoutErrorInner.TheVariants.{NonPowerOfTwoWidth, OutOfMemory}
+use Rattle.naga_valid.specs.Accepted.{IsAccepted, IsRefusal, Settings}
+use Rattle.naga_valid.specs.declared.error.ValidationError.{ValidationError}
+use Rattle.naga_valid.specs.declared.error.ValidationError.TheVariants.{Layouter, Type_, OutOfMemory as NoMemory}
+use Rattle.naga_check.specs.Text.{IsFirstUnreadable, IsText}
+use Rattle.naga_check.specs.Words.{lines_of}
+use Rattle.naga_check.specs.declared.report.Outcome.{Outcome}
+use Rattle.naga_check.specs.declared.report.Outcome.TheVariants.{Accepted, Refused, Unreadable}
+use Rattle.naga_check.specs.declared.text.Contents.{Contents}
+
+-- two lower case hexadecimal digits of a byte
+abbrev pub hex_byte : ℕ → List ℕ
+hex_byte n = digit_glyph false (n / 16) ∷ digit_glyph false (n % 16) ∷ []
+
+-- the name of what stands against a layout
+abbrev pub disalignment_name : Disalignment → List ℕ
+disalignment_name (ArrayStride stride alignment) = codes "ArrayStride"
+disalignment_name (StructSpan span alignment) = codes "StructSpan"
+disalignment_name (MemberOffset index offset alignment) = codes "MemberOffset"
+disalignment_name (MemberOffsetAfterStruct index offset expected) = codes "MemberOffsetAfterStruct"
+disalignment_name (UnsizedMember index) = codes "UnsizedMember"
+disalignment_name NonHostShareable = codes "NonHostShareable"
+
+-- a layout's alignment, or the name of what stands against it
+abbrev pub layout_text : Result ℕ (ℕ × Disalignment) → List ℕ
+layout_text (Ok alignment) = decimal alignment
+layout_text (Err e) = disalignment_name e.1
+
+-- the line of an accepted type: its number, its flags, and its layouts
+abbrev pub type_line : ℕ → TypeInfo → List ℕ
+type_line i info =
+    codes "T" ++ (decimal i ++ (codes " " ++ (hex_byte info.flags.0 ++ (codes " " ++ (layout_text info.uniform_layout ++ (codes " " ++ (layout_text info.storage_layout ++ codes "\n")))))))
+
+-- the lines of types from number i on
+abbrev pub type_lines : ℕ → List TypeInfo → List ℕ
+type_lines i [] = []
+type_lines i (info ∷ infos) = type_line i info ++ type_lines (i + 1) infos
+
+-- the report on an accepted module
+abbrev pub accepted_text : List TypeInfo → List ℕ
+accepted_text infos = type_lines 0 infos ++ codes "ok\n"
+
+-- the names of refusals
+abbrev pub layout_error_name : LayoutErrorInner → List ℕ
+layout_error_name NonPowerOfTwoWidth = codes "NonPowerOfTwoWidth"
+layout_error_name OutOfMemory = codes "OutOfMemory"
+
+abbrev pub type_error_name : TypeError → List ℕ
+type_error_name MatrixElementNotFloat = codes "MatrixElementNotFloat"
+type_error_name (WidthError source) = codes "WidthError"
+
+-- the line of what is refused: its kind and number, and the name of the refusal
+abbrev pub refused_line : List ℕ → ℕ → List ℕ → List ℕ
+refused_line kind number name = codes "refused " ++ (kind ++ (decimal number ++ (codes " " ++ (name ++ codes "\n"))))
+
+-- the report where memory was refused while a module was validated
+abbrev pub refused_memory_text : List ℕ
+refused_memory_text = codes "refused memory\n"
+
+-- the report on a refused module
+abbrev pub refused_text : ValidationError → List ℕ
+refused_text (Layouter e) = refused_line (codes "layout T") e.ty (layout_error_name e.inner)
+refused_text (Type_ handle name source) = refused_line (codes "type T") handle (type_error_name source)
+refused_text NoMemory = refused_memory_text
+
+-- the report on a text that can't be read
+abbrev pub unreadable_text : ℕ → List ℕ
+unreadable_text n = codes "line " ++ (decimal n ++ codes " not readable\n")
+
+-- what the module of a text is judged by
+abbrev pub settings_in : Contents → Settings
+settings_in contents = record { flags = contents.flags; capabilities = contents.capabilities; resolved = contents.resolved }
+
+-- what may be reported of contents, and of which kind that is
+abbrev pub IsReportOn : Contents → List ℕ → Outcome → Type 0
+IsReportOn contents text Accepted = (infos : List TypeInfo) × IsAccepted contents.«module» (settings_in contents) infos × (text ≡ accepted_text infos)
+IsReportOn contents text Refused =
+    (text ≡ refused_memory_text) ⊎ ((e : ValidationError) × IsRefusal contents.«module» (settings_in contents) e × (text ≡ refused_text e))
+IsReportOn contents text Unreadable = ⊥
+
+-- what may be reported of a text, and of which kind that is
+pub data IsReport (input text : List ℕ) (outcome : Outcome) : Type 0 where
+  readable : (contents : Contents) → IsText (lines_of input) contents → IsReportOn contents text outcome → IsReport input text outcome
+  unreadable : (n : ℕ) → IsFirstUnreadable (lines_of input) n → text ≡ unreadable_text n → outcome ≡ Unreadable → IsReport input text outcome

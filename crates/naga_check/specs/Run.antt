@@ -1,0 +1,26 @@
+-- What a run leaves with its writer.
+use Rattle.std.specs.Prelude.{ℕ, List, take, Option, Result, Ok, Err}
+use Rattle.std.specs.Io.KnownBytes.{Appends}
+use Rattle.naga_check.specs.Report.{IsReport}
+use Rattle.naga_check.specs.declared.report.Outcome.{Outcome}
+use Rattle.naga_check.specs.declared.report.Outcome.TheVariants.{Accepted, Refused, Unreadable}
+use Rattle.naga_check.specs.declared.run.RunFault.{RunFault}
+
+-- the bytes grew by a report on the input, of this kind
+abbrev pub Reports : List ℕ → Outcome → Option (List ℕ) → Option (List ℕ) → Type 0
+Reports input outcome old new = (text : List ℕ) × IsReport input text outcome × Appends old new text
+
+-- the bytes grew by the beginning of a text
+abbrev pub AppendsFront : List ℕ → Option (List ℕ) → Option (List ℕ) → Type 0
+AppendsFront text old new = (n : ℕ) × Appends old new (take n text)
+
+-- the bytes grew by the beginning of a report on the input
+abbrev pub BeginsReport : List ℕ → Option (List ℕ) → Option (List ℕ) → Type 0
+BeginsReport input old new = (text : List ℕ) × (outcome : Outcome) × IsReport input text outcome × AppendsFront text old new
+
+-- the exit status of a run
+abbrev pub status_of : Result Outcome RunFault → ℕ
+status_of (Ok Accepted) = 0
+status_of (Ok Refused) = 1
+status_of (Ok Unreadable) = 2
+status_of (Err _) = 3

@@ -1,0 +1,24 @@
+//! Validates the shader module that standard input describes, and writes the verdict to standard
+//! output.
+#![tactic(auto)]
+
+mod counted;
+mod line;
+mod number;
+mod pieces;
+#[cfg(test)]
+mod refused_memory;
+mod report;
+mod run;
+mod text;
+
+use counted::Counted;
+use run::{run, status};
+use std::io;
+use std::process::ExitCode;
+
+fn main(rt: HostRuntime) -> ExitCode {
+    let mut reader = Counted::new(rt.reader());
+    let mut writer = Counted::new(io::writer(&rt));
+    ExitCode::from(status(&run(rt.alloc(), &mut reader, &mut writer)))
+}

@@ -1,0 +1,167 @@
+//! The report on a text.
+
+ghost use Rattle.naga_check.specs.Report.{IsReport, IsReportOn, accepted_text, disalignment_name, hex_byte, layout_error_name, layout_text, refused_text, type_error_name, type_line};
+ghost use Rattle.std.specs.Prelude.{◌≡◌, ◌++◌, IfOk, OnOk, codes, decimal, length, string_bytes};
+
+use crate::text::{Contents, TextError, read_text};
+use bitflags::Flags;
+use naga_valid::{
+    Disalignment, Handle, LayoutCompatibility, LayoutErrorInner, Module, TypeError, TypeFlags,
+    TypeInfo, TypeTag, ValidationError, Validator,
+};
+use std::alloc::{AllocError, Global};
+
+/// What became of a text.
+#[derive(Clone, Copy, Debug, PartialEq)]
+pub enum Outcome {
+    /// Its module keeps the rules.
+    Accepted,
+    /// Its module breaks a rule, or memory was refused while it was validated.
+    Refused,
+    /// It is no text that can be read.
+    Unreadable,
+}
+
+/// A report, and of which kind it is.
+#[derive(Debug, Drop)]
+pub struct Report {
+    pub text: String,
+    pub outcome: Outcome,
+}
+
+/// The name of what stands against a layout.
+fn disalignment_name(disalignment: Disalignment) -> &'static str
+    ensures { result.now ≡ disalignment_name disalignment }
+{
+    match disalignment {
+        Disalignment::ArrayStride { .. } => "ArrayStride",
+        Disalignment::StructSpan { .. } => "StructSpan",
+        Disalignment::MemberOffset { .. } => "MemberOffset",
+        Disalignment::MemberOffsetAfterStruct { .. } => "MemberOffsetAfterStruct",
+        Disalignment::UnsizedMember { .. } => "UnsizedMember",
+        Disalignment::NonHostShareable => "NonHostShareable",
+    }
+}
+
+/// The name of why a type has no layout.
+fn layout_error_name(error: LayoutErrorInner) -> &'static str
+    ensures { result.now ≡ layout_error_name error }
+{
+    match error {
+        LayoutErrorInner::NonPowerOfTwoWidth => "NonPowerOfTwoWidth",
+        LayoutErrorInner::OutOfMemory => "OutOfMemory",
+    }
+}
+
+/// The name of why a type is refused.
+fn type_error_name(error: &TypeError) -> &'static str
+    ensures { result.now ≡ type_error_name error.now }
+{
+    match error {
+        TypeError::MatrixElementNotFloat => "MatrixElementNotFloat",
+        TypeError::WidthError(_) => "WidthError",
+    }
+}
+
+/// Adds a layout's alignment, or the name of what stands against it.
+fn add_layout(text: &mut String, layout: LayoutCompatibility) -> Result<(), AllocError>
+    ensures { OnOk result (string_bytes text.new ≡ string_bytes text.old ++ layout_text layout) }
+{
+    match layout {
+        Ok(alignment) => {
+            let alignment = alignment.get();
+            write!(text, "{alignment}")
+        }
+        Err((_, disalignment)) => text.push_str(disalignment_name(disalignment)),
+    }
+}
+
+/// Adds a type's number and its flags.
+fn add_flags(text: &mut String, handle: Handle<TypeTag>, flags: TypeFlags) -> Result<(), AllocError>
+    ensures { OnOk result (string_bytes text.new ≡ string_bytes text.old ++ (codes "T" ++ (decimal handle ++ (codes " " ++ (hex_byte flags.0 ++ codes " "))))) }
+{
+    let index = handle.index();
+    let bits = flags.bits();
+    write!(text, "T{index} {bits:02x} ")
+}
+
+/// Adds the line of an accepted type.
+#[tactic(auto, using(std::proofs::lemmas::List::append_assoc))]
+fn add_type(text: &mut String, handle: Handle<TypeTag>, info: TypeInfo) -> Result<(), AllocError>
+    ensures { OnOk result (string_bytes text.new ≡ string_bytes text.old ++ type_line handle info) }
+{
+    add_flags(text, handle, info.flags)?;
+    add_layout(text, info.uniform_layout)?;
+    text.push_str(" ")?;
+    add_layout(text, info.storage_layout)?;
+    text.push_str("\n")
+}
+
+/// A line for each type, and then that all is well.
+fn accepted(alloc: Global, module: &Module, validator: &Validator) -> Result<String, AllocError>
+    requires { length validator.now.infos ≡ length module.now.types }
+    ensures { IfOk result (λ text. string_bytes text ≡ accepted_text validator.now.infos) }
+{
+    let mut text = String::new(alloc);
+    for (handle, _) in module.types.iter() {
+        add_type(&mut text, handle, validator.type_info(handle))?;
+    }
+    text.push_str("ok\n")?;
+    Ok(text)
+}
+
+/// One line, of what is refused.
+fn refused(alloc: Global, error: &ValidationError) -> Result<String, AllocError>
+    ensures { IfOk result (λ text. string_bytes text ≡ refused_text error.now) }
+{
+    match error {
+        ValidationError::Layouter(error) => {
+            let index = error.ty.index();
+            let name = layout_error_name(error.inner);
+            format!(in alloc; "refused layout T{index} {name}\n")
+        }
+        ValidationError::Type_ { handle, source, .. } => {
+            let index = handle.index();
+            let name = type_error_name(source);
+            format!(in alloc; "refused type T{index} {name}\n")
+        }
+        ValidationError::OutOfMemory => String::from_str(alloc, "refused memory\n"),
+    }
+}
+
+/// The report on what a text says.
+fn report_on(alloc: Global, contents: &Contents) -> Result<Report, AllocError>
+    ensures { IfOk result (λ report. IsReportOn contents.now (string_bytes report.text) report.outcome) }
+{
+    let mut validator = Validator::new(alloc, contents.flags, contents.capabilities);
+    let result = if contents.resolved {
+        validator.validate_resolved_overrides(&contents.module)
+    } else {
+        validator.validate(&contents.module)
+    };
+    match result {
+        Ok(_) => Ok(Report {
+            text: accepted(alloc, &contents.module, &validator)?,
+            outcome: Outcome::Accepted,
+        }),
+        Err(error) => Ok(Report {
+            text: refused(alloc, error.as_inner())?,
+            outcome: Outcome::Refused,
+        }),
+    }
+}
+
+/// The report on a text. `AllocError` says that memory was refused while the text was read or the
+/// report was made.
+pub fn respond(alloc: Global, input: &[u8]) -> Result<Report, AllocError>
+    ensures { IfOk result (λ report. IsReport input.now (string_bytes report.text) report.outcome) }
+{
+    match read_text(alloc, input) {
+        Ok(contents) => report_on(alloc, &contents),
+        Err(TextError::Line(n)) => Ok(Report {
+            text: format!(in alloc; "line {n} not readable\n")?,
+            outcome: Outcome::Unreadable,
+        }),
+        Err(TextError::OutOfMemory) => Err(AllocError),
+    }
+}

@@ -1,0 +1,204 @@
+//! Runs over memory, and failures of each call in turn.
+
+use crate::counted::Counted;
+use crate::report::Outcome;
+use crate::run::{RunFault, run, status};
+use std::io;
+use std::io::{Error, ErrorKind, Read, Write};
+use std::test::Fail;
+
+/// A reader or writer that moves `step` bytes a call, and whose call of number `bad` is interrupted.
+#[derive(Drop)]
+struct Failing<S> {
+    inner: S,
+    step: usize,
+    bad: usize,
+    calls: usize,
+}
+
+impl<S> Failing<S> {
+    /// How many bytes the next call moves, or that it fails.
+    fn turn(&mut self, len: usize) -> io::Result<usize> {
+        let call = self.calls;
+        self.calls = call.saturating_add(1);
+        if call == self.bad {
+            return Err(Error::from(ErrorKind::Interrupted));
+        }
+        Ok(len.min(self.step))
+    }
+}
+
+impl<R: Read> Read for Failing<R> {
+    fn read(&mut self, buf: &mut [u8]) -> io::Result<usize> {
+        let len = self.turn(buf.len())?.min(buf.len());
+        self.inner.read(&mut buf[..len])
+    }
+}
+
+impl<W: Write> Write for Failing<W> {
+    fn write(&mut self, buf: &[u8]) -> io::Result<usize> {
+        let len = self.turn(buf.len())?.min(buf.len());
+        self.inner.write(&buf[..len])
+    }
+
+    fn flush(&mut self) -> io::Result<()> {
+        self.turn(0)?;
+        Ok(())
+    }
+}
+
+/// A text of 84 bytes.
+const TEXT: &str =
+    "# a comment and a setting\ncaps 67108864\n\ntype scalar float 2\ntype vector 3 sint 4\n";
+
+/// The report on it, of 27 bytes.
+const REPORT: &str = "T0 ff 2 2\nT1 ff 16 16\nok\n";
+
+#[test]
+fn texts_are_reported_on(rt: HostRuntime) -> Result<(), Fail> {
+    for (text, want, code) in [
+        (
+            "type scalar float 4\ntype vector 4 float 4\ntype matrix 2 3 float 4\n",
+            "T0 ff 4 4\nT1 ff 16 16\nT2 f7 16 16\nok\n",
+            0,
+        ),
+        ("type scalar float 2", "refused type T0 WidthError\n", 1),
+        ("caps 67108864\ntype scalar float 2", "T0 ff 2 2\nok\n", 0),
+        (
+            "type scalar float 3",
+            "refused layout T0 NonPowerOfTwoWidth\n",
+            1,
+        ),
+        (
+            "type matrix 2 2 sint 4",
+            "refused type T0 MatrixElementNotFloat\n",
+            1,
+        ),
+        ("type scalar bool 1", "T0 e7 1 1\nok\n", 0),
+        ("", "ok\n", 0),
+        (
+            "type scalar uint 4\ntype scalar uint 4",
+            "line 2 not readable\n",
+            2,
+        ),
+        ("type scalar float 1\n", "refused type T0 WidthError\n", 1),
+        (
+            "flags 0\nresolved\ntype scalar uint 4\ntype vector 2 bool 1\ntype matrix 4 2 float 4\n",
+            "T0 ff 4 4\nT1 e7 2 2\nT2 f7 8 8\nok\n",
+            0,
+        ),
+        (
+            "type scalar uint 4\ntype scalar bool 4\ntype scalar sint 0\n",
+            "refused layout T2 NonPowerOfTwoWidth\n",
+            1,
+        ),
+        (
+            "type scalar uint 4\ntype scalar bool 4\ntype scalar aint 8\n",
+            "refused type T1 WidthError\n",
+            1,
+        ),
+        (TEXT, REPORT, 0),
+    ] {
+        let mut reader = Counted::new(text.as_bytes());
+        let mut writer = Counted::new(Vec::new(rt.alloc()));
+        let ended = run(rt.alloc(), &mut reader, &mut writer);
+        assert_eq!(rt; status(&ended), code, "{text:?}");
+        assert!(rt; writer.inner.as_slice() == want.as_bytes(), "{text:?}");
+        assert_eq!(rt; (reader.failed, writer.failed), (0, 0));
+    }
+    Ok(())
+}
+
+#[test]
+fn any_bytes_have_a_report(rt: HostRuntime) -> Result<(), Fail> {
+    let mut reader = Counted::new(b"#\xff\x00\n\xff\n".as_slice());
+    let mut writer = Counted::new(Vec::new(rt.alloc()));
+    let ended = run(rt.alloc(), &mut reader, &mut writer);
+    assert_eq!(rt; ended, Ok(Outcome::Unreadable));
+    assert!(rt; writer.inner.as_slice() == b"line 2 not readable\n".as_slice());
+    Ok(())
+}
+
+#[test]
+fn each_read_fails_in_turn(rt: HostRuntime) -> Result<(), Fail> {
+    // Calls 0 to 21 give 4 bytes at most, and call 22 tells the end.
+    let reads = TEXT.len().div_ceil(4);
+    for bad in 0..30 {
+        let mut reader = Counted::new(Failing {
+            inner: TEXT.as_bytes(),
+            step: 4,
+            bad,
+            calls: 0,
+        });
+        let mut writer = Counted::new(Vec::new(rt.alloc()));
+        let ended = run(rt.alloc(), &mut reader, &mut writer);
+        if bad <= reads {
+            assert_eq!(rt; ended, Err(RunFault::Read), "{bad}");
+            assert_eq!(rt; status(&ended), 3);
+            assert_eq!(rt; reader.failed, 1);
+            assert!(rt; writer.inner.is_empty());
+        } else {
+            assert_eq!(rt; ended, Ok(Outcome::Accepted), "{bad}");
+            assert_eq!(rt; reader.failed, 0);
+        }
+    }
+    Ok(())
+}
+
+#[test]
+fn each_write_and_the_flush_fail_in_turn(rt: HostRuntime) -> Result<(), Fail> {
+    // Calls 0 to 4 take 5 bytes each, and call 5 flushes.
+    let out = REPORT.as_bytes();
+    let writes = out.len().div_ceil(5);
+    for bad in 0..10 {
+        let mut reader = Counted::new(TEXT.as_bytes());
+        let mut writer = Counted::new(Failing {
+            inner: Vec::new(rt.alloc()),
+            step: 5,
+            bad,
+            calls: 0,
+        });
+        let ended = run(rt.alloc(), &mut reader, &mut writer);
+        let len = out.len().min(bad.saturating_mul(5));
+        assert!(rt; writer.inner.inner.as_slice() == &out[..len], "{bad}");
+        if bad <= writes {
+            assert_eq!(rt; ended, Err(RunFault::Write), "{bad}");
+            assert_eq!(rt; status(&ended), 3);
+            assert_eq!(rt; writer.failed, 1);
+        } else {
+            assert_eq!(rt; ended, Ok(Outcome::Accepted), "{bad}");
+            assert_eq!(rt; writer.failed, 0);
+        }
+    }
+    Ok(())
+}
+
+#[test]
+fn a_writer_that_takes_nothing_more_is_a_fault(rt: HostRuntime) -> Result<(), Fail> {
+    let mut reader = Counted::new(TEXT.as_bytes());
+    let mut room = [0u8; 7];
+    let mut writer = Counted::new(&mut room[..]);
+    let ended = run(rt.alloc(), &mut reader, &mut writer);
+    assert_eq!(rt; ended, Err(RunFault::Write));
+    assert_eq!(rt; writer.failed, 1);
+    assert!(rt; writer.inner.is_empty());
+    Ok(())
+}
+
+#[test]
+fn faults_have_messages(rt: HostRuntime) -> Result<(), Fail> {
+    let alloc = rt.alloc();
+    assert_eq!(rt;
+        format!(in alloc; "{}", RunFault::Read)?.as_str(),
+        "reading failed"
+    );
+    assert_eq!(rt;
+        format!(in alloc; "{}", RunFault::Write)?.as_str(),
+        "writing failed"
+    );
+    assert_eq!(rt;
+        format!(in alloc; "{}", RunFault::OutOfMemory)?.as_str(),
+        "out of memory"
+    );
+    Ok(())
+}

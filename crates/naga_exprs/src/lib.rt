@@ -1,0 +1,6 @@
+//! What validation learns of a module, for those who use the module afterwards.
+#![tactic(auto)]
+
+pub mod module_info;
+#[cfg(test)]
+mod tests;

@@ -1,0 +1,83 @@
+//! The widths that scalars may have.
+
+ghost use Rattle.std.specs.Prelude.{◌≡◌};
+ghost use Rattle.naga_flags.specs.Width.{width_rule};
+
+use crate::flags::Capabilities;
+use bitflags::Flags;
+use naga_ir::ir::{BOOL_WIDTH, Scalar, ScalarKind};
+use naga_ir::text::StaticText;
+use std::fmt;
+use thiserror::Error;
+
+/// Why a scalar has no good width.
+#[derive(Clone, Debug, PartialEq, Drop, Error)]
+pub enum WidthError {
+    /// No capability makes this width of this kind good.
+    #[error("The {0:?} scalar width {1} is not supported")]
+    Invalid(ScalarKind, u8),
+    /// Values called `name` need the capability `flag`.
+    #[error("Using `{name}` values requires the `naga::valid::Capabilities::{flag}` flag")]
+    MissingCapability { name: StaticText, flag: StaticText },
+    /// Abstract scalars are types of constant expressions alone (WGSL).
+    #[error("Abstract types may only appear in constant expressions")]
+    Abstract,
+}
+
+/// Why immediates may not hold a type.
+#[derive(Clone, Copy, Debug, PartialEq)]
+pub enum ImmediateError {
+    /// A scalar of 16 bits.
+    InvalidScalar(Scalar),
+}
+
+impl fmt::Display for ImmediateError {
+    fn fmt<W: fmt::Write>(&self, f: &mut fmt::Formatter<W>) -> fmt::Result {
+        match self {
+            ImmediateError::InvalidScalar(scalar) => write!(
+                f,
+                "The scalar type {scalar:?} is not supported in immediates"
+            ),
+        }
+    }
+}
+
+/// Whether immediates may hold a type.
+pub type ImmediateCompatibility = Result<(), ImmediateError>;
+
+/// Whether a scalar has a width that is good for its kind under `capabilities` (naga), and then
+/// whether immediates may hold it.
+///
+/// `WidthError` says which capability is missing, that no capability would do, or that the kind is
+/// abstract.
+pub fn check_width(
+    capabilities: Capabilities,
+    scalar: Scalar,
+) -> Result<ImmediateCompatibility, WidthError>
+    ensures { result ≡ width_rule capabilities.0 scalar }
+{
+    let (name, flag, needed) = match (scalar.kind, scalar.width) {
+        (ScalarKind::AbstractInt | ScalarKind::AbstractFloat, _) => return Err(
+            WidthError::Abstract,
+        ),
+        (ScalarKind::Bool, BOOL_WIDTH) => return Ok(Ok(())),
+        (ScalarKind::Float | ScalarKind::Sint | ScalarKind::Uint, 4) => return Ok(Ok(())),
+        (ScalarKind::Float, 8) => ("f64", "FLOAT64", Capabilities::FLOAT64),
+        (ScalarKind::Float, 2) => ("f16", "SHADER_FLOAT16", Capabilities::SHADER_FLOAT16),
+        (ScalarKind::Sint, 8) => ("i64", "SHADER_INT64", Capabilities::SHADER_INT64),
+        (ScalarKind::Sint, 2) => ("i16", "SHADER_INT16", Capabilities::SHADER_INT16),
+        (ScalarKind::Uint, 8) => ("u64", "SHADER_INT64", Capabilities::SHADER_INT64),
+        (ScalarKind::Uint, 2) => ("u16", "SHADER_INT16", Capabilities::SHADER_INT16),
+        (kind, width) => return Err(WidthError::Invalid(kind, width)),
+    };
+    if !capabilities.contains(needed) {
+        return Err(WidthError::MissingCapability {
+            name: StaticText::new(name),
+            flag: StaticText::new(flag),
+        });
+    }
+    if scalar.width == 2 {
+        return Ok(Err(ImmediateError::InvalidScalar(scalar)));
+    }
+    Ok(Ok(()))
+}

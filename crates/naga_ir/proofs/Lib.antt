@@ -1,0 +1,5 @@
+pub mod Keys
+pub mod Powers
+pub mod Progress
+pub mod SameInner
+pub mod SameType

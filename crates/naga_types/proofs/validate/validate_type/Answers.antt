@@ -1,0 +1,17 @@
+use Rattle.std.proofs.Common.{List, Result, Some, map, ap, sym, ◌∙◌}
+use Rattle.std.specs.Option.{option_map}
+use Rattle.std.proofs.lemmas.Option.{slice_get-map}
+use Rattle.naga_ir.specs.declared.ir.«Type».{«Type»}
+use Rattle.naga_typing.proofs.Layouts.{alignment_at}
+use Rattle.naga_types.specs.TypeRule.{type_rule}
+use Rattle.naga_types.specs.declared.error.TypeError.{TypeError}
+use Rattle.naga_types.specs.declared.info.TypeInfo.{TypeInfo}
+use Rattle.naga_types.proofs.validate.validate_type.Goals as goal
+
+pub validate_inner-requires : goal.validate_inner-requires
+validate_inner-requires c = alignment_at c.args.gctx.types.now _ c.args.handle _ _ c.requires.laid_out c.index-2.ensures c.index.ensures
+
+pub returns : goal.returns
+returns c =
+    let rule : «Type» → Result TypeInfo TypeError = λ (t : «Type»). type_rule c.args.ctx.capabilities.0 t.inner in
+    slice_get-map rule c.args.gctx.types.now c.args.handle ∙ ap (option_map rule) c.index-2.ensures ∙ ap Some (sym c.validate_inner.ensures)

@@ -1,0 +1,36 @@
+use Rattle.std.proofs.Common.{◌≡◌, ◌⊎◌, List, Bool, ap, subst, sym, ◌∙◌, inl, inr, ⊎_elim}
+use Rattle.std.proofs.lemmas.Result.{MatchResult-weaker, err_from_is_err_and}
+use Rattle.naga_flags.specs.declared.flags.Capabilities.{Capabilities}
+use Rattle.naga_ir.proofs.Progress.{accepted_ok}
+use Rattle.naga_ir.specs.Results.{AllAccepted}
+use Rattle.naga_types.specs.TypeRule.{type_results}
+use Rattle.naga_typing.specs.Layout.{layout_results}
+use Rattle.naga_valid.specs.Accepted.{IsRefusal, Settings, settings_of}
+use Rattle.naga_valid.specs.State.{State}
+use Rattle.naga_valid.specs.declared.error.ValidationError.{ValidationError}
+use Rattle.naga_valid.specs.declared.error.ValidationError.TheVariants.{OutOfMemory}
+use Rattle.naga_valid.proofs.driver.Validator.validate_steps.Goals as goal
+
+pub returns-in_err-lay_out-clause-answer : goal.returns-in_err-lay_out-clause-answer
+returns-in_err-lay_out-clause-answer c =
+    let settings = settings_of c.args.self.now c.args.overrides_resolved in
+    let p = err_from_is_err_and c.from_residual.result c.from_residual.ensures.1 in
+    rw (p.1, p.2) (⊎_elim (λ (o : c.in_err-lay_out.field-0.0 ≡ OutOfMemory). inl o)
+    (λ (r : (settings : Settings) → IsRefusal c.args.module.now settings c.in_err-lay_out.field-0.0). inr (r settings)) c.in_err-lay_out.ensures)
+
+pub returns-clause-answer : goal.returns-clause-answer
+returns-clause-answer c =
+    let types = c.args.module.now.types in
+    let settings = settings_of c.args.self.now c.args.overrides_resolved in
+    let same : c.self.inside.capabilities ≡ c.args.self.now.capabilities = ap (λ (s : State). s.capabilities) c.self.view_is in
+    let layouts = accepted_ok (layout_results types) _ c.in_ok-lay_out.ensures in
+    MatchResult-weaker c.validate_types.result c.validate_types.ensures
+    (λ info h. (
+      record {
+        layouts = layouts;
+        types = subst (λ (k : Capabilities). AllAccepted (type_results k.0 types) c.validate_types.new.infos.infos) same h.0;
+      },
+      h.1,
+    ))
+    (λ e h. ⊎_elim (λ (o : e ≡ OutOfMemory). inl o)
+    (λ (r : (settings : Settings) → settings.capabilities ≡ c.self.inside.capabilities → IsRefusal c.args.module.now settings e). inr (r settings (sym same))) h)

@@ -1,0 +1,49 @@
+-- Which modules are accepted, and what is said of the others.
+use Rattle.std.specs.Prelude.{◌≡◌, ℕ, Bool, List, [], Some, All, IsOk, map, slice_get, unwrap_or}
+use Rattle.naga_exprs.specs.ModuleInfo.{ModuleInfoLists}
+use Rattle.naga_flags.specs.declared.flags.Capabilities.{Capabilities}
+use Rattle.naga_flags.specs.declared.flags.TypeFlags.{TypeFlags}
+use Rattle.naga_flags.specs.declared.flags.ValidationFlags.{ValidationFlags}
+use Rattle.naga_ir.specs.Results.{AllAccepted, IsFirstRefusal}
+use Rattle.naga_ir.specs.declared.ir.Module.{Module}
+use Rattle.naga_ir.specs.declared.ir.«Type».{«Type»}
+use Rattle.naga_types.specs.TypeRule.{type_results}
+use Rattle.naga_types.specs.declared.info.TypeInfo.{TypeInfo}
+use Rattle.naga_typing.specs.Layout.{layout_results}
+use Rattle.naga_valid.specs.State.{State}
+use Rattle.naga_valid.specs.declared.error.ValidationError.{ValidationError}
+use Rattle.naga_valid.specs.declared.error.ValidationError.TheVariants.{Layouter, Type_, OutOfMemory}
+
+-- what modules are judged by: the parts that are looked at, what may be used, and whether overrides have to have their values
+pub record Settings : Type 0 where
+  pub flags : ValidationFlags
+  pub capabilities : Capabilities
+  pub resolved : Bool
+
+-- the settings of a validator, and whether overrides have to have their values
+abbrev pub settings_of : State → Bool → Settings
+settings_of state resolved = record { flags = state.flags; capabilities = state.capabilities; resolved = resolved }
+
+-- each type has a layout, and each keeps its rule, which gives these infos
+pub record IsAccepted (m : Module) (settings : Settings) (infos : List TypeInfo) : Type 0 where
+  pub layouts : All IsOk (layout_results m.types)
+  pub types : AllAccepted (type_results settings.capabilities.0 m.types) infos
+
+-- what each type may be used for
+abbrev pub flags_of : List TypeInfo → List TypeFlags
+flags_of infos = map (λ i. i.flags) infos
+
+-- a module is accepted with these infos, and what is known of it is made of them
+abbrev pub AcceptsWith : Module → Settings → List TypeInfo → ModuleInfoLists → Type 0
+AcceptsWith m settings infos info = IsAccepted m settings infos × (info.type_flags ≡ flags_of infos)
+
+-- the type at this place has this name, or none and the name is empty
+abbrev pub IsNameOf : List «Type» → ℕ → List ℕ → Type 0
+IsNameOf types place name = (t : «Type») × (slice_get types place ≡ Some t) × (name ≡ unwrap_or t.name [])
+
+-- the first refusal of a module: of its layouts, else of its types
+abbrev pub IsRefusal : Module → Settings → ValidationError → Type 0
+IsRefusal m settings (Layouter e) = IsFirstRefusal (layout_results m.types) e.ty e.inner
+IsRefusal m settings (Type_ handle name source) =
+    All IsOk (layout_results m.types) × IsFirstRefusal (type_results settings.capabilities.0 m.types) handle source × IsNameOf m.types handle name
+IsRefusal m settings OutOfMemory = ⊥

@@ -1,0 +1,269 @@
+//! The driver: the rules in their order.
+
+ghost use Rattle.std.specs.Prelude.{◌≡◌, ◌<◌, ◌⊎◌, [], length, IfOk, OnErr, OnOk, Some, slice_get, false, true, unwrap_or};
+ghost use Rattle.naga_ir.specs.Memory.{AnsweredOrRefused};
+ghost use Rattle.naga_ir.specs.Results.{AllAccepted};
+ghost use Rattle.naga_ir.specs.Span.{inner_of};
+ghost use Rattle.naga_types.specs.TypeRule.{type_results};
+ghost use Rattle.naga_typing.specs.Layout.{layout_results};
+ghost use Rattle.naga_valid.specs.Accepted.{AcceptsWith, IsRefusal, Settings, flags_of, settings_of};
+
+use crate::error::ValidationError;
+use naga_exprs::module_info::ModuleInfo;
+use naga_flags::flags::{Capabilities, ValidationFlags};
+use naga_ir::handle::{Handle, TypeTag};
+use naga_ir::ir::{Module, Type};
+use naga_ir::memory::OutOfMemory;
+use naga_ir::span::{Span, WithSpan};
+use naga_ir::text::Text;
+use naga_types::error::TypeError;
+use naga_types::info::{TypeContext, TypeInfo, TypeInfos};
+use naga_types::validate::validate_type;
+use naga_typing::context::to_ctx;
+use naga_typing::layouter::{LayoutError, LayoutErrorInner, Layouter};
+use std::alloc::Global;
+use std::marker::Model;
+
+/// Validates modules, one after another, under settings of its own.
+///
+/// Its answers depend on the settings and the module alone. Contracts see the settings, and the infos
+/// of the types of the module last accepted.
+#[derive(Drop)]
+pub struct Validator {
+    alloc: Global,
+    flags: ValidationFlags,
+    capabilities: Capabilities,
+    infos: TypeInfos,
+    layouter: Layouter,
+}
+
+impl Model for Validator {
+    ghost use Rattle.naga_valid.specs.State.{State};
+
+    ghost Value = { State };
+
+    ghost view = { λ v. record { flags = v.flags; capabilities = v.capabilities; infos = v.infos.infos } };
+}
+
+impl Validator {
+    /// A validator under these settings. It takes no memory before its first module.
+    pub fn new(alloc: Global, flags: ValidationFlags, capabilities: Capabilities) -> Validator
+        ensures { result ≡ record { flags = flags; capabilities = capabilities; infos = [] } }
+    {
+        Validator {
+            alloc,
+            flags,
+            capabilities,
+            infos: TypeInfos::with_room(alloc, 0).unwrap(),
+            layouter: Layouter::new(alloc),
+        }
+    }
+
+    /// Forgets the module last accepted, and keeps the settings.
+    pub fn reset(&mut self)
+        ensures { self.new ≡ record self.old { infos = [] } }
+    {
+        self.infos.clear();
+        self.layouter.clear();
+    }
+
+    /// Whether a module keeps all rules, and what is known of it then.
+    ///
+    /// The error is the first refusal: of a type without layout, `ValidationError::Layouter`; else of
+    /// a type that breaks its rule, `ValidationError::Type_`. After an error, want of memory too, the
+    /// validator is as after `reset`.
+    pub fn validate(&mut self, module: &Module) -> Result<ModuleInfo, WithSpan<ValidationError>>
+        ensures answer { AnsweredOrRefused (λ e. inner_of e ≡ ValidationError.OutOfMemory) result (AcceptsWith module.now (settings_of self.old false) self.new.infos)
+            (λ e. IsRefusal module.now (settings_of self.old false) (inner_of e)) }
+        ensures cleared { OnErr result (self.new.infos ≡ []) }
+        ensures settings { self.new ≡ record self.old { infos = self.new.infos } }
+    {
+        self.validate_impl(module, false)
+    }
+
+    /// The same, where overrides have to have their values.
+    pub fn validate_resolved_overrides(
+        &mut self,
+        module: &Module,
+    ) -> Result<ModuleInfo, WithSpan<ValidationError>>
+        ensures answer { AnsweredOrRefused (λ e. inner_of e ≡ ValidationError.OutOfMemory) result (AcceptsWith module.now (settings_of self.old true) self.new.infos)
+            (λ e. IsRefusal module.now (settings_of self.old true) (inner_of e)) }
+        ensures cleared { OnErr result (self.new.infos ≡ []) }
+        ensures settings { self.new ≡ record self.old { infos = self.new.infos } }
+    {
+        self.validate_impl(module, true)
+    }
+
+    fn validate_impl(
+        &mut self,
+        module: &Module,
+        overrides_resolved: bool,
+    ) -> Result<ModuleInfo, WithSpan<ValidationError>>
+        ensures answer { AnsweredOrRefused (λ e. inner_of e ≡ ValidationError.OutOfMemory) result (AcceptsWith module.now (settings_of self.old overrides_resolved) self.new.infos)
+            (λ e. IsRefusal module.now (settings_of self.old overrides_resolved) (inner_of e)) }
+        ensures cleared { OnErr result (self.new.infos ≡ []) }
+        ensures settings { self.new ≡ record self.old { infos = self.new.infos } }
+    {
+        match self.validate_steps(module, overrides_resolved) {
+            Ok(info) => Ok(info),
+            Err(error) => {
+                self.reset();
+                Err(with_span(error, module))
+            }
+        }
+    }
+
+    /// The rules in their order, up to the first refusal.
+    fn validate_steps(
+        &mut self,
+        module: &Module,
+        overrides_resolved: bool,
+    ) -> Result<ModuleInfo, ValidationError>
+        ensures answer { AnsweredOrRefused (λ e. e ≡ ValidationError.OutOfMemory) result (AcceptsWith module.now (settings_of self.old overrides_resolved) self.new.infos)
+            (IsRefusal module.now (settings_of self.old overrides_resolved)) }
+        ensures settings { self.new ≡ record self.old { infos = self.new.infos } }
+    {
+        lay_out(&mut self.layouter, module)?;
+        validate_types(
+            self.alloc,
+            self.capabilities,
+            overrides_resolved,
+            module,
+            &self.layouter,
+            &mut self.infos,
+        )
+    }
+
+    /// How many types the module last accepted has.
+    pub fn type_count(&self) -> usize
+        ensures { result ≡ length self.now.infos }
+    {
+        self.infos.len()
+    }
+
+    /// What is known of a type of the module last accepted.
+    pub fn type_info(&self, handle: Handle<TypeTag>) -> TypeInfo
+        requires { handle < length self.now.infos }
+        ensures { slice_get self.now.infos handle ≡ Some result }
+    {
+        self.infos.get(handle)
+    }
+}
+
+/// Lays out a module's types.
+fn lay_out(layouter: &mut Layouter, module: &Module) -> Result<(), ValidationError>
+    ensures { AnsweredOrRefused (λ e. e ≡ ValidationError.OutOfMemory) result (λ _. AllAccepted (layout_results module.now.types) layouter.new)
+        (λ e. (settings : Settings) → IsRefusal module.now settings e) }
+{
+    match layouter.update(to_ctx(module)) {
+        Ok(()) => Ok(()),
+        Err(error) => match error.inner {
+            LayoutErrorInner::OutOfMemory => Err(ValidationError::OutOfMemory),
+            LayoutErrorInner::NonPowerOfTwoWidth => Err(ValidationError::from(error)),
+        },
+    }
+}
+
+/// An error beside the place of what it is about.
+fn with_span(error: ValidationError, module: &Module) -> WithSpan<ValidationError>
+    requires { (error ≡ ValidationError.OutOfMemory) ⊎ ((settings : Settings) × IsRefusal module.now settings error) }
+    ensures { inner_of result ≡ error }
+{
+    let span = match &error {
+        ValidationError::Layouter(LayoutError { ty, .. }) => module.types.get_span(*ty),
+        ValidationError::Type_ { handle, .. } => module.types.get_span(*handle),
+        ValidationError::OutOfMemory => Span::default(),
+    };
+    WithSpan::new(error).with_span(span)
+}
+
+/// The rule of each type in order: fills `infos`.
+fn validate_types(
+    alloc: Global,
+    capabilities: Capabilities,
+    overrides_resolved: bool,
+    module: &Module,
+    layouter: &Layouter,
+    infos: &mut TypeInfos,
+) -> Result<ModuleInfo, ValidationError>
+    requires { AllAccepted (layout_results module.now.types) layouter.now }
+    ensures { AnsweredOrRefused (λ e. e ≡ ValidationError.OutOfMemory) result
+        (λ info. AllAccepted (type_results capabilities.0 module.now.types) infos.new.infos × (info.type_flags ≡ flags_of infos.new.infos))
+        (λ e. (settings : Settings) → settings.capabilities ≡ capabilities → IsRefusal module.now settings e) }
+{
+    let mut mod_info = ModuleInfo::new(alloc);
+    make_room(alloc, module.types.len(), infos, &mut mod_info)?;
+    for (handle, ty) in module.types.iter() {
+        match type_info_of(
+            capabilities,
+            overrides_resolved,
+            infos,
+            layouter,
+            handle,
+            module,
+        ) {
+            Ok(info) => {
+                mod_info.push_type(info.flags)?;
+                infos.push(info)?;
+            }
+            Err(source) => {
+                let name = name_of(alloc, ty)?;
+                return Err(ValidationError::Type_ {
+                    handle,
+                    name,
+                    source,
+                });
+            }
+        }
+    }
+    Ok(mod_info)
+}
+
+/// The rule of one type, where the infos of the types before are there.
+fn type_info_of(
+    capabilities: Capabilities,
+    overrides_resolved: bool,
+    infos: &TypeInfos,
+    layouter: &Layouter,
+    handle: Handle<TypeTag>,
+    module: &Module,
+) -> Result<TypeInfo, TypeError>
+    requires exists { handle < length module.now.types }
+    requires laid_out { AllAccepted (layout_results module.now.types) layouter.now }
+    ensures { slice_get (type_results capabilities.0 module.now.types) handle ≡ Some result }
+{
+    let ctx = TypeContext {
+        capabilities,
+        overrides_resolved,
+        infos,
+        layouter,
+    };
+    validate_type(ctx, handle, to_ctx(module))
+}
+
+/// Forgets all infos, and makes room for those of `types` types.
+fn make_room(
+    alloc: Global,
+    types: usize,
+    infos: &mut TypeInfos,
+    mod_info: &mut ModuleInfo,
+) -> Result<(), OutOfMemory>
+    ensures infos { OnOk result (infos.new.infos ≡ []) }
+    ensures mod_info { mod_info.new.type_flags ≡ mod_info.old.type_flags }
+{
+    infos.clear();
+    if infos.room() < types {
+        *infos = TypeInfos::with_room(alloc, types)?;
+    }
+    mod_info.reserve(types)
+}
+
+/// The name of a type, which is empty where it has none.
+fn name_of(alloc: Global, ty: &Type) -> Result<Text, OutOfMemory>
+    ensures { IfOk result (λ name. name ≡ unwrap_or ty.now.name []) }
+{
+    match &ty.name {
+        Some(name) => name.try_clone(alloc),
+        None => Ok(Text::new(alloc)),
+    }
+}

@@ -1,0 +1,311 @@
+//! Modules built by hand, and what the rules say of them.
+
+use crate::{
+    Alignment, Capabilities, Handle, LayoutError, LayoutErrorInner, Module, OutOfMemory, Scalar,
+    ScalarKind, Span, StaticText, Text, Type, TypeError, TypeFlags, TypeInner, TypeTag,
+    ValidationError, ValidationFlags, Validator, VectorSize, WidthError, WithSpan,
+};
+use std::alloc::Global;
+use std::process::Abort;
+use std::test::Fail;
+
+/// A validator of whole modules.
+fn validator_under(alloc: Global, capabilities: Capabilities) -> Validator {
+    Validator::new(alloc, ValidationFlags::default(), capabilities)
+}
+
+/// A scalar type of floating-point numbers of `width` bytes.
+fn float(width: u8) -> TypeInner {
+    TypeInner::Scalar(Scalar {
+        kind: ScalarKind::Float,
+        width,
+    })
+}
+
+/// Adds a type with no name.
+fn add(
+    rt: &impl Abort,
+    module: &mut Module,
+    inner: TypeInner,
+    span: Span,
+) -> Result<Handle<TypeTag>, OutOfMemory> {
+    assert!(rt; module.types.len() < 100);
+    module.types.insert(Type { name: None, inner }, span)
+}
+
+/// A module of scalar types, of floating-point numbers of these widths in bytes.
+fn module_of(rt: &impl Abort, alloc: Global, widths: &[u8]) -> Result<Module, OutOfMemory> {
+    let mut module = Module::new(alloc);
+    for width in widths {
+        add(rt, &mut module, float(*width), Span::default())?;
+    }
+    Ok(module)
+}
+
+/// The refusal of a type without a name whose width wants `SHADER_FLOAT16`.
+fn refused_half(alloc: Global, handle: Handle<TypeTag>) -> ValidationError {
+    ValidationError::Type_ {
+        handle,
+        name: Text::new(alloc),
+        source: TypeError::WidthError(WidthError::MissingCapability {
+            name: StaticText::new("f16"),
+            flag: StaticText::new("SHADER_FLOAT16"),
+        }),
+    }
+}
+
+/// The refusal of a type whose width is no power of two.
+fn no_layout(handle: Handle<TypeTag>) -> ValidationError {
+    ValidationError::Layouter(LayoutError {
+        ty: handle,
+        inner: LayoutErrorInner::NonPowerOfTwoWidth,
+    })
+}
+
+/// The refusal of a module, as both calls answer it.
+fn refusal_of(
+    rt: &impl Abort,
+    alloc: Global,
+    module: &Module,
+) -> Result<WithSpan<ValidationError>, Fail> {
+    let mut validator = validator_under(alloc, Capabilities::default());
+    let error = validator.validate(module).err().ok_or("accepted")?;
+    let resolved = validator.validate_resolved_overrides(module).err();
+    let resolved = resolved.ok_or("accepted")?;
+    assert_eq!(rt; error, resolved);
+    Ok(error)
+}
+
+#[test]
+fn an_empty_module_is_accepted(rt: HostRuntime) -> Result<(), Fail> {
+    let mut validator = validator_under(rt.alloc(), Capabilities::default());
+    assert_eq!(rt; validator.type_count(), 0);
+    let module = Module::new(rt.alloc());
+    let info = validator.validate(&module)?;
+    let resolved = validator.validate_resolved_overrides(&module)?;
+    assert_eq!(rt; validator.type_count(), 0);
+    for info in [info, resolved] {
+        let text = format!(in rt.alloc(); "{info:?}")?;
+        assert_eq!(rt; text.as_str(), "ModuleInfo { type_flags: [] }");
+    }
+    Ok(())
+}
+
+#[test]
+fn types_of_f32_are_accepted(rt: HostRuntime) -> Result<(), Fail> {
+    let scalar = Scalar {
+        kind: ScalarKind::Float,
+        width: 4,
+    };
+    let matrix_flags = TypeFlags::DATA
+        | TypeFlags::SIZED
+        | TypeFlags::COPY
+        | TypeFlags::HOST_SHAREABLE
+        | TypeFlags::CREATION_RESOLVED
+        | TypeFlags::ARGUMENT
+        | TypeFlags::CONSTRUCTIBLE;
+    let number_flags = matrix_flags | TypeFlags::IO_SHAREABLE;
+    let mut module = Module::new(rt.alloc());
+    for inner in [
+        TypeInner::Scalar(scalar),
+        TypeInner::Vector {
+            size: VectorSize::Quad,
+            scalar,
+        },
+        TypeInner::Matrix {
+            columns: VectorSize::Bi,
+            rows: VectorSize::Tri,
+            scalar,
+        },
+    ] {
+        add(&rt, &mut module, inner, Span::default())?;
+    }
+    let mut validator = validator_under(rt.alloc(), Capabilities::default());
+    let info = validator.validate(&module)?;
+    assert_eq!(rt; validator.type_count(), 3);
+    for (handle, flags, bytes) in [
+        (Handle::new(0), number_flags, 4),
+        (Handle::new(1), number_flags, 16),
+        (Handle::new(2), matrix_flags, 16),
+    ] {
+        assert!(rt; handle.index() < validator.type_count());
+        let alignment = Alignment::new(bytes).expect(&rt, "a power of two");
+        let type_info = validator.type_info(handle);
+        assert_eq!(rt; type_info.flags, flags);
+        assert_eq!(rt; type_info.uniform_layout, Ok(alignment));
+        assert_eq!(rt; type_info.storage_layout, Ok(alignment));
+        assert_eq!(rt; type_info.immediates_compatibility, Ok(()));
+        assert_eq!(rt; info[handle], flags);
+    }
+    Ok(())
+}
+
+#[test]
+fn a_missing_capability_refuses_the_first_type_that_wants_it(rt: HostRuntime) -> Result<(), Fail> {
+    let module = module_of(&rt, rt.alloc(), &[2])?;
+    let error = refusal_of(&rt, rt.alloc(), &module)?;
+    assert_eq!(rt;
+        error.into_inner(),
+        refused_half(rt.alloc(), Handle::new(0))
+    );
+    let module = module_of(&rt, rt.alloc(), &[4, 2, 8])?;
+    let error = refusal_of(&rt, rt.alloc(), &module)?;
+    assert_eq!(rt;
+        error.into_inner(),
+        refused_half(rt.alloc(), Handle::new(1))
+    );
+    Ok(())
+}
+
+#[test]
+fn a_given_capability_lets_the_type_in(rt: HostRuntime) -> Result<(), Fail> {
+    let module = module_of(&rt, rt.alloc(), &[2])?;
+    let mut validator = validator_under(rt.alloc(), Capabilities::SHADER_FLOAT16);
+    validator.validate(&module)?;
+    assert_eq!(rt; validator.type_count(), 1);
+    validator.validate_resolved_overrides(&module)?;
+    assert_eq!(rt; validator.type_count(), 1);
+    Ok(())
+}
+
+#[test]
+fn a_type_without_layout_is_refused_before_all_else(rt: HostRuntime) -> Result<(), Fail> {
+    for (widths, refused) in [
+        ([3, 4], Handle::new(0)),
+        ([2, 3], Handle::new(1)),
+        ([4, 0], Handle::new(1)),
+    ] {
+        let module = module_of(&rt, rt.alloc(), &widths)?;
+        let error = refusal_of(&rt, rt.alloc(), &module)?;
+        assert_eq!(rt; error.into_inner(), no_layout(refused), "{widths:?}");
+    }
+    Ok(())
+}
+
+#[test]
+fn a_refusal_has_the_name_of_the_type(rt: HostRuntime) -> Result<(), Fail> {
+    let mut module = Module::new(rt.alloc());
+    let ty = Type {
+        name: Some(Text::from_string(String::from_str(rt.alloc(), "Half")?)),
+        inner: float(2),
+    };
+    module.types.insert(ty, Span::default())?;
+    match refusal_of(&rt, rt.alloc(), &module)?.into_inner() {
+        ValidationError::Type_ { name, .. } => assert_eq!(rt; name.as_str(), "Half"),
+        _ => assert!(rt; false, "refused otherwise"),
+    }
+    Ok(())
+}
+
+#[test]
+fn a_refusal_has_the_place_of_the_type(rt: HostRuntime) -> Result<(), Fail> {
+    for width in [2, 3] {
+        for (span, want) in [
+            (Span::new(5, 9), Some(Span::new(5, 9))),
+            (Span::default(), None),
+        ] {
+            let mut module = Module::new(rt.alloc());
+            add(&rt, &mut module, float(4), Span::new(1, 2))?;
+            add(&rt, &mut module, float(width), span)?;
+            let error = refusal_of(&rt, rt.alloc(), &module)?;
+            assert_eq!(rt; error.span(), want, "width {width}");
+        }
+    }
+    Ok(())
+}
+
+#[test]
+fn each_answer_is_of_its_own_module(rt: HostRuntime) -> Result<(), Fail> {
+    let good = module_of(&rt, rt.alloc(), &[4])?;
+    let no_layouts = module_of(&rt, rt.alloc(), &[4, 3])?;
+    let half = module_of(&rt, rt.alloc(), &[4, 2])?;
+    let mut validator = validator_under(rt.alloc(), Capabilities::default());
+    for refused in [&no_layouts, &half] {
+        validator.validate(&good)?;
+        assert_eq!(rt; validator.type_count(), 1);
+        assert!(rt; validator.validate(refused).is_err());
+        assert_eq!(rt; validator.type_count(), 0);
+        validator.validate_resolved_overrides(&good)?;
+        assert_eq!(rt; validator.type_count(), 1);
+        assert!(rt; validator.validate_resolved_overrides(refused).is_err());
+        assert_eq!(rt; validator.type_count(), 0);
+    }
+    Ok(())
+}
+
+#[test]
+fn a_reset_forgets_the_module_alone(rt: HostRuntime) -> Result<(), Fail> {
+    let half = module_of(&rt, rt.alloc(), &[2])?;
+    let double = module_of(&rt, rt.alloc(), &[8])?;
+    let mut validator = validator_under(rt.alloc(), Capabilities::SHADER_FLOAT16);
+    validator.validate(&half)?;
+    validator.reset();
+    assert_eq!(rt; validator.type_count(), 0);
+    validator.validate(&half)?;
+    assert_eq!(rt; validator.type_count(), 1);
+    assert!(rt; validator.validate(&double).is_err());
+    Ok(())
+}
+
+#[test]
+fn errors_come_from_those_below(rt: HostRuntime) {
+    let error = LayoutError {
+        ty: Handle::new(7),
+        inner: LayoutErrorInner::NonPowerOfTwoWidth,
+    };
+    assert_eq!(rt; ValidationError::from(error), no_layout(Handle::new(7)));
+    assert_eq!(rt;
+        ValidationError::from(OutOfMemory),
+        ValidationError::OutOfMemory
+    );
+}
+
+#[test]
+fn errors_read_as_sentences(rt: HostRuntime) -> Result<(), Fail> {
+    let named = ValidationError::Type_ {
+        handle: Handle::new(0),
+        name: Text::from_string(String::from_str(rt.alloc(), "name")?),
+        source: TypeError::MatrixElementNotFloat,
+    };
+    for (error, want) in [
+        (named, "Type [0] 'name' is invalid"),
+        (
+            refused_half(rt.alloc(), Handle::new(2)),
+            "Type [2] '' is invalid",
+        ),
+        (
+            no_layout(Handle::new(1)),
+            "Error laying out type [1]: The scalar width is not a power of two",
+        ),
+        (ValidationError::OutOfMemory, "Out of memory"),
+    ] {
+        let text = format!(in rt.alloc(); "{error}")?;
+        assert_eq!(rt; text.as_str(), want);
+    }
+    Ok(())
+}
+
+/// Right, or out of memory and said so: for `--fail-alloc`.
+#[test]
+fn want_of_memory_is_said(rt: HostRuntime) -> Result<(), Fail> {
+    let module = module_of(&rt, rt.alloc(), &[4, 8])?;
+    let half = module_of(&rt, rt.alloc(), &[4, 2])?;
+    let mut validator = validator_under(rt.alloc(), Capabilities::FLOAT64);
+    match validator.validate(&module) {
+        Ok(_) => assert_eq!(rt; validator.type_count(), 2),
+        Err(error) => {
+            assert_eq!(rt; error.into_inner(), ValidationError::OutOfMemory);
+            assert_eq!(rt; validator.type_count(), 0);
+        }
+    }
+    match validator.validate(&half) {
+        Ok(_) => assert!(rt; false, "accepted"),
+        Err(error) => {
+            let error = error.into_inner();
+            let refused = refused_half(rt.alloc(), Handle::new(1));
+            assert!(rt; error == refused || error == ValidationError::OutOfMemory);
+        }
+    }
+    validator.validate(&module)?;
+    Ok(())
+}
