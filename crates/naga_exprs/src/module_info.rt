@@ -39,6 +39,7 @@ impl ModuleInfo {
     pub fn reserve(&mut self, types: usize) -> Result<(), OutOfMemory>
         ensures same { self.new.type_flags ≡ self.old.type_flags }
         ensures room { OnOk result (length self.old.type_flags + types ≤ self.new.type_room) }
+        ensures refused { OnErr result (self.new ≡ self.old) }
     {
         self.type_flags.reserve(types)?;
         Ok(())

@@ -284,28 +284,3 @@ fn errors_read_as_sentences(rt: HostRuntime) -> Result<(), Fail> {
     }
     Ok(())
 }
-
-/// Right, or out of memory and said so: for `--fail-alloc`.
-#[test]
-fn want_of_memory_is_said(rt: HostRuntime) -> Result<(), Fail> {
-    let module = module_of(&rt, rt.alloc(), &[4, 8])?;
-    let half = module_of(&rt, rt.alloc(), &[4, 2])?;
-    let mut validator = validator_under(rt.alloc(), Capabilities::FLOAT64);
-    match validator.validate(&module) {
-        Ok(_) => assert_eq!(rt; validator.type_count(), 2),
-        Err(error) => {
-            assert_eq!(rt; error.into_inner(), ValidationError::OutOfMemory);
-            assert_eq!(rt; validator.type_count(), 0);
-        }
-    }
-    match validator.validate(&half) {
-        Ok(_) => assert!(rt; false, "accepted"),
-        Err(error) => {
-            let error = error.into_inner();
-            let refused = refused_half(rt.alloc(), Handle::new(1));
-            assert!(rt; error == refused || error == ValidationError::OutOfMemory);
-        }
-    }
-    validator.validate(&module)?;
-    Ok(())
-}
