@@ -1,6 +1,8 @@
 pub mod LineLaws
 pub mod Lists
+pub mod Modules
 pub mod Parts
+pub mod PlainTexts
 pub mod Reports
 pub mod Runs
 pub mod Tellings

@@ -3,14 +3,14 @@ use Rattle.std.proofs.Common.{◌≡◌, ◌==◌, ℕ, Bool as Truth, true, fal
 use Rattle.std.specs.Option.{option_map, option_and_then}
 use Rattle.std.proofs.lemmas.Slice.Eq.{bytes_eq-Decides}
 use borrow.Author.Tests.{eqb-true}
-use Rattle.naga_ir.specs.Sizes.{components}
-use Rattle.naga_ir.specs.declared.ir.Scalar.{Scalar as ScalarType}
-use Rattle.naga_ir.specs.declared.ir.ScalarKind.{ScalarKind}
-use Rattle.naga_ir.specs.declared.ir.ScalarKind.TheVariants.{Sint, Uint, Float, Bool, AbstractInt, AbstractFloat}
-use Rattle.naga_ir.specs.declared.ir.TypeInner.{TypeInner}
-use Rattle.naga_ir.specs.declared.ir.TypeInner.TheVariants.{Scalar, Vector, Matrix}
-use Rattle.naga_ir.specs.declared.ir.VectorSize.{VectorSize}
-use Rattle.naga_ir.specs.declared.ir.VectorSize.TheVariants.{Bi, Tri, Quad}
+use Rattle.naga_ir_types.specs.Sizes.{components}
+use Rattle.naga_ir_types.specs.declared.types.Scalar.{Scalar as ScalarType}
+use Rattle.naga_ir_types.specs.declared.types.ScalarKind.{ScalarKind}
+use Rattle.naga_ir_types.specs.declared.types.ScalarKind.TheVariants.{Sint, Uint, Float, Bool, AbstractInt, AbstractFloat}
+use Rattle.naga_ir_types.specs.declared.types.TypeInner.{TypeInner}
+use Rattle.naga_ir_types.specs.declared.types.TypeInner.TheVariants.{Scalar, Vector, Matrix}
+use Rattle.naga_ir_types.specs.declared.types.VectorSize.{VectorSize}
+use Rattle.naga_ir_types.specs.declared.types.VectorSize.TheVariants.{Bi, Tri, Quad}
 use Rattle.naga_check.specs.Words.{number_up_to}
 use Rattle.naga_check.specs.Forms.{Fill, IsForm, form, kind_word, type_form}
 use Rattle.naga_check.specs.Reading.{kind_of, size_at, size_of, scalar_of, flags_of, capabilities_of, resolved_of, scalar_type_of, vector_of, matrix_of, type_of, line_of}
@@ -164,6 +164,8 @@ type_again ws (Vector size s) h = by_parts (type_form (Vector size s)) ws (λ ws
     (λ a e n f k g w i. rw (e, size_again n size f, scalar_again k w s g i) refl)
 type_again ws (Matrix columns rows s) h = by_parts (type_form (Matrix columns rows s)) ws (λ ws. type_of ws ≡ Some (Matrix columns rows s)) h
     (λ a e m f n g k i w j. rw (e, size_again m columns f, size_again n rows g, scalar_again k w s i j) refl)
+type_again [] _ h = absurd h
+type_again (w ∷ ws) _ h = absurd h.0
 
 -- words of a line's form are read as that line
 pub line_again : (ws : List (List ℕ)) (line : Line) → IsForm ws line → line_of ws ≡ Some line

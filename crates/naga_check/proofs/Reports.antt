@@ -2,8 +2,8 @@
 use Rattle.std.proofs.Common.{◌≡◌, ℕ, ◌+◌, ◌<◌, List, [], ◌∷◌, ◌++◌, Some, length, slice_get, refl, sym, ap, ◌∙◌, arith, append_assoc, append-nil, length-append}
 use Rattle.std.specs.List.{enumerate_from}
 use Rattle.std.proofs.lemmas.Option.{same_Some, slice_get_within}
-use Rattle.naga_ir.proofs.Progress.{slice_get-seam}
-use Rattle.naga_ir.specs.declared.ir.«Type».{«Type»}
+use Rattle.naga_arena.proofs.Progress.{slice_get-seam}
+use Rattle.naga_ir_types.specs.declared.types.«Type».{«Type»}
 use Rattle.naga_types.specs.declared.info.TypeInfo.{TypeInfo}
 use Rattle.naga_check.specs.Report.{type_line, type_lines}
 

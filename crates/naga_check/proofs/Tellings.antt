@@ -5,9 +5,11 @@ use Rattle.std.proofs.lemmas.Option.{slice_get-get_or}
 use borrow.Author.Tests.{eqb-true}
 use Rattle.naga_flags.specs.declared.flags.Capabilities.{Capabilities as CapabilitySet}
 use Rattle.naga_flags.specs.declared.flags.ValidationFlags.{ValidationFlags}
-use Rattle.naga_ir.specs.Distinct.{AllDistinct}
-use Rattle.naga_ir.specs.declared.ir.«Type».{«Type»}
-use Rattle.naga_ir.specs.declared.ir.TypeInner.{TypeInner}
+use Rattle.naga_ir_types.specs.Distinct.{AllDistinct}
+use Rattle.naga_ir.specs.Scope.{HasOnlyTypes}
+use Rattle.naga_ir.specs.declared.ir.Module.{Module}
+use Rattle.naga_ir_types.specs.declared.types.«Type».{«Type»}
+use Rattle.naga_ir_types.specs.declared.types.TypeInner.{TypeInner}
 use Rattle.naga_check.specs.Telling.{CanJoin, GivenOnce, IsAdded, IsNewType}
 use Rattle.naga_check.specs.Text.{IsSetting, capabilities_in, flags_in, resolved_in, type_in}
 use Rattle.naga_check.specs.declared.line.Line.{Line}
@@ -44,6 +46,7 @@ flags_added told flags new given h said t = given_cases _ _ told.flags flags new
       types = pick_none type_in said (Flags flags) refl ∙ t.types;
       each_once = t.each_once;
       room = t.room;
+      nothing_else = t.nothing_else;
     })
     (λ before some after contents g. second_time flags_in said (Flags flags) after flags before told.flags _ _ refl t.flags some g.flags)
 
@@ -57,6 +60,7 @@ capabilities_added told capabilities new given h said t = given_cases _ _ told.c
       types = pick_none type_in said (Capabilities capabilities) refl ∙ t.types;
       each_once = t.each_once;
       room = t.room;
+      nothing_else = t.nothing_else;
     })
     (λ before some after contents g. second_time capabilities_in said (Capabilities capabilities) after capabilities before told.capabilities _ _ refl t.capabilities some g.capabilities)
 
@@ -70,11 +74,27 @@ resolved_added told new given h said t = given_cases _ _ told.resolved true new 
       types = pick_none type_in said Resolved refl ∙ t.types;
       each_once = t.each_once;
       room = t.room;
+      nothing_else = t.nothing_else;
     })
     (λ before some after contents g. second_time resolved_in said Resolved after true before told.resolved _ _ refl t.resolved some g.resolved)
 
+-- a module of types alone stays so where its types change
+still_only_types : (m : Module) (types : List «Type») → HasOnlyTypes m → HasOnlyTypes (record m { types = types })
+still_only_types m types h = record {
+  special_types = h.special_types;
+  constants = h.constants;
+  overrides = h.overrides;
+  global_variables = h.global_variables;
+  global_expressions = h.global_expressions;
+  functions = h.functions;
+  entry_points = h.entry_points;
+  diagnostic_filters = h.diagnostic_filters;
+  diagnostic_filter_leaf = h.diagnostic_filter_leaf;
+  doc_comments = h.doc_comments;
+}
+
 -- a line of a type adds it, or may not stand here
-pub type_added : (told : Told) (inner : TypeInner) (new : List «Type») (added : Bool) → IsNewType told.«module».types inner new added → IsAdded told (Type_ inner) (record told { «module» = record { types = new } }) added
+pub type_added : (told : Told) (inner : TypeInner) (new : List «Type») (added : Bool) → IsNewType told.«module».types inner new added → IsAdded told (Type_ inner) (record told { «module» = record told.«module» { types = new } }) added
 type_added told inner new true h = λ said t.
     let room : length (told.«module».types ++ record { name = None; inner = inner } ∷ []) ≤ 4294967295 = simp length-append (omega (arith, h.1.1)) in record {
       flags = pick_none flags_in said (Type_ inner) refl ∙ t.flags;
@@ -83,6 +103,7 @@ type_added told inner new true h = λ said t.
       types = pick_one type_in said (Type_ inner) _ refl ∙ ap (λ l. l ++ record { name = None; inner = inner } ∷ []) t.types ∙ sym h.0;
       each_once = subst AllDistinct (sym h.0) (distinct_push told.«module».types _ t.each_once h.1.0);
       room = subst (λ (types : List «Type»). length types ≤ 4294967295) (sym h.0) room;
+      nothing_else = still_only_types told.«module» new t.nothing_else;
     }
 type_added told inner new false h = λ said t after contents g.
     let types : contents.«module».types ≡ told.«module».types ++ record { name = None; inner = inner } ∷ filter_map type_in after =

@@ -5,7 +5,7 @@ use Rattle.std.specs.List.{AllZip}
 use Rattle.std.proofs.lemmas.List.{map-append, map_more, take-append-drop, take-map}
 use borrow.Author.Count.{below_more}
 use Rattle.std.proofs.lemmas.List.Elements.{filter-append}
-use Rattle.naga_ir.specs.Memory.{AnsweredOrRefused}
+use Rattle.naga_arena.specs.Memory.{AnsweredOrRefused}
 use Rattle.naga_check.specs.Forms.{IsForm}
 use Rattle.naga_check.specs.Results.{NamesLine}
 use Rattle.naga_check.specs.Telling.{CannotBegin, IsAdded, IsReadOn, Reads, Tells, TellsSoFar, contents_of}
@@ -16,6 +16,7 @@ use Rattle.naga_check.specs.declared.text.Contents.{Contents}
 use Rattle.naga_check.specs.declared.text.TextError.{TextError}
 use Rattle.naga_check.specs.declared.text.TextError.TheVariants.{Line, OutOfMemory}
 use Rattle.naga_check.specs.declared.text.Told.{Told}
+use Rattle.naga_check.proofs.Modules.{module_same}
 use Rattle.naga_check.proofs.LineLaws.{line_again}
 
 -- words have one form
@@ -100,6 +101,7 @@ tells_together said told t = record {
   types = t.types;
   each_once = t.each_once;
   room = t.room;
+  nothing_else = t.nothing_else;
 }
 
 -- lines are a text of the contents that they told
@@ -119,7 +121,7 @@ text_unique lines a b s t =
     let same = forms_unique (map words_of (filter speaks lines)) t.said s.said t.forms s.forms in
     let u = subst (λ said. Together said b) same t.together in
     let v = s.together in
-    ap (λ m. record { «module» = m; flags = a.flags; capabilities = a.capabilities; resolved = a.resolved }) (ap (λ types. record { types = types }) (sym v.types ∙ u.types))
+    ap (λ m. record { «module» = m; flags = a.flags; capabilities = a.capabilities; resolved = a.resolved }) (module_same a.«module» b.«module» v.nothing_else u.nothing_else (sym v.types ∙ u.types))
     ∙ ap (λ f. record { «module» = b.«module»; flags = f; capabilities = a.capabilities; resolved = a.resolved }) (setting_unique _ _ a.flags b.flags v.flags u.flags)
     ∙ ap (λ c. record { «module» = b.«module»; flags = b.flags; capabilities = c; resolved = a.resolved }) (setting_unique _ _ a.capabilities b.capabilities v.capabilities u.capabilities)
     ∙ ap (λ r. record { «module» = b.«module»; flags = b.flags; capabilities = b.capabilities; resolved = r }) (setting_unique _ _ a.resolved b.resolved v.resolved u.resolved)

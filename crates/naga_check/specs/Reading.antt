@@ -1,12 +1,12 @@
 -- What the readers of one line compute.
 use Rattle.std.specs.Prelude.{ℕ, List, [], ◌∷◌, Option, Some, None, codes, bytes_eq, if◌then◌else◌, option_map, option_and_then, ◌==◌}
-use Rattle.naga_ir.specs.declared.ir.Scalar.{Scalar as ScalarType}
-use Rattle.naga_ir.specs.declared.ir.ScalarKind.{ScalarKind}
-use Rattle.naga_ir.specs.declared.ir.ScalarKind.TheVariants.{Sint, Uint, Float, Bool, AbstractInt, AbstractFloat}
-use Rattle.naga_ir.specs.declared.ir.TypeInner.{TypeInner}
-use Rattle.naga_ir.specs.declared.ir.TypeInner.TheVariants.{Scalar, Vector, Matrix}
-use Rattle.naga_ir.specs.declared.ir.VectorSize.{VectorSize}
-use Rattle.naga_ir.specs.declared.ir.VectorSize.TheVariants.{Bi, Tri, Quad}
+use Rattle.naga_ir_types.specs.declared.types.Scalar.{Scalar as ScalarType}
+use Rattle.naga_ir_types.specs.declared.types.ScalarKind.{ScalarKind}
+use Rattle.naga_ir_types.specs.declared.types.ScalarKind.TheVariants.{Sint, Uint, Float, Bool, AbstractInt, AbstractFloat}
+use Rattle.naga_ir_types.specs.declared.types.TypeInner.{TypeInner}
+use Rattle.naga_ir_types.specs.declared.types.TypeInner.TheVariants.{Scalar, Vector, Matrix}
+use Rattle.naga_ir_types.specs.declared.types.VectorSize.{VectorSize}
+use Rattle.naga_ir_types.specs.declared.types.VectorSize.TheVariants.{Bi, Tri, Quad}
 use Rattle.naga_check.specs.Words.{number_up_to}
 use Rattle.naga_check.specs.declared.line.Line.{Line}
 use Rattle.naga_check.specs.declared.line.Line.TheVariants.{Flags, Capabilities, Resolved, Type_}

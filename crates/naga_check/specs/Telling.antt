@@ -1,8 +1,9 @@
 -- How the reader of a text goes on from line to line.
 use Rattle.std.specs.Prelude.{◌≡◌, ℕ, ◌<◌, ◌≤◌, Bool, true, false, List, [], ◌∷◌, ◌++◌, Option, Some, None, Result, Ok, Err, length, filter_map, option_to_list, unwrap_or, Contains, MatchBool, MatchOption, ⊤}
-use Rattle.naga_ir.specs.Distinct.{AllDistinct}
-use Rattle.naga_ir.specs.declared.ir.«Type».{«Type»}
-use Rattle.naga_ir.specs.declared.ir.TypeInner.{TypeInner}
+use Rattle.naga_ir_types.specs.Distinct.{AllDistinct}
+use Rattle.naga_ir.specs.Scope.{HasOnlyTypes}
+use Rattle.naga_ir_types.specs.declared.types.«Type».{«Type»}
+use Rattle.naga_ir_types.specs.declared.types.TypeInner.{TypeInner}
 use Rattle.naga_check.specs.Text.{AreForms, IsFirstUnreadable, IsReadable, IsText, Together, capabilities_in, flags_in, resolved_in, type_in}
 use Rattle.naga_check.specs.declared.line.Line.{Line as Line_}
 use Rattle.naga_check.specs.declared.text.Contents.{Contents}
@@ -32,6 +33,7 @@ pub record Tells (said : List Line_) (told : Told) : Type 0 where
   pub types : filter_map type_in said ≡ told.«module».types
   pub each_once : AllDistinct told.«module».types
   pub room : length told.«module».types ≤ 4294967295
+  pub nothing_else : HasOnlyTypes told.«module»
 
 -- the contents, where a setting that was not given has its default
 abbrev pub contents_of : Told → Contents

@@ -3,8 +3,9 @@ use Rattle.std.specs.Prelude.{◌≡◌, ◌==◌, ℕ, ◌<◌, ◌≤◌, ◌�
 use Rattle.std.specs.List.{AllZip}
 use Rattle.naga_flags.specs.declared.flags.Capabilities.{Capabilities as CapabilitySet}
 use Rattle.naga_flags.specs.declared.flags.ValidationFlags.{ValidationFlags}
-use Rattle.naga_ir.specs.Distinct.{AllDistinct}
-use Rattle.naga_ir.specs.declared.ir.«Type».{«Type»}
+use Rattle.naga_ir_types.specs.Distinct.{AllDistinct}
+use Rattle.naga_ir.specs.Scope.{HasOnlyTypes}
+use Rattle.naga_ir_types.specs.declared.types.«Type».{«Type»}
 use Rattle.naga_check.specs.Forms.{IsForm}
 use Rattle.naga_check.specs.Words.{words_of}
 use Rattle.naga_check.specs.declared.line.Line.{Line}
@@ -45,6 +46,7 @@ pub record Together (said : List Line) (contents : Contents) : Type 0 where
   pub types : filter_map type_in said ≡ contents.«module».types
   pub each_once : AllDistinct contents.«module».types
   pub room : length contents.«module».types ≤ 4294967295
+  pub nothing_else : HasOnlyTypes contents.«module»
 
 -- the words of the lines that speak have the forms of these lines
 abbrev pub AreForms : List (List ℕ) → List Line → Type 0

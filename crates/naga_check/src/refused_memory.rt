@@ -119,6 +119,8 @@ fn is_refused_in_arenas(rt: &(impl AllocGlobal + Abort)) -> Result<bool, Fail> {
 /// Refused memory leaves the validator as after `reset`, and it then answers as a fresh one.
 fn is_refused_in_validation(rt: &(impl AllocGlobal + Abort)) -> Result<bool, Fail> {
     let (module, mut refused) = filled_module(rt)?;
+    assert!(rt; module.has_only_types());
+    assert!(rt; module.types.are_plain());
     let flags = ValidationFlags::default();
     let mut validator = Validator::new(rt.alloc(), flags, Capabilities::default());
     for _ in 0..2 {
@@ -147,6 +149,7 @@ fn is_refused_in_validation(rt: &(impl AllocGlobal + Abort)) -> Result<bool, Fai
 /// Refused memory leaves layouts, infos and flags as they were, and the next call succeeds.
 fn is_refused_in_lists(rt: &(impl AllocGlobal + Abort)) -> Result<bool, Fail> {
     let (module, mut refused) = filled_module(rt)?;
+    assert!(rt; module.types.are_plain());
     let mut layouter = Layouter::new(rt.alloc());
     if layouter.update(to_ctx(&module)).is_err() {
         refused = true;

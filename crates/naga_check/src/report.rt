@@ -1,5 +1,6 @@
 //! The report on a text.
 
+ghost use Rattle.naga_ir.specs.Scope.{HasOnlyPlainTypes};
 ghost use Rattle.naga_check.specs.Report.{IsReport, IsReportOn, accepted_text, disalignment_name, hex_byte, layout_error_name, layout_text, refused_text, type_error_name, type_line};
 ghost use Rattle.std.specs.Prelude.{◌≡◌, ◌++◌, IfOk, OnOk, codes, decimal, length, string_bytes};
 
@@ -99,7 +100,7 @@ fn add_type(text: &mut String, handle: Handle<TypeTag>, info: TypeInfo) -> Resul
 
 /// A line for each type, and then that all is well.
 fn accepted(alloc: Global, module: &Module, validator: &Validator) -> Result<String, AllocError>
-    requires { length validator.now.infos ≡ length module.now.types }
+    requires { length validator.now.infos ≡ length «module».now.types }
     ensures { IfOk result (λ text. string_bytes text ≡ accepted_text validator.now.infos) }
 {
     let mut text = String::new(alloc);
@@ -131,6 +132,7 @@ fn refused(alloc: Global, error: &ValidationError) -> Result<String, AllocError>
 
 /// The report on what a text says.
 fn report_on(alloc: Global, contents: &Contents) -> Result<Report, AllocError>
+    requires { HasOnlyPlainTypes contents.now.«module» }
     ensures { IfOk result (λ report. IsReportOn contents.now (string_bytes report.text) report.outcome) }
 {
     let mut validator = Validator::new(alloc, contents.flags, contents.capabilities);

@@ -6,7 +6,7 @@ ghost use Rattle.naga_check.specs.Text.{IsFirstUnreadable, IsText, speaks};
 ghost use Rattle.naga_check.specs.Words.{lines_of};
 ghost use Rattle.naga_check.specs.declared.text.Contents.{Contents};
 ghost use Rattle.naga_check.specs.declared.text.TextError.TheVariants as error;
-ghost use Rattle.naga_ir.specs.Memory.{AnsweredOrRefused};
+ghost use Rattle.naga_arena.specs.Memory.{AnsweredOrRefused};
 ghost use Rattle.std.specs.Prelude.{◌≡◌, IfErr, IfOk, Ok, [], map};
 
 use crate::line::{Line, read_line};

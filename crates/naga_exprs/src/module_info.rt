@@ -3,8 +3,9 @@
 ghost use Rattle.std.specs.Prelude.{◌≡◌, ◌+◌, ◌<◌, ◌≤◌, [], ◌∷◌, ◌++◌, length, IsOk, OnErr, OnOk};
 
 use naga_flags::flags::TypeFlags;
-use naga_ir::handle::{Handle, TypeTag};
+use naga_ir::handle::Handle;
 use naga_ir::memory::OutOfMemory;
+use naga_ir::tags::TypeTag;
 use std::alloc::Global;
 use std::marker::Model;
 use std::ops::Index;

@@ -1,7 +1,7 @@
 -- The widths that scalars may have.
 use Rattle.std.specs.Prelude.{◌==◌, ◌^◌, ◌&&◌, ◌||◌, ℕ, Bool as Truth, false, Result, Ok, Err, codes, if◌then◌else◌}
-use Rattle.naga_ir.specs.declared.ir.Scalar.{Scalar}
-use Rattle.naga_ir.specs.declared.ir.ScalarKind.TheVariants.{Sint, Uint, Float, Bool, AbstractInt, AbstractFloat}
+use Rattle.naga_ir_types.specs.declared.types.Scalar.{Scalar}
+use Rattle.naga_ir_types.specs.declared.types.ScalarKind.TheVariants.{Sint, Uint, Float, Bool, AbstractInt, AbstractFloat}
 use Rattle.naga_flags.specs.Flags.{has}
 use Rattle.naga_flags.specs.declared.width.ImmediateError.{ImmediateError}
 use Rattle.naga_flags.specs.declared.width.ImmediateError.TheVariants.{InvalidScalar}

@@ -3,8 +3,8 @@
 use crate::flags::{Capabilities, TypeFlags, ValidationFlags};
 use crate::width::{ImmediateError, WidthError, check_width};
 use bitflags::Flags;
-use naga_ir::ir::{Scalar, ScalarKind};
 use naga_ir::text::StaticText;
+use naga_ir::types::{Scalar, ScalarKind};
 use std::test::Fail;
 
 #[test]

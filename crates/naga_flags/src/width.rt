@@ -5,8 +5,8 @@ ghost use Rattle.naga_flags.specs.Width.{width_rule};
 
 use crate::flags::Capabilities;
 use bitflags::Flags;
-use naga_ir::ir::{BOOL_WIDTH, Scalar, ScalarKind};
 use naga_ir::text::StaticText;
+use naga_ir::types::{BOOL_WIDTH, Scalar, ScalarKind};
 use std::fmt;
 use thiserror::Error;
 

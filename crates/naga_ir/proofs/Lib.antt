@@ -1,5 +1,4 @@
-pub mod Keys
-pub mod Powers
-pub mod Progress
-pub mod SameInner
-pub mod SameType
+pub mod Handles
+pub mod StatementLemmas
+pub mod WalkLemmas
+pub mod WorkedModules

@@ -1,5 +1,10 @@
-pub mod Distinct
-pub mod Memory
-pub mod Results
-pub mod Sizes
-pub mod Span
+pub mod Handles
+pub mod ItemReferences
+pub mod Literals
+pub mod Operands
+pub mod Ranks
+pub mod References
+pub mod Scope
+pub mod StatementParts
+pub mod Statements
+pub mod Walks

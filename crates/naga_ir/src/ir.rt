@@ -1,122 +1,287 @@
-//! What a module holds.
+//! A shader module and what it holds beside types, expressions and statements.
 
-ghost use Rattle.std.specs.Prelude.{◌≡◌, [], IsTrue, ◌↔◌};
-ghost use Rattle.naga_ir.specs.Sizes.{components, is_numeric};
+ghost use Rattle.std.specs.Prelude.{◌≡◌, ◌↔◌, [], IsTrue, None};
+ghost use Rattle.naga_ir.specs.Scope.{HasNoComments, HasNoSpecialTypes, HasOnlyTypes};
 
-use crate::text::Text;
-use crate::unique_arena::UniqueArena;
+use crate::expression::Expression;
+use crate::statement::Block;
+use naga_arena::arena::Arena;
+use naga_arena::handle::Handle;
+use naga_arena::list::List;
+use naga_arena::tags::{
+    ConstantTag, DiagnosticFilterNodeTag, ExpressionTag, FunctionTag, GlobalVariableTag,
+    LocalVariableTag, OverrideTag, TypeTag,
+};
+use naga_arena::text::Text;
+use naga_ir_types::types::{AddressSpace, Binding};
+use naga_ir_types::unique_arena::UniqueArena;
 use std::alloc::Global;
 
-/// The width of a Boolean scalar, in bytes.
-pub const BOOL_WIDTH: u8 = 1;
-
-/// What the bits of a scalar mean.
-#[derive(Clone, Copy, Debug, PartialEq, Eq, Hash)]
-pub enum ScalarKind {
-    /// Signed integers.
-    Sint,
-    /// Unsigned integers.
-    Uint,
-    /// Floating-point numbers.
-    Float,
-    /// Truth values.
-    Bool,
-    /// WGSL's abstract integers, of constant expressions alone.
-    AbstractInt,
-    /// WGSL's abstract floating-point numbers, of constant expressions alone.
-    AbstractFloat,
-}
-
-impl ScalarKind {
-    /// Whether the values are numbers: those of every kind but `Bool`.
-    pub fn is_numeric(self) -> bool
-        ensures { result ≡ is_numeric self }
-    {
-        match self {
-            ScalarKind::Sint
-            | ScalarKind::Uint
-            | ScalarKind::Float
-            | ScalarKind::AbstractInt
-            | ScalarKind::AbstractFloat => true,
-            ScalarKind::Bool => false,
-        }
-    }
-}
-
-/// A scalar type.
-#[derive(Clone, Copy, Debug, PartialEq, Eq, Hash)]
-pub struct Scalar {
-    pub kind: ScalarKind,
-    /// The size of a value, in bytes.
-    pub width: u8,
-}
-
-/// How many components a vector has, or a matrix columns or rows.
-#[derive(Clone, Copy, Debug, PartialEq, Eq, Hash)]
-pub enum VectorSize {
-    /// Two.
-    Bi,
-    /// Three.
-    Tri,
-    /// Four.
-    Quad,
-}
-
-impl VectorSize {
-    /// The number of components: 2, 3 or 4.
-    pub fn components(self) -> u8
-        ensures { result ≡ components self }
-    {
-        match self {
-            VectorSize::Bi => 2,
-            VectorSize::Tri => 3,
-            VectorSize::Quad => 4,
-        }
-    }
-}
-
-/// The form of a type.
-#[derive(Debug, PartialEq, Eq, Hash, Drop)]
-pub enum TypeInner {
-    /// A number or a truth value.
-    Scalar(Scalar),
-    /// Scalars of one type, by their components.
-    Vector {
-        size: VectorSize,
-        scalar: Scalar,
-    },
-    /// Scalars of one type, in columns and rows.
-    Matrix {
-        columns: VectorSize,
-        rows: VectorSize,
-        scalar: Scalar,
-    },
-}
-
-/// A type of a module. Two types are equal where name and form are.
-#[derive(Debug, PartialEq, Eq, Hash, Drop)]
-pub struct Type {
+/// A value with a name, known when the shader is compiled.
+#[derive(Debug, Drop)]
+pub struct Constant {
     pub name: Option<Text>,
-    pub inner: TypeInner,
+    pub ty: Handle<TypeTag>,
+    /// A global expression.
+    pub init: Handle<ExpressionTag>,
 }
 
-/// A shader module.
+/// A value with a name or number, known when a pipeline is made.
+#[derive(Debug, Drop)]
+pub struct Override {
+    pub name: Option<Text>,
+    /// The number by which a pipeline may give the value.
+    pub id: Option<u16>,
+    pub ty: Handle<TypeTag>,
+    /// The value where the pipeline gives none: a global expression.
+    pub init: Option<Handle<ExpressionTag>>,
+}
+
+/// A variable of the module.
+#[derive(Debug, Drop)]
+pub struct GlobalVariable {
+    pub name: Option<Text>,
+    pub space: AddressSpace,
+    pub ty: Handle<TypeTag>,
+    /// The first value: a global expression.
+    pub init: Option<Handle<ExpressionTag>>,
+}
+
+/// A variable of a function.
+#[derive(Debug, Drop)]
+pub struct LocalVariable {
+    pub name: Option<Text>,
+    pub ty: Handle<TypeTag>,
+    /// The first value: an expression of the function.
+    pub init: Option<Handle<ExpressionTag>>,
+}
+
+/// What a function is called with.
+#[derive(Debug, Drop)]
+pub struct FunctionArgument {
+    pub name: Option<Text>,
+    pub ty: Handle<TypeTag>,
+    pub binding: Option<Binding>,
+}
+
+/// What a function answers.
+#[derive(Debug, Drop)]
+pub struct FunctionResult {
+    pub ty: Handle<TypeTag>,
+    pub binding: Option<Binding>,
+}
+
+/// A function: what it is called with, what it answers, and what it does.
+#[derive(Debug, Drop)]
+pub struct Function {
+    pub name: Option<Text>,
+    pub arguments: List<FunctionArgument>,
+    pub result: Option<FunctionResult>,
+    pub local_variables: Arena<LocalVariable, LocalVariableTag>,
+    /// Each stands after all that it is worked out from.
+    pub expressions: Arena<Expression, ExpressionTag>,
+    /// Names that the source gives to expressions.
+    pub named_expressions: List<(Handle<ExpressionTag>, Text)>,
+    pub body: Block,
+    /// The innermost of the filters that hold for the function.
+    pub diagnostic_filter_leaf: Option<Handle<DiagnosticFilterNodeTag>>,
+}
+
+impl Function {
+    /// A function without a name, that takes nothing, does nothing and answers nothing.
+    pub fn new(alloc: Global) -> Function
+        ensures name { result.name ≡ None }
+        ensures arguments { result.arguments ≡ [] }
+        ensures answer { result.result ≡ None }
+        ensures local_variables { result.local_variables ≡ [] }
+        ensures expressions { result.expressions ≡ [] }
+        ensures named_expressions { result.named_expressions ≡ [] }
+        ensures body { result.body.body.items ≡ [] }
+        ensures filter { result.diagnostic_filter_leaf ≡ None }
+    {
+        Function {
+            name: None,
+            arguments: List::new(alloc),
+            result: None,
+            local_variables: Arena::new(alloc),
+            expressions: Arena::new(alloc),
+            named_expressions: List::new(alloc),
+            body: Block::new(alloc),
+            diagnostic_filter_leaf: None,
+        }
+    }
+}
+
+/// What a mesh shader puts out.
+#[derive(Clone, Copy, Debug, PartialEq, Eq)]
+pub struct MeshStageInfo {
+    /// The variable that it puts its output into.
+    pub output_variable: Handle<GlobalVariableTag>,
+    pub vertex_output_type: Handle<TypeTag>,
+    pub primitive_output_type: Handle<TypeTag>,
+    /// The greatest number of vertices, where overrides decide it: a global expression.
+    pub max_vertices_override: Option<Handle<ExpressionTag>>,
+    /// The greatest number of primitives, where overrides decide it: a global expression.
+    pub max_primitives_override: Option<Handle<ExpressionTag>>,
+}
+
+/// A function that a pipeline begins with.
+#[derive(Debug, Drop)]
+pub struct EntryPoint {
+    pub name: Text,
+    /// The sizes of a workgroup, where overrides decide them: global expressions.
+    pub workgroup_size_overrides: Option<[Option<Handle<ExpressionTag>>; 3]>,
+    pub function: Function,
+    /// The variable that a task shader hands to its mesh shaders.
+    pub task_payload: Option<Handle<GlobalVariableTag>>,
+    pub mesh_info: Option<MeshStageInfo>,
+}
+
+/// A filter of diagnostics, which holds together with those around it.
+#[derive(Clone, Copy, Debug, PartialEq, Eq)]
+pub struct DiagnosticFilterNode {
+    /// The filter around this one.
+    pub parent: Option<Handle<DiagnosticFilterNodeTag>>,
+}
+
+/// Types that some built-in functions take or answer.
+#[derive(Debug, Drop)]
+pub struct SpecialTypes {
+    pub ray_desc: Option<Handle<TypeTag>>,
+    pub ray_intersection: Option<Handle<TypeTag>>,
+    pub ray_vertex_return: Option<Handle<TypeTag>>,
+    /// The types of the results of built-in functions.
+    pub others: List<Handle<TypeTag>>,
+}
+
+impl SpecialTypes {
+    /// None.
+    pub fn new(alloc: Global) -> SpecialTypes
+        ensures { HasNoSpecialTypes result }
+    {
+        SpecialTypes {
+            ray_desc: None,
+            ray_intersection: None,
+            ray_vertex_return: None,
+            others: List::new(alloc),
+        }
+    }
+
+    /// Whether there is none.
+    pub fn is_empty(&self) -> bool
+        ensures { IsTrue result ↔ HasNoSpecialTypes self.now }
+    {
+        self.ray_desc.is_none()
+            && self.ray_intersection.is_none()
+            && self.ray_vertex_return.is_none()
+            && self.others.is_empty()
+    }
+}
+
+/// Comments of the source that document items, each beside what it is about.
+#[derive(Debug, Drop)]
+pub struct DocComments {
+    /// Of the module itself.
+    pub module: List<Text>,
+    pub types: List<(Handle<TypeTag>, List<Text>)>,
+    /// Of a member of a struct, by the type and the number of the member.
+    pub struct_members: List<((Handle<TypeTag>, usize), List<Text>)>,
+    /// Of an entry point, by its number.
+    pub entry_points: List<(usize, List<Text>)>,
+    pub functions: List<(Handle<FunctionTag>, List<Text>)>,
+    pub constants: List<(Handle<ConstantTag>, List<Text>)>,
+    pub global_variables: List<(Handle<GlobalVariableTag>, List<Text>)>,
+}
+
+impl DocComments {
+    /// None.
+    pub fn new(alloc: Global) -> DocComments
+        ensures { HasNoComments result }
+    {
+        DocComments {
+            module: List::new(alloc),
+            types: List::new(alloc),
+            struct_members: List::new(alloc),
+            entry_points: List::new(alloc),
+            functions: List::new(alloc),
+            constants: List::new(alloc),
+            global_variables: List::new(alloc),
+        }
+    }
+
+    /// Whether there is none.
+    pub fn is_empty(&self) -> bool
+        ensures { IsTrue result ↔ HasNoComments self.now }
+    {
+        self.module.is_empty()
+            && self.types.is_empty()
+            && self.struct_members.is_empty()
+            && self.entry_points.is_empty()
+            && self.functions.is_empty()
+            && self.constants.is_empty()
+            && self.global_variables.is_empty()
+    }
+}
+
+/// A shader module. The file `triangle.rt` builds one by hand.
 ///
 /// Nothing is known of a module that was built by hand or read from outside: a validator says
 /// whether it keeps the rules.
-#[derive(Drop)]
+#[derive(Debug, Drop)]
 pub struct Module {
     /// The types, each once.
     pub types: UniqueArena,
+    pub special_types: SpecialTypes,
+    pub constants: Arena<Constant, ConstantTag>,
+    pub overrides: Arena<Override, OverrideTag>,
+    pub global_variables: Arena<GlobalVariable, GlobalVariableTag>,
+    /// What constants, overrides and variables begin with. Each stands after all that it is worked
+    /// out from.
+    pub global_expressions: Arena<Expression, ExpressionTag>,
+    /// Each stands after all that it calls.
+    pub functions: Arena<Function, FunctionTag>,
+    pub entry_points: List<EntryPoint>,
+    /// Each stands after the one around it.
+    pub diagnostic_filters: Arena<DiagnosticFilterNode, DiagnosticFilterNodeTag>,
+    /// The innermost of the filters that hold for the module.
+    pub diagnostic_filter_leaf: Option<Handle<DiagnosticFilterNodeTag>>,
+    pub doc_comments: DocComments,
 }
 
 impl Module {
-    /// An empty module.
+    /// An empty module, which takes its memory from `alloc`.
     pub fn new(alloc: Global) -> Module
-        ensures { result.types ≡ [] }
+        ensures types { result.types ≡ [] }
+        ensures nothing_else { HasOnlyTypes result }
     {
         Module {
             types: UniqueArena::new(alloc),
+            special_types: SpecialTypes::new(alloc),
+            constants: Arena::new(alloc),
+            overrides: Arena::new(alloc),
+            global_variables: Arena::new(alloc),
+            global_expressions: Arena::new(alloc),
+            functions: Arena::new(alloc),
+            entry_points: List::new(alloc),
+            diagnostic_filters: Arena::new(alloc),
+            diagnostic_filter_leaf: None,
+            doc_comments: DocComments::new(alloc),
         }
+    }
+
+    /// Whether all but the types is empty.
+    pub fn has_only_types(&self) -> bool
+        ensures { IsTrue result ↔ HasOnlyTypes self.now }
+    {
+        self.special_types.is_empty()
+            && self.constants.is_empty()
+            && self.overrides.is_empty()
+            && self.global_variables.is_empty()
+            && self.global_expressions.is_empty()
+            && self.functions.is_empty()
+            && self.entry_points.is_empty()
+            && self.diagnostic_filters.is_empty()
+            && self.diagnostic_filter_leaf.is_none()
+            && self.doc_comments.is_empty()
     }
 }

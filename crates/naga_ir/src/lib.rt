@@ -4,14 +4,21 @@
 //! list, and a module as a record of lists.
 #![tactic(auto)]
 
-pub mod alignment;
-pub mod arena;
-pub mod handle;
+pub mod expression;
 pub mod ir;
-pub mod iter;
-pub mod memory;
-pub mod span;
+pub mod operands;
+pub mod reference;
+pub mod statement;
+pub mod walk;
+
+pub use naga_arena::memory::OutOfMemory;
+pub use naga_arena::{
+    arena as arena, handle as handle, iter as iter, list as list, memory as memory, range as range,
+    span as span, tags as tags, text as text,
+};
+pub use naga_ir_types::{
+    alignment as alignment, parts as parts, types as types, unique_arena as unique_arena,
+};
+
 #[cfg(test)]
-mod tests;
-pub mod text;
-pub mod unique_arena;
+mod triangle;

@@ -3,12 +3,12 @@ use Rattle.std.specs.Prelude.{ℕ, List, Result, Ok, Err, map, if◌then◌else�
 use Rattle.naga_flags.specs.Width.{width_rule}
 use Rattle.naga_flags.specs.declared.width.ImmediateError.{ImmediateError}
 use Rattle.naga_flags.specs.declared.width.WidthError.{WidthError}
-use Rattle.naga_ir.specs.Sizes.{is_numeric}
-use Rattle.naga_ir.specs.declared.ir.«Type».{«Type»}
-use Rattle.naga_ir.specs.declared.ir.ScalarKind.{ScalarKind}
-use Rattle.naga_ir.specs.declared.ir.ScalarKind.TheVariants.{Float}
-use Rattle.naga_ir.specs.declared.ir.TypeInner.{TypeInner}
-use Rattle.naga_ir.specs.declared.ir.TypeInner.TheVariants.{Scalar, Vector, Matrix}
+use Rattle.naga_ir_types.specs.Sizes.{is_numeric}
+use Rattle.naga_ir_types.specs.declared.types.«Type».{«Type»}
+use Rattle.naga_ir_types.specs.declared.types.ScalarKind.{ScalarKind}
+use Rattle.naga_ir_types.specs.declared.types.ScalarKind.TheVariants.{Float}
+use Rattle.naga_ir_types.specs.declared.types.TypeInner.{TypeInner}
+use Rattle.naga_ir_types.specs.declared.types.TypeInner.TheVariants.{Scalar, Vector, Matrix}
 use Rattle.naga_typing.specs.Layout.{alignment_of}
 use Rattle.naga_types.specs.declared.error.TypeError.{TypeError}
 use Rattle.naga_types.specs.declared.error.TypeError.TheVariants.{MatrixElementNotFloat, WidthError as BadWidth}
@@ -32,7 +32,7 @@ shared_at flags alignment (Ok immediates) =
     Ok (record { flags = record { 0 = flags }; uniform_layout = Ok alignment; storage_layout = Ok alignment; immediates_compatibility = immediates })
 shared_at flags alignment (Err e) = Err (BadWidth e)
 
--- the info of a type, or why it is refused
+-- the info of a type, or why it is refused; no form but scalars, vectors and matrices has a rule
 abbrev pub type_rule : ℕ → TypeInner → Result TypeInfo TypeError
 type_rule capabilities (Scalar scalar) = shared_at (scalar_flags scalar.kind) (alignment_of (Scalar scalar)) (width_rule capabilities scalar)
 type_rule capabilities (Vector size scalar) = shared_at (scalar_flags scalar.kind) (alignment_of (Vector size scalar)) (width_rule capabilities scalar)
@@ -40,6 +40,7 @@ type_rule capabilities (Matrix columns rows scalar) = elim scalar.kind [
   | Float ↦ shared_at matrix_flags (alignment_of (Matrix columns rows scalar)) (width_rule capabilities scalar)
   | _ ↦ Err MatrixElementNotFloat
 ]
+type_rule capabilities _ = Err MatrixElementNotFloat
 
 -- the info of each type, or why it is refused
 abbrev pub type_results : ℕ → List «Type» → List (Result TypeInfo TypeError)

@@ -4,9 +4,9 @@ use Rattle.std.specs.Int.{is_power_of_two}
 use Rattle.std.specs.Option.{option_map}
 use Rattle.std.proofs.lemmas.List.{length-map}
 use Rattle.std.proofs.lemmas.Option.{same_Some, slice_get-map}
-use Rattle.naga_ir.specs.Results.{AllAccepted}
-use Rattle.naga_ir.specs.declared.ir.«Type».{«Type»}
-use Rattle.naga_ir.specs.declared.ir.TypeInner.{TypeInner}
+use Rattle.naga_arena.specs.Results.{AllAccepted}
+use Rattle.naga_ir_types.specs.declared.types.«Type».{«Type»}
+use Rattle.naga_ir_types.specs.declared.types.TypeInner.{TypeInner}
 use Rattle.naga_typing.specs.Layout.{alignment_of, layout_results, layout_rule, size_of, width_of}
 use Rattle.naga_typing.specs.declared.layouter.LayoutErrorInner.{LayoutErrorInner}
 use Rattle.naga_typing.specs.declared.layouter.LayoutErrorInner.TheVariants.{NonPowerOfTwoWidth}

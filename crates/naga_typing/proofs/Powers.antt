@@ -1,11 +1,11 @@
 -- Twice and four times a number is a power of two just where the number is.
 use Rattle.std.proofs.Common.{◌≡◌, ◌==◌, ℕ, ◌+◌, ◌*◌, ◌/◌, ◌%◌, count_ones, refl, sym, ap, ◌∙◌, arith}
 use Rattle.std.specs.Int.{is_power_of_two}
-use Rattle.naga_ir.specs.declared.ir.TypeInner.{TypeInner}
-use Rattle.naga_ir.specs.declared.ir.TypeInner.TheVariants.{Scalar, Vector, Matrix}
-use Rattle.naga_ir.specs.declared.ir.VectorSize.{VectorSize}
-use Rattle.naga_ir.specs.declared.ir.VectorSize.TheVariants.{Bi, Tri, Quad}
-use Rattle.naga_ir.specs.Sizes.{vector_alignment}
+use Rattle.naga_ir_types.specs.declared.types.TypeInner.{TypeInner}
+use Rattle.naga_ir_types.specs.declared.types.TypeInner.TheVariants.{Scalar, Vector, Matrix}
+use Rattle.naga_ir_types.specs.declared.types.VectorSize.{VectorSize}
+use Rattle.naga_ir_types.specs.declared.types.VectorSize.TheVariants.{Bi, Tri, Quad}
+use Rattle.naga_ir_types.specs.Sizes.{vector_alignment}
 use Rattle.naga_typing.specs.Layout.{alignment_of, width_of}
 use lib.Count.{ones_step}
 
@@ -28,3 +28,4 @@ pub power_of_width : (inner : TypeInner) → is_power_of_two (alignment_of inner
 power_of_width (Scalar scalar) = refl
 power_of_width (Vector size scalar) = power_of_vector size scalar.width
 power_of_width (Matrix columns rows scalar) = power_of_vector rows scalar.width
+power_of_width _ = refl

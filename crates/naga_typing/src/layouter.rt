@@ -1,15 +1,17 @@
 //! The sizes and alignments of a module's types.
 
 ghost use Rattle.std.specs.Prelude.{◌≡◌, [], ◌∷◌, ◌++◌, OnErr};
-ghost use Rattle.naga_ir.specs.Memory.{AnsweredOrRefused};
-ghost use Rattle.naga_ir.specs.Results.{AllAccepted, IsFirstRefusal};
+ghost use Rattle.naga_arena.specs.Memory.{AnsweredOrRefused};
+ghost use Rattle.naga_arena.specs.Results.{AllAccepted, IsFirstRefusal};
+ghost use Rattle.naga_ir_types.specs.Plain.{ArePlain, IsPlain};
 ghost use Rattle.naga_typing.specs.declared.layouter.TypeLayout.{TypeLayout};
 ghost use Rattle.naga_typing.specs.Layout.{alignment_of, layout_results, layout_rule, size_of};
 
 use crate::context::GlobalCtx;
 use naga_ir::alignment::Alignment;
-use naga_ir::handle::{Handle, TypeTag};
-use naga_ir::ir::TypeInner;
+use naga_ir::handle::Handle;
+use naga_ir::tags::TypeTag;
+use naga_ir::types::TypeInner;
 use std::alloc::{AllocFailed, Global};
 use std::marker::Model;
 use std::ops::Index;
@@ -78,6 +80,7 @@ impl Model for Layouter {
 
 /// The size of a value, in bytes: a column of three rows takes the room of four.
 fn size_of(inner: &TypeInner) -> u32
+    requires { IsPlain inner.now }
     ensures { result ≡ size_of inner.now }
 {
     match inner {
@@ -93,11 +96,13 @@ fn size_of(inner: &TypeInner) -> u32
             let column = Alignment::from(*rows).get() * u32::from(scalar.width);
             u32::from(columns.components()) * column
         }
+        _ => unreachable!(),
     }
 }
 
 /// To how many bytes a value is aligned, where that is a power of two.
 fn alignment_of(inner: &TypeInner) -> u32
+    requires { IsPlain inner.now }
     ensures { result ≡ alignment_of inner.now }
 {
     match inner {
@@ -108,12 +113,14 @@ fn alignment_of(inner: &TypeInner) -> u32
         TypeInner::Matrix { rows, scalar, .. } => {
             Alignment::from(*rows).get() * u32::from(scalar.width)
         }
+        _ => unreachable!(),
     }
 }
 
 /// The layout of a value.
 #[tactic(auto, using(crate::proofs::Powers::power_of_width))]
 fn layout_of(inner: &TypeInner) -> Result<TypeLayout, LayoutErrorInner>
+    requires { IsPlain inner.now }
     ensures { result ≡ layout_rule inner.now }
 {
     match Alignment::new(alignment_of(inner)) {
@@ -142,11 +149,13 @@ impl Layouter {
         self.layouts.clear();
     }
 
-    /// Lays out the types of a module, and forgets what was laid out before.
+    /// Lays out the types of a module, which are scalars, vectors and matrices, and forgets what was
+    /// laid out before.
     ///
     /// `LayoutError` names the first type with a width that is no power of two, or the type at which
     /// memory was refused. It leaves no layouts.
     pub fn update(&mut self, gctx: GlobalCtx<'_>) -> Result<(), LayoutError>
+        requires { ArePlain gctx.types.now }
         ensures answer { AnsweredOrRefused (λ e. e.inner ≡ LayoutErrorInner.OutOfMemory) result (λ _. AllAccepted (layout_results gctx.entry.types.now) self.new)
             (λ e. IsFirstRefusal (layout_results gctx.entry.types.now) e.ty e.inner) }
         ensures cleared { OnErr result (self.new ≡ []) }
@@ -163,6 +172,7 @@ impl Layouter {
 
     /// Lays out one more type.
     fn append(&mut self, inner: &TypeInner) -> Result<(), LayoutErrorInner>
+        requires { IsPlain inner.now }
         ensures { AnsweredOrRefused (λ e. e ≡ LayoutErrorInner.OutOfMemory) result
             (λ _. (layout : TypeLayout) × (layout_rule inner.now ≡ Ok layout) × (self.new ≡ self.old ++ layout ∷ []))
             (λ e. layout_rule inner.now ≡ Err e) }

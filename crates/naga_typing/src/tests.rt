@@ -5,10 +5,12 @@ ghost use Rattle.std.specs.Prelude.{◌≡◌, IfOk, length};
 use crate::context::to_ctx;
 use crate::layouter::{LayoutError, LayoutErrorInner, Layouter};
 use naga_ir::handle::Handle;
-use naga_ir::ir::{Module, Scalar, ScalarKind, Type, TypeInner, VectorSize};
+use naga_ir::ir::Module;
 use naga_ir::memory::OutOfMemory;
 use naga_ir::span::Span;
+use naga_ir::types::{Scalar, ScalarKind, Type, TypeInner, VectorSize};
 use std::alloc::Global;
+use std::process::Abort;
 use std::test::Fail;
 
 const F32: Scalar = Scalar {
@@ -48,9 +50,10 @@ fn module_of(alloc: Global, inner: TypeInner) -> Result<Module, OutOfMemory> {
 
 /// The layouts of all types of a module.
 #[tactic(auto, using(crate::proofs::Layouts::as_many_layouts))]
-fn laid_out(alloc: Global, module: &Module) -> Result<Layouter, LayoutError>
-    ensures { IfOk result (λ layouter. length layouter ≡ length module.now.types) }
+fn laid_out(rt: &impl Abort, alloc: Global, module: &Module) -> Result<Layouter, LayoutError>
+    ensures { IfOk result (λ layouter. length layouter ≡ length «module».now.types) }
 {
+    assert!(rt; module.types.are_plain());
     let mut layouter = Layouter::new(alloc);
     layouter.update(to_ctx(module))?;
     Ok(layouter)
@@ -77,7 +80,7 @@ fn sizes_and_alignments_are_those_of_wgsl(rt: HostRuntime) -> Result<(), Fail> {
     for (inner, size, alignment) in rows {
         let shown = format!(in rt.alloc(); "{inner:?}")?;
         let module = module_of(rt.alloc(), inner)?;
-        let layouter = laid_out(rt.alloc(), &module)?;
+        let layouter = laid_out(&rt, rt.alloc(), &module)?;
         assert_eq!(rt; module.types.len(), 1);
         let layout = layouter[Handle::new(0)];
         assert_eq!(rt; layout.size, size, "of {shown}");
@@ -96,6 +99,7 @@ fn a_width_of_three_bytes_has_no_layout(rt: HostRuntime) -> Result<(), Fail> {
     };
     let wrong = module.types.insert(wrong, Span::default())?;
     let mut layouter = Layouter::new(rt.alloc());
+    assert!(rt; module.types.are_plain());
     let error = layouter.update(to_ctx(&module)).err().ok_or("a layout")?;
     assert_eq!(rt; error.ty, wrong);
     assert_eq!(rt; error.inner, LayoutErrorInner::NonPowerOfTwoWidth);
@@ -110,8 +114,11 @@ fn a_width_of_three_bytes_has_no_layout(rt: HostRuntime) -> Result<(), Fail> {
 #[test]
 fn layouts_are_those_of_the_last_module(rt: HostRuntime) -> Result<(), Fail> {
     let mut layouter = Layouter::new(rt.alloc());
-    layouter.update(to_ctx(&module_of(rt.alloc(), scalar(ScalarKind::Uint, 8))?))?;
-    layouter.update(to_ctx(&module_of(rt.alloc(), scalar(ScalarKind::Uint, 4))?))?;
+    for width in [8, 4] {
+        let module = module_of(rt.alloc(), scalar(ScalarKind::Uint, width))?;
+        assert!(rt; module.types.are_plain());
+        layouter.update(to_ctx(&module))?;
+    }
     let shown = format!(in rt.alloc(); "{layouter:?}")?;
     assert_eq!(rt;
         shown.as_str(),

@@ -4,9 +4,9 @@ use Rattle.naga_exprs.specs.ModuleInfo.{ModuleInfoLists}
 use Rattle.naga_flags.specs.declared.flags.Capabilities.{Capabilities}
 use Rattle.naga_flags.specs.declared.flags.TypeFlags.{TypeFlags}
 use Rattle.naga_flags.specs.declared.flags.ValidationFlags.{ValidationFlags}
-use Rattle.naga_ir.specs.Results.{AllAccepted, IsFirstRefusal}
+use Rattle.naga_arena.specs.Results.{AllAccepted, IsFirstRefusal}
 use Rattle.naga_ir.specs.declared.ir.Module.{Module}
-use Rattle.naga_ir.specs.declared.ir.«Type».{«Type»}
+use Rattle.naga_ir_types.specs.declared.types.«Type».{«Type»}
 use Rattle.naga_types.specs.TypeRule.{type_results}
 use Rattle.naga_types.specs.declared.info.TypeInfo.{TypeInfo}
 use Rattle.naga_typing.specs.Layout.{layout_results}

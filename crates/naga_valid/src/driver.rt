@@ -1,9 +1,11 @@
 //! The driver: the rules in their order.
 
 ghost use Rattle.std.specs.Prelude.{◌≡◌, ◌<◌, ◌⊎◌, [], length, IfOk, OnErr, OnOk, Some, slice_get, false, true, unwrap_or};
-ghost use Rattle.naga_ir.specs.Memory.{AnsweredOrRefused};
-ghost use Rattle.naga_ir.specs.Results.{AllAccepted};
-ghost use Rattle.naga_ir.specs.Span.{inner_of};
+ghost use Rattle.naga_arena.specs.Memory.{AnsweredOrRefused};
+ghost use Rattle.naga_arena.specs.Results.{AllAccepted};
+ghost use Rattle.naga_arena.specs.Span.{inner_of};
+ghost use Rattle.naga_ir.specs.Scope.{HasOnlyPlainTypes};
+ghost use Rattle.naga_ir_types.specs.Plain.{ArePlain};
 ghost use Rattle.naga_types.specs.TypeRule.{type_results};
 ghost use Rattle.naga_typing.specs.Layout.{layout_results};
 ghost use Rattle.naga_valid.specs.Accepted.{AcceptsWith, IsRefusal, Settings, flags_of, settings_of};
@@ -11,11 +13,13 @@ ghost use Rattle.naga_valid.specs.Accepted.{AcceptsWith, IsRefusal, Settings, fl
 use crate::error::ValidationError;
 use naga_exprs::module_info::ModuleInfo;
 use naga_flags::flags::{Capabilities, ValidationFlags};
-use naga_ir::handle::{Handle, TypeTag};
-use naga_ir::ir::{Module, Type};
+use naga_ir::handle::Handle;
+use naga_ir::ir::Module;
 use naga_ir::memory::OutOfMemory;
 use naga_ir::span::{Span, WithSpan};
+use naga_ir::tags::TypeTag;
 use naga_ir::text::Text;
+use naga_ir::types::Type;
 use naga_types::error::TypeError;
 use naga_types::info::{TypeContext, TypeInfo, TypeInfos};
 use naga_types::validate::validate_type;
@@ -67,14 +71,16 @@ impl Validator {
         self.layouter.clear();
     }
 
-    /// Whether a module keeps all rules, and what is known of it then.
+    /// Whether a module keeps all rules, and what is known of it then. So far the module holds nothing
+    /// but types, and these are scalars, vectors and matrices.
     ///
     /// The error is the first refusal: of a type without layout, `ValidationError::Layouter`; else of
     /// a type that breaks its rule, `ValidationError::Type_`. After an error, want of memory too, the
     /// validator is as after `reset`.
     pub fn validate(&mut self, module: &Module) -> Result<ModuleInfo, WithSpan<ValidationError>>
-        ensures answer { AnsweredOrRefused (λ e. inner_of e ≡ ValidationError.OutOfMemory) result (AcceptsWith module.now (settings_of self.old false) self.new.infos)
-            (λ e. IsRefusal module.now (settings_of self.old false) (inner_of e)) }
+        requires { HasOnlyPlainTypes «module».now }
+        ensures answer { AnsweredOrRefused (λ e. inner_of e ≡ ValidationError.OutOfMemory) result (AcceptsWith «module».now (settings_of self.old false) self.new.infos)
+            (λ e. IsRefusal «module».now (settings_of self.old false) (inner_of e)) }
         ensures cleared { OnErr result (self.new.infos ≡ []) }
         ensures settings { self.new ≡ record self.old { infos = self.new.infos } }
     {
@@ -86,8 +92,9 @@ impl Validator {
         &mut self,
         module: &Module,
     ) -> Result<ModuleInfo, WithSpan<ValidationError>>
-        ensures answer { AnsweredOrRefused (λ e. inner_of e ≡ ValidationError.OutOfMemory) result (AcceptsWith module.now (settings_of self.old true) self.new.infos)
-            (λ e. IsRefusal module.now (settings_of self.old true) (inner_of e)) }
+        requires { HasOnlyPlainTypes «module».now }
+        ensures answer { AnsweredOrRefused (λ e. inner_of e ≡ ValidationError.OutOfMemory) result (AcceptsWith «module».now (settings_of self.old true) self.new.infos)
+            (λ e. IsRefusal «module».now (settings_of self.old true) (inner_of e)) }
         ensures cleared { OnErr result (self.new.infos ≡ []) }
         ensures settings { self.new ≡ record self.old { infos = self.new.infos } }
     {
@@ -99,8 +106,9 @@ impl Validator {
         module: &Module,
         overrides_resolved: bool,
     ) -> Result<ModuleInfo, WithSpan<ValidationError>>
-        ensures answer { AnsweredOrRefused (λ e. inner_of e ≡ ValidationError.OutOfMemory) result (AcceptsWith module.now (settings_of self.old overrides_resolved) self.new.infos)
-            (λ e. IsRefusal module.now (settings_of self.old overrides_resolved) (inner_of e)) }
+        requires { HasOnlyPlainTypes «module».now }
+        ensures answer { AnsweredOrRefused (λ e. inner_of e ≡ ValidationError.OutOfMemory) result (AcceptsWith «module».now (settings_of self.old overrides_resolved) self.new.infos)
+            (λ e. IsRefusal «module».now (settings_of self.old overrides_resolved) (inner_of e)) }
         ensures cleared { OnErr result (self.new.infos ≡ []) }
         ensures settings { self.new ≡ record self.old { infos = self.new.infos } }
     {
@@ -119,8 +127,9 @@ impl Validator {
         module: &Module,
         overrides_resolved: bool,
     ) -> Result<ModuleInfo, ValidationError>
-        ensures answer { AnsweredOrRefused (λ e. e ≡ ValidationError.OutOfMemory) result (AcceptsWith module.now (settings_of self.old overrides_resolved) self.new.infos)
-            (IsRefusal module.now (settings_of self.old overrides_resolved)) }
+        requires { HasOnlyPlainTypes «module».now }
+        ensures answer { AnsweredOrRefused (λ e. e ≡ ValidationError.OutOfMemory) result (AcceptsWith «module».now (settings_of self.old overrides_resolved) self.new.infos)
+            (IsRefusal «module».now (settings_of self.old overrides_resolved)) }
         ensures settings { self.new ≡ record self.old { infos = self.new.infos } }
     {
         lay_out(&mut self.layouter, module)?;
@@ -152,8 +161,9 @@ impl Validator {
 
 /// Lays out a module's types.
 fn lay_out(layouter: &mut Layouter, module: &Module) -> Result<(), ValidationError>
-    ensures { AnsweredOrRefused (λ e. e ≡ ValidationError.OutOfMemory) result (λ _. AllAccepted (layout_results module.now.types) layouter.new)
-        (λ e. (settings : Settings) → IsRefusal module.now settings e) }
+    requires { ArePlain «module».now.types }
+    ensures { AnsweredOrRefused (λ e. e ≡ ValidationError.OutOfMemory) result (λ _. AllAccepted (layout_results «module».now.types) layouter.new)
+        (λ e. (settings : Settings) → IsRefusal «module».now settings e) }
 {
     match layouter.update(to_ctx(module)) {
         Ok(()) => Ok(()),
@@ -166,7 +176,7 @@ fn lay_out(layouter: &mut Layouter, module: &Module) -> Result<(), ValidationErr
 
 /// An error beside the place of what it is about.
 fn with_span(error: ValidationError, module: &Module) -> WithSpan<ValidationError>
-    requires { (error ≡ ValidationError.OutOfMemory) ⊎ ((settings : Settings) × IsRefusal module.now settings error) }
+    requires { (error ≡ ValidationError.OutOfMemory) ⊎ ((settings : Settings) × IsRefusal «module».now settings error) }
     ensures { inner_of result ≡ error }
 {
     let span = match &error {
@@ -186,10 +196,11 @@ fn validate_types(
     layouter: &Layouter,
     infos: &mut TypeInfos,
 ) -> Result<ModuleInfo, ValidationError>
-    requires { AllAccepted (layout_results module.now.types) layouter.now }
+    requires plain { ArePlain «module».now.types }
+    requires laid_out { AllAccepted (layout_results «module».now.types) layouter.now }
     ensures { AnsweredOrRefused (λ e. e ≡ ValidationError.OutOfMemory) result
-        (λ info. AllAccepted (type_results capabilities.0 module.now.types) infos.new.infos × (info.type_flags ≡ flags_of infos.new.infos))
-        (λ e. (settings : Settings) → settings.capabilities ≡ capabilities → IsRefusal module.now settings e) }
+        (λ info. AllAccepted (type_results capabilities.0 «module».now.types) infos.new.infos × (info.type_flags ≡ flags_of infos.new.infos))
+        (λ e. (settings : Settings) → settings.capabilities ≡ capabilities → IsRefusal «module».now settings e) }
 {
     let mut mod_info = ModuleInfo::new(alloc);
     make_room(alloc, module.types.len(), infos, &mut mod_info)?;
@@ -228,9 +239,10 @@ fn type_info_of(
     handle: Handle<TypeTag>,
     module: &Module,
 ) -> Result<TypeInfo, TypeError>
-    requires exists { handle < length module.now.types }
-    requires laid_out { AllAccepted (layout_results module.now.types) layouter.now }
-    ensures { slice_get (type_results capabilities.0 module.now.types) handle ≡ Some result }
+    requires exists { handle < length «module».now.types }
+    requires plain { ArePlain «module».now.types }
+    requires laid_out { AllAccepted (layout_results «module».now.types) layouter.now }
+    ensures { slice_get (type_results capabilities.0 «module».now.types) handle ≡ Some result }
 {
     let ctx = TypeContext {
         capabilities,
@@ -263,7 +275,7 @@ fn name_of(alloc: Global, ty: &Type) -> Result<Text, OutOfMemory>
     ensures { IfOk result (λ name. name ≡ unwrap_or ty.now.name []) }
 {
     match &ty.name {
-        Some(name) => name.try_clone(alloc),
+        Some(name) => name.try_clone(),
         None => Ok(Text::new(alloc)),
     }
 }

@@ -1,7 +1,8 @@
 //! Why a module is refused.
 
-use naga_ir::handle::{Handle, TypeTag};
+use naga_ir::handle::Handle;
 use naga_ir::memory::OutOfMemory;
+use naga_ir::tags::TypeTag;
 use naga_ir::text::Text;
 use naga_types::error::TypeError;
 use naga_typing::layouter::LayoutError;

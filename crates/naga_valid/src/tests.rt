@@ -1,5 +1,7 @@
 //! Modules built by hand, and what the rules say of them.
 
+ghost use Rattle.naga_ir.specs.Scope.{HasOnlyPlainTypes};
+
 use crate::{
     Alignment, Capabilities, Handle, LayoutError, LayoutErrorInner, Module, OutOfMemory, Scalar,
     ScalarKind, Span, StaticText, Text, Type, TypeError, TypeFlags, TypeInner, TypeTag,
@@ -33,13 +35,20 @@ fn add(
     module.types.insert(Type { name: None, inner }, span)
 }
 
-/// A module of scalar types, of floating-point numbers of these widths in bytes.
-fn module_of(rt: &impl Abort, alloc: Global, widths: &[u8]) -> Result<Module, OutOfMemory> {
-    let mut module = Module::new(alloc);
+/// Makes sure that a module is of the kind that is judged so far.
+fn assert_plain(rt: &impl Abort, module: &Module)
+    ensures { HasOnlyPlainTypes «module».now }
+{
+    assert!(rt; module.has_only_types());
+    assert!(rt; module.types.are_plain());
+}
+
+/// Adds scalar types, of floating-point numbers of these widths in bytes.
+fn add_floats(rt: &impl Abort, module: &mut Module, widths: &[u8]) -> Result<(), OutOfMemory> {
     for width in widths {
-        add(rt, &mut module, float(*width), Span::default())?;
+        add(rt, module, float(*width), Span::default())?;
     }
-    Ok(module)
+    Ok(())
 }
 
 /// The refusal of a type without a name whose width wants `SHADER_FLOAT16`.
@@ -68,24 +77,30 @@ fn refusal_of(
     alloc: Global,
     module: &Module,
 ) -> Result<WithSpan<ValidationError>, Fail> {
+    assert_plain(rt, module);
     let mut validator = validator_under(alloc, Capabilities::default());
-    let error = validator.validate(module).err().ok_or("accepted")?;
+    let error = validator.validate(module).err();
     let resolved = validator.validate_resolved_overrides(module).err();
-    let resolved = resolved.ok_or("accepted")?;
-    assert_eq!(rt; error, resolved);
-    Ok(error)
+    assert!(rt; error == resolved);
+    Ok(error.ok_or("accepted")?)
 }
 
 #[test]
 fn an_empty_module_is_accepted(rt: HostRuntime) -> Result<(), Fail> {
-    let mut validator = validator_under(rt.alloc(), Capabilities::default());
-    assert_eq!(rt; validator.type_count(), 0);
     let module = Module::new(rt.alloc());
-    let info = validator.validate(&module)?;
-    let resolved = validator.validate_resolved_overrides(&module)?;
+    is_accepted_empty(&rt, rt.alloc(), &module)
+}
+
+/// Makes sure that an empty module is accepted, and that nothing is known of it.
+fn is_accepted_empty(rt: &impl Abort, alloc: Global, module: &Module) -> Result<(), Fail> {
+    assert_plain(rt, module);
+    let mut validator = validator_under(alloc, Capabilities::default());
+    assert_eq!(rt; validator.type_count(), 0);
+    let info = validator.validate(module)?;
+    let resolved = validator.validate_resolved_overrides(module)?;
     assert_eq!(rt; validator.type_count(), 0);
     for info in [info, resolved] {
-        let text = format!(in rt.alloc(); "{info:?}")?;
+        let text = format!(in alloc; "{info:?}")?;
         assert_eq!(rt; text.as_str(), "ModuleInfo { type_flags: [] }");
     }
     Ok(())
@@ -93,19 +108,14 @@ fn an_empty_module_is_accepted(rt: HostRuntime) -> Result<(), Fail> {
 
 #[test]
 fn types_of_f32_are_accepted(rt: HostRuntime) -> Result<(), Fail> {
-    let scalar = Scalar {
-        kind: ScalarKind::Float,
-        width: 4,
-    };
-    let matrix_flags = TypeFlags::DATA
-        | TypeFlags::SIZED
-        | TypeFlags::COPY
-        | TypeFlags::HOST_SHAREABLE
-        | TypeFlags::CREATION_RESOLVED
-        | TypeFlags::ARGUMENT
-        | TypeFlags::CONSTRUCTIBLE;
-    let number_flags = matrix_flags | TypeFlags::IO_SHAREABLE;
     let mut module = Module::new(rt.alloc());
+    add_types_of_f32(&rt, &mut module)?;
+    are_accepted_as_f32(&rt, rt.alloc(), &module)
+}
+
+/// Adds a scalar, a vector and a matrix.
+fn add_types_of_f32(rt: &impl Abort, module: &mut Module) -> Result<(), OutOfMemory> {
+    let scalar = Scalar::F32;
     for inner in [
         TypeInner::Scalar(scalar),
         TypeInner::Vector {
@@ -118,10 +128,24 @@ fn types_of_f32_are_accepted(rt: HostRuntime) -> Result<(), Fail> {
             scalar,
         },
     ] {
-        add(&rt, &mut module, inner, Span::default())?;
+        add(rt, module, inner, Span::default())?;
     }
-    let mut validator = validator_under(rt.alloc(), Capabilities::default());
-    let info = validator.validate(&module)?;
+    Ok(())
+}
+
+/// Makes sure that those three are accepted, and what is known of them then.
+fn are_accepted_as_f32(rt: &impl Abort, alloc: Global, module: &Module) -> Result<(), Fail> {
+    let matrix_flags = TypeFlags::DATA
+        | TypeFlags::SIZED
+        | TypeFlags::COPY
+        | TypeFlags::HOST_SHAREABLE
+        | TypeFlags::CREATION_RESOLVED
+        | TypeFlags::ARGUMENT
+        | TypeFlags::CONSTRUCTIBLE;
+    let number_flags = matrix_flags | TypeFlags::IO_SHAREABLE;
+    assert_plain(rt, module);
+    let mut validator = validator_under(alloc, Capabilities::default());
+    let info = validator.validate(module)?;
     assert_eq!(rt; validator.type_count(), 3);
     for (handle, flags, bytes) in [
         (Handle::new(0), number_flags, 4),
@@ -129,7 +153,7 @@ fn types_of_f32_are_accepted(rt: HostRuntime) -> Result<(), Fail> {
         (Handle::new(2), matrix_flags, 16),
     ] {
         assert!(rt; handle.index() < validator.type_count());
-        let alignment = Alignment::new(bytes).expect(&rt, "a power of two");
+        let alignment = Alignment::new(bytes).expect(rt, "a power of two");
         let type_info = validator.type_info(handle);
         assert_eq!(rt; type_info.flags, flags);
         assert_eq!(rt; type_info.uniform_layout, Ok(alignment));
@@ -140,16 +164,25 @@ fn types_of_f32_are_accepted(rt: HostRuntime) -> Result<(), Fail> {
     Ok(())
 }
 
+/// The refusal of a module of scalar types, of floating-point numbers of these widths in bytes.
+fn refusal_of_floats(
+    rt: &impl Abort,
+    alloc: Global,
+    widths: &[u8],
+) -> Result<WithSpan<ValidationError>, Fail> {
+    let mut module = Module::new(alloc);
+    add_floats(rt, &mut module, widths)?;
+    refusal_of(rt, alloc, &module)
+}
+
 #[test]
 fn a_missing_capability_refuses_the_first_type_that_wants_it(rt: HostRuntime) -> Result<(), Fail> {
-    let module = module_of(&rt, rt.alloc(), &[2])?;
-    let error = refusal_of(&rt, rt.alloc(), &module)?;
+    let error = refusal_of_floats(&rt, rt.alloc(), &[2])?;
     assert_eq!(rt;
         error.into_inner(),
         refused_half(rt.alloc(), Handle::new(0))
     );
-    let module = module_of(&rt, rt.alloc(), &[4, 2, 8])?;
-    let error = refusal_of(&rt, rt.alloc(), &module)?;
+    let error = refusal_of_floats(&rt, rt.alloc(), &[4, 2, 8])?;
     assert_eq!(rt;
         error.into_inner(),
         refused_half(rt.alloc(), Handle::new(1))
@@ -159,11 +192,18 @@ fn a_missing_capability_refuses_the_first_type_that_wants_it(rt: HostRuntime) ->
 
 #[test]
 fn a_given_capability_lets_the_type_in(rt: HostRuntime) -> Result<(), Fail> {
-    let module = module_of(&rt, rt.alloc(), &[2])?;
-    let mut validator = validator_under(rt.alloc(), Capabilities::SHADER_FLOAT16);
-    validator.validate(&module)?;
+    let mut module = Module::new(rt.alloc());
+    add_floats(&rt, &mut module, &[2])?;
+    is_accepted_with_halves(&rt, rt.alloc(), &module)
+}
+
+/// Makes sure that both calls accept a module of one type where it may have two bytes.
+fn is_accepted_with_halves(rt: &impl Abort, alloc: Global, module: &Module) -> Result<(), Fail> {
+    assert_plain(rt, module);
+    let mut validator = validator_under(alloc, Capabilities::SHADER_FLOAT16);
+    validator.validate(module)?;
     assert_eq!(rt; validator.type_count(), 1);
-    validator.validate_resolved_overrides(&module)?;
+    validator.validate_resolved_overrides(module)?;
     assert_eq!(rt; validator.type_count(), 1);
     Ok(())
 }
@@ -175,26 +215,49 @@ fn a_type_without_layout_is_refused_before_all_else(rt: HostRuntime) -> Result<(
         ([2, 3], Handle::new(1)),
         ([4, 0], Handle::new(1)),
     ] {
-        let module = module_of(&rt, rt.alloc(), &widths)?;
-        let error = refusal_of(&rt, rt.alloc(), &module)?;
+        let error = refusal_of_floats(&rt, rt.alloc(), &widths)?;
         assert_eq!(rt; error.into_inner(), no_layout(refused), "{widths:?}");
     }
     Ok(())
 }
 
+/// Adds a type of two bytes with a name.
+fn add_named_half(rt: &impl Abort, alloc: Global, module: &mut Module) -> Result<(), OutOfMemory> {
+    let name = Some(Text::from_string(String::from_str(alloc, "Half")?));
+    assert!(rt; module.types.is_empty());
+    let inner = float(2);
+    let half = module.types.insert(Type { name, inner }, Span::default());
+    half.map(|_| ())
+}
+
 #[test]
 fn a_refusal_has_the_name_of_the_type(rt: HostRuntime) -> Result<(), Fail> {
     let mut module = Module::new(rt.alloc());
-    let ty = Type {
-        name: Some(Text::from_string(String::from_str(rt.alloc(), "Half")?)),
-        inner: float(2),
-    };
-    module.types.insert(ty, Span::default())?;
+    add_named_half(&rt, rt.alloc(), &mut module)?;
     match refusal_of(&rt, rt.alloc(), &module)?.into_inner() {
         ValidationError::Type_ { name, .. } => assert_eq!(rt; name.as_str(), "Half"),
         _ => assert!(rt; false, "refused otherwise"),
     }
     Ok(())
+}
+
+/// Adds a type of four bytes, and one of this width at this place.
+fn add_two(rt: &impl Abort, module: &mut Module, width: u8, span: Span) -> Result<(), OutOfMemory> {
+    add(rt, module, float(4), Span::new(1, 2))?;
+    add(rt, module, float(width), span)?;
+    Ok(())
+}
+
+/// The refusal of a module whose second type has this width and stands at this place.
+fn refusal_at(
+    rt: &impl Abort,
+    alloc: Global,
+    width: u8,
+    span: Span,
+) -> Result<WithSpan<ValidationError>, Fail> {
+    let mut module = Module::new(alloc);
+    add_two(rt, &mut module, width, span)?;
+    refusal_of(rt, alloc, &module)
 }
 
 #[test]
@@ -204,10 +267,7 @@ fn a_refusal_has_the_place_of_the_type(rt: HostRuntime) -> Result<(), Fail> {
             (Span::new(5, 9), Some(Span::new(5, 9))),
             (Span::default(), None),
         ] {
-            let mut module = Module::new(rt.alloc());
-            add(&rt, &mut module, float(4), Span::new(1, 2))?;
-            add(&rt, &mut module, float(width), span)?;
-            let error = refusal_of(&rt, rt.alloc(), &module)?;
+            let error = refusal_at(&rt, rt.alloc(), width, span)?;
             assert_eq!(rt; error.span(), want, "width {width}");
         }
     }
@@ -216,34 +276,70 @@ fn a_refusal_has_the_place_of_the_type(rt: HostRuntime) -> Result<(), Fail> {
 
 #[test]
 fn each_answer_is_of_its_own_module(rt: HostRuntime) -> Result<(), Fail> {
-    let good = module_of(&rt, rt.alloc(), &[4])?;
-    let no_layouts = module_of(&rt, rt.alloc(), &[4, 3])?;
-    let half = module_of(&rt, rt.alloc(), &[4, 2])?;
-    let mut validator = validator_under(rt.alloc(), Capabilities::default());
-    for refused in [&no_layouts, &half] {
-        validator.validate(&good)?;
-        assert_eq!(rt; validator.type_count(), 1);
-        assert!(rt; validator.validate(refused).is_err());
-        assert_eq!(rt; validator.type_count(), 0);
-        validator.validate_resolved_overrides(&good)?;
-        assert_eq!(rt; validator.type_count(), 1);
-        assert!(rt; validator.validate_resolved_overrides(refused).is_err());
-        assert_eq!(rt; validator.type_count(), 0);
-    }
+    let mut good = Module::new(rt.alloc());
+    add_floats(&rt, &mut good, &[4])?;
+    judge_beside(&rt, rt.alloc(), &good, &[4, 3])?;
+    judge_beside(&rt, rt.alloc(), &good, &[4, 2])
+}
+
+/// Judges a good module in turn with one that is refused, of types of these widths.
+fn judge_beside(rt: &impl Abort, alloc: Global, good: &Module, widths: &[u8]) -> Result<(), Fail> {
+    let mut refused = Module::new(alloc);
+    add_floats(rt, &mut refused, widths)?;
+    are_judged_in_turn(rt, alloc, good, &refused)
+}
+
+/// Makes sure that one validator accepts the one module and refuses the other, again and again.
+fn are_judged_in_turn(
+    rt: &impl Abort,
+    alloc: Global,
+    good: &Module,
+    refused: &Module,
+) -> Result<(), Fail> {
+    assert_plain(rt, good);
+    assert_plain(rt, refused);
+    let mut validator = validator_under(alloc, Capabilities::default());
+    validator.validate(good)?;
+    assert_eq!(rt; validator.type_count(), 1);
+    assert!(rt; validator.validate(refused).is_err());
+    assert_eq!(rt; validator.type_count(), 0);
+    validator.validate_resolved_overrides(good)?;
+    assert_eq!(rt; validator.type_count(), 1);
+    assert!(rt; validator.validate_resolved_overrides(refused).is_err());
+    assert_eq!(rt; validator.type_count(), 0);
     Ok(())
 }
 
 #[test]
 fn a_reset_forgets_the_module_alone(rt: HostRuntime) -> Result<(), Fail> {
-    let half = module_of(&rt, rt.alloc(), &[2])?;
-    let double = module_of(&rt, rt.alloc(), &[8])?;
-    let mut validator = validator_under(rt.alloc(), Capabilities::SHADER_FLOAT16);
-    validator.validate(&half)?;
+    let mut half = Module::new(rt.alloc());
+    add_floats(&rt, &mut half, &[2])?;
+    reset_after(&rt, rt.alloc(), &half)
+}
+
+/// Resets a validator that has judged a module of halves, and asks it for doubles.
+fn reset_after(rt: &impl Abort, alloc: Global, half: &Module) -> Result<(), Fail> {
+    let mut double = Module::new(alloc);
+    add_floats(rt, &mut double, &[8])?;
+    settings_outlast_a_reset(rt, alloc, half, &double)
+}
+
+/// Makes sure that a reset validator has no types, and still knows which width it may accept.
+fn settings_outlast_a_reset(
+    rt: &impl Abort,
+    alloc: Global,
+    half: &Module,
+    double: &Module,
+) -> Result<(), Fail> {
+    assert_plain(rt, half);
+    assert_plain(rt, double);
+    let mut validator = validator_under(alloc, Capabilities::SHADER_FLOAT16);
+    validator.validate(half)?;
     validator.reset();
     assert_eq!(rt; validator.type_count(), 0);
-    validator.validate(&half)?;
+    validator.validate(half)?;
     assert_eq!(rt; validator.type_count(), 1);
-    assert!(rt; validator.validate(&double).is_err());
+    assert!(rt; validator.validate(double).is_err());
     Ok(())
 }
 

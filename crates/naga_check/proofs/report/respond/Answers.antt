@@ -6,12 +6,16 @@ use Rattle.naga_check.specs.Text.{IsFirstUnreadable}
 use Rattle.naga_check.specs.Words.{lines_of}
 use Rattle.naga_check.specs.declared.text.TextError.{TextError}
 use Rattle.naga_check.specs.declared.text.TextError.TheVariants.{Line, OutOfMemory}
+use Rattle.naga_check.proofs.PlainTexts.{plain_text}
 use Rattle.naga_check.proofs.report.respond.Goals as goal
 
 -- an error that is a line names it
 named : (e : TextError) (n : ℕ) (P : ℕ → Type 0) → e ≡ Line n → (e ≡ OutOfMemory) ⊎ NamesLine e P → P n
 named e n P is (inl none) = cc
 named e n P is (inr names) = subst (λ e. NamesLine e P) is names
+
+pub report_on-requires : goal.report_on-requires
+report_on-requires c = plain_text (lines_of c.args.input.now) c.in-Ok.contents c.in-Ok.ensures.answer
 
 pub returns-in-Ok : goal.returns-in-Ok
 returns-in-Ok c = IfOk-weaker c.report_on.result _ _ (λ a h. readable c.in-Ok.contents c.in-Ok.ensures.answer h) c.report_on.ensures

@@ -29,5 +29,5 @@ returns-in-Type_ c =
     let told = c.args.told.now in
     let types = c.add_type.new.types in
     IfOk-weaker c.add_type.result _ _ (λ added h.
-    subst (λ line. IsAdded told line (record told { «module» = record { types = types } }) added) (sym c.in-Type_.is)
+    subst (λ line. IsAdded told line (record told { «module» = record told.«module» { types = types } }) added) (sym c.in-Type_.is)
     (type_added told c.in-Type_.inner types added h)) c.add_type.ensures

@@ -1,5 +1,5 @@
 use Rattle.std.proofs.Common.{◌≡◌}
-use Rattle.naga_ir.proofs.Progress.{Progress}
+use Rattle.naga_arena.proofs.Progress.{Progress}
 use Rattle.naga_types.specs.TypeRule.{type_results}
 use Rattle.naga_valid.specs.Accepted.{flags_of}
 use Rattle.naga_valid.proofs.driver.validate_types.Given as goal

@@ -2,9 +2,11 @@ use Rattle.std.proofs.Common.{◌≡◌, ◌⊎◌, ℕ, List, ◌∷◌, Some, 
 use Rattle.std.specs.Option.{option_map}
 use Rattle.std.proofs.lemmas.List.{length-map}
 use Rattle.std.proofs.lemmas.Option.{slice_get-map}
-use Rattle.naga_ir.proofs.Progress.{Progress, begun, stands, went_on, ended, refused}
-use Rattle.naga_ir.specs.Results.{IsFirstRefusal}
-use Rattle.naga_ir.specs.declared.ir.«Type».{«Type»}
+use Rattle.naga_arena.proofs.Elements.{all_at}
+use Rattle.naga_ir_types.specs.Plain.{IsPlain}
+use Rattle.naga_arena.proofs.Progress.{Progress, begun, stands, went_on, ended, refused}
+use Rattle.naga_arena.specs.Results.{IsFirstRefusal}
+use Rattle.naga_ir_types.specs.declared.types.«Type».{«Type»}
 use Rattle.naga_typing.specs.Layout.{layout_results, layout_rule}
 use Rattle.naga_typing.specs.declared.layouter.LayoutError.{LayoutError}
 use Rattle.naga_typing.specs.declared.layouter.LayoutErrorInner.{LayoutErrorInner}
@@ -23,6 +25,12 @@ pub loop-ty-init : goal.loop-ty-init
 loop-ty-init c =
     let types = c.args.gctx.types.now in
     begun types (layout_results types) _ _ c.clear.ensures (c.into_iter-ty-iterator.ensures.into_iter_gives ∙ c.iter-ty-items.ensures)
+
+pub append-requires : goal.append-requires
+append-requires c =
+    let types = c.args.gctx.types.now in
+    let plain : «Type» → Type 0 = λ (t : «Type»). IsPlain t.inner in
+    all_at plain types _ _ c.requires (stands types (layout_results types) _ _ _ _ _ c.loop-ty.invariant c.in-Some.ensures.steps)
 
 pub returns-in-Err-clause-answer : goal.returns-in-Err-clause-answer
 returns-in-Err-clause-answer c =

@@ -1,4 +1,4 @@
-use Rattle.naga_ir.proofs.Progress.{Progress}
+use Rattle.naga_arena.proofs.Progress.{Progress}
 use Rattle.naga_typing.specs.Layout.{layout_results}
 use Rattle.naga_typing.proofs.layouter.Layouter.update.Given as goal
 

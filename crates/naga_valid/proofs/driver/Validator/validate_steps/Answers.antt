@@ -1,8 +1,8 @@
 use Rattle.std.proofs.Common.{◌≡◌, ◌⊎◌, List, Bool, ap, subst, sym, ◌∙◌, inl, inr, ⊎_elim}
 use Rattle.std.proofs.lemmas.Result.{MatchResult-weaker, err_from_is_err_and}
 use Rattle.naga_flags.specs.declared.flags.Capabilities.{Capabilities}
-use Rattle.naga_ir.proofs.Progress.{accepted_ok}
-use Rattle.naga_ir.specs.Results.{AllAccepted}
+use Rattle.naga_arena.proofs.Progress.{accepted_ok}
+use Rattle.naga_arena.specs.Results.{AllAccepted}
 use Rattle.naga_types.specs.TypeRule.{type_results}
 use Rattle.naga_typing.specs.Layout.{layout_results}
 use Rattle.naga_valid.specs.Accepted.{IsRefusal, Settings, settings_of}

@@ -1,0 +1,4 @@
+pub mod Existence
+pub mod Memory
+pub mod Results
+pub mod Span

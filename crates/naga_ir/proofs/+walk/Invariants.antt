@@ -1,0 +1,11 @@
+use Rattle.std.proofs.Common.{take, map}
+use Rattle.std.specs.Prelude.{Ok}
+use Rattle.naga_ir.specs.Statements.{joined, statement_references, case_references}
+use Rattle.naga_ir.specs.Walks.{ChecksEach}
+use Rattle.naga_ir.proofs.+walk.Given as goal
+
+abbrev pub invariant-statement::Block::try_for_each_reference-loop-statement : goal.invariant-statement::Block::try_for_each_reference-loop-statement
+invariant-statement::Block::try_for_each_reference-loop-statement g l = ChecksEach (goal.F-post g l.check) (joined (map statement_references (take l.statement-index l.statement-items))) (Ok tt)
+
+abbrev pub invariant-walk::try_for_each_in_cases-loop-case : goal.invariant-walk::try_for_each_in_cases-loop-case
+invariant-walk::try_for_each_in_cases-loop-case g l = ChecksEach (goal.F-post g l.check) (joined (map case_references (take l.case-index l.cases))) (Ok tt)

@@ -1,0 +1,130 @@
+-- What each item of a module refers to.
+use Rattle.std.specs.Prelude.{ℕ, List, [], ◌∷◌, ◌++◌, map, Option, Some, None}
+use Rattle.std.specs.List.{flat_map}
+use Rattle.naga_ir.specs.References.{named_item, named_type, operands}
+use Rattle.naga_ir_types.specs.Parts.{optional, parts, size_override}
+use Rattle.naga_ir.specs.Statements.{block_references}
+use Rattle.naga_ir_types.specs.declared.types.«Type».{«Type»}
+use Rattle.naga_ir_types.specs.declared.types.TypeInner.{TypeInner}
+use Rattle.naga_ir.specs.declared.expression.Expression.{Expression}
+use Rattle.naga_ir.specs.declared.ir.Constant.{Constant}
+use Rattle.naga_ir.specs.declared.ir.Override.{Override}
+use Rattle.naga_ir.specs.declared.ir.GlobalVariable.{GlobalVariable}
+use Rattle.naga_ir.specs.declared.ir.LocalVariable.{LocalVariable}
+use Rattle.naga_ir.specs.declared.ir.FunctionArgument.{FunctionArgument}
+use Rattle.naga_ir.specs.declared.ir.FunctionResult.{FunctionResult}
+use Rattle.naga_ir.specs.declared.ir.Function.{Function}
+use Rattle.naga_ir.specs.declared.ir.EntryPoint.{EntryPoint}
+use Rattle.naga_ir.specs.declared.ir.MeshStageInfo.{MeshStageInfo}
+use Rattle.naga_ir.specs.declared.ir.DiagnosticFilterNode.{DiagnosticFilterNode}
+use Rattle.naga_ir.specs.declared.ir.SpecialTypes.{SpecialTypes}
+use Rattle.naga_ir.specs.declared.ir.DocComments.{DocComments}
+use Rattle.naga_ir.specs.declared.ir.Module.{Module}
+use Rattle.naga_ir.specs.declared.reference.Reference.{Reference}
+use Rattle.naga_ir.specs.declared.reference.Reference.TheVariants as to
+
+-- a type refers to its parts, and to the override that sizes it
+abbrev pub type_references : TypeInner → List Reference
+type_references inner = map to.Type_ (parts inner) ++ map to.Override (optional (size_override inner))
+
+-- an expression refers to its operands, to the type that it names and to the item that it names
+abbrev pub expression_references : Expression → List Reference
+expression_references x = map to.Expression (operands x) ++ (map to.Type_ (optional (named_type x)) ++ optional (named_item x))
+
+-- a constant refers to its type and to its initialiser
+abbrev pub constant_references : Constant → List Reference
+constant_references c = to.Type_ c.ty ∷ to.Expression c.init ∷ []
+
+-- an override refers to its type, and to its initialiser where there is one
+abbrev pub override_references : Override → List Reference
+override_references o = to.Type_ o.ty ∷ map to.Expression (optional o.init)
+
+-- a variable of the module refers to its type, and to its initialiser where there is one
+abbrev pub global_variable_references : GlobalVariable → List Reference
+global_variable_references v = to.Type_ v.ty ∷ map to.Expression (optional v.init)
+
+-- a variable of a function does so too
+abbrev pub local_variable_references : LocalVariable → List Reference
+local_variable_references v = to.Type_ v.ty ∷ map to.Expression (optional v.init)
+
+-- what the arguments, variables and expressions of a function refer to
+abbrev pub own_list_references : Function → List Reference
+own_list_references f =
+    map (λ (a : FunctionArgument). to.Type_ a.ty) f.arguments
+    ++ (flat_map local_variable_references f.local_variables
+    ++ flat_map expression_references f.expressions)
+
+-- what a function refers to: those, its result, the expressions that it gives names, its statements and its filter
+abbrev pub function_references : Function → List Reference
+function_references f =
+    own_list_references f
+    ++ (map (λ (r : FunctionResult). to.Type_ r.ty) (optional f.result)
+    ++ (map (λ (n : ℕ × List ℕ). to.Expression n.0) f.named_expressions
+    ++ (block_references f.body
+    ++ map to.DiagnosticFilterNode (optional f.diagnostic_filter_leaf))))
+
+-- the sizes of a workgroup that overrides decide
+abbrev pub workgroup_sizes : Option (List (Option ℕ)) → List ℕ
+workgroup_sizes None = []
+workgroup_sizes (Some sizes) = flat_map optional sizes
+
+-- a mesh shader's output refers to its variable, its types and its greatest numbers
+abbrev pub mesh_references : MeshStageInfo → List Reference
+mesh_references mesh =
+    to.GlobalVariable mesh.output_variable ∷ to.Type_ mesh.vertex_output_type ∷ to.Type_ mesh.primitive_output_type
+    ∷ (map to.Expression (optional mesh.max_vertices_override ++ optional mesh.max_primitives_override))
+
+-- what an entry point refers to in the module, its function aside
+abbrev pub entry_point_references : EntryPoint → List Reference
+entry_point_references p =
+    map to.Expression (workgroup_sizes p.workgroup_size_overrides)
+    ++ (map to.GlobalVariable (optional p.task_payload) ++ flat_map mesh_references (optional p.mesh_info))
+
+-- the types that are special
+abbrev pub special_types : SpecialTypes → List ℕ
+special_types s = optional s.ray_desc ++ (optional s.ray_intersection ++ (optional s.ray_vertex_return ++ s.others))
+
+-- what comments name by a handle
+abbrev pub comment_references : DocComments → List Reference
+comment_references d =
+    map (λ (c : ℕ × List (List ℕ)). to.Type_ c.0) d.types
+    ++ (map (λ (c : ℕ × List (List ℕ)). to.Function c.0) d.functions
+    ++ (map (λ (c : ℕ × List (List ℕ)). to.Constant c.0) d.constants
+    ++ (map (λ (c : ℕ × List (List ℕ)). to.GlobalVariable c.0) d.global_variables
+    ++ map (λ (c : (ℕ × ℕ) × List (List ℕ)). to.Type_ c.0.0) d.struct_members)))
+
+-- the lists that types and global expressions refer to
+pub record GlobalLists : Type 0 where
+  pub types : List «Type»
+  pub constants : List Constant
+  pub overrides : List Override
+  pub expressions : List Expression
+
+-- those of a module
+abbrev pub global_lists : Module → GlobalLists
+global_lists m = record { types = m.types; constants = m.constants; overrides = m.overrides; expressions = m.global_expressions }
+
+-- what types, constants, overrides and global expressions refer to
+abbrev pub global_references : GlobalLists → List Reference
+global_references g =
+    flat_map (λ (t : «Type»). type_references t.inner) g.types
+    ++ (flat_map constant_references g.constants
+    ++ (flat_map override_references g.overrides
+    ++ flat_map expression_references g.expressions))
+
+-- what all else in a module refers to, the insides of functions and what is around filters aside
+abbrev pub other_references : Module → List Reference
+other_references m =
+    flat_map global_variable_references m.global_variables
+    ++ (map to.Type_ (special_types m.special_types)
+    ++ (flat_map entry_point_references m.entry_points
+    ++ (map to.DiagnosticFilterNode (optional m.diagnostic_filter_leaf)
+    ++ comment_references m.doc_comments)))
+
+-- the filters around the filters of a module
+abbrev pub filter_references : Module → List Reference
+filter_references m = flat_map (λ (n : DiagnosticFilterNode). map to.DiagnosticFilterNode (optional n.parent)) m.diagnostic_filters
+
+-- the functions of a module, and those of its entry points
+abbrev pub all_functions : Module → List Function
+all_functions m = m.functions ++ map (λ (p : EntryPoint). p.function) m.entry_points

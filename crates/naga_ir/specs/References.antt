@@ -1,0 +1,68 @@
+-- What the form of an expression refers to.
+use Rattle.std.specs.Prelude.{ℕ, List, [], ◌∷◌, ◌++◌, Option, Some, None}
+use Rattle.naga_ir_types.specs.Parts.{optional}
+use Rattle.naga_ir.specs.declared.expression.SampleLevel.{SampleLevel}
+use Rattle.naga_ir.specs.declared.expression.SampleLevel.TheVariants.{Auto, Zero, Exact, Bias, Gradient}
+use Rattle.naga_ir.specs.declared.expression.ImageQuery.{ImageQuery as Query}
+use Rattle.naga_ir.specs.declared.expression.ImageQuery.TheVariants.{Size}
+use Rattle.naga_ir.specs.declared.expression.Expression.{Expression}
+use Rattle.naga_ir.specs.declared.expression.Expression.TheVariants.{Constant, Override, ZeroValue, Compose, Access, AccessIndex, Splat, Swizzle, GlobalVariable, LocalVariable, Load, ImageSample, ImageLoad, ImageQuery, Unary, Binary, Select, Derivative, Relational, Math, As, CallResult, AtomicResult, WorkGroupUniformLoadResult, ArrayLength, RayQueryGetIntersection, RayQueryVertexPositions, SubgroupOperationResult, CooperativeLoad, CooperativeMultiplyAdd}
+use Rattle.naga_ir.specs.declared.reference.Reference.{Reference}
+use Rattle.naga_ir.specs.declared.reference.Reference.TheVariants as to
+
+-- the operands that a level of an image has
+abbrev pub level_operands : SampleLevel → List ℕ
+level_operands Auto = []
+level_operands Zero = []
+level_operands (Exact e) = e ∷ []
+level_operands (Bias e) = e ∷ []
+level_operands (Gradient x y) = x ∷ y ∷ []
+
+-- the operands that a question about an image has
+abbrev pub query_operands : Query → List ℕ
+query_operands (Size level) = optional level
+query_operands _ = []
+
+-- the expressions that an expression is worked out from, in the order of its fields
+unfoldable pub operands : Expression → List ℕ
+operands (Compose ty components) = components
+operands (Access base index) = base ∷ index ∷ []
+operands (AccessIndex base index) = base ∷ []
+operands (Splat size value) = value ∷ []
+operands (Swizzle size vector pattern) = vector ∷ []
+operands (Load pointer) = pointer ∷ []
+operands (ImageSample image sampler gather coordinate array_index offset level depth_ref clamp_to_edge) =
+    image ∷ sampler ∷ coordinate ∷ optional array_index ++ (optional offset ++ (level_operands level ++ optional depth_ref))
+operands (ImageLoad image coordinate array_index sample level) = image ∷ coordinate ∷ optional array_index ++ (optional sample ++ optional level)
+operands (ImageQuery image query) = image ∷ query_operands query
+operands (Unary op expr) = expr ∷ []
+operands (Binary op left right) = left ∷ right ∷ []
+operands (Select condition accept reject) = condition ∷ accept ∷ reject ∷ []
+operands (Derivative expr) = expr ∷ []
+operands (Relational fun argument) = argument ∷ []
+operands (Math fun arg arg1 arg2 arg3) = arg ∷ optional arg1 ++ (optional arg2 ++ optional arg3)
+operands (As expr kind convert) = expr ∷ []
+operands (ArrayLength expr) = expr ∷ []
+operands (RayQueryGetIntersection query committed) = query ∷ []
+operands (RayQueryVertexPositions query committed) = query ∷ []
+operands (CooperativeLoad pointer stride) = pointer ∷ stride ∷ []
+operands (CooperativeMultiplyAdd a b c) = a ∷ b ∷ c ∷ []
+operands _ = []
+
+-- the type that an expression names
+unfoldable pub named_type : Expression → Option ℕ
+named_type (ZeroValue ty) = Some ty
+named_type (Compose ty components) = Some ty
+named_type (AtomicResult ty comparison) = Some ty
+named_type (WorkGroupUniformLoadResult ty) = Some ty
+named_type (SubgroupOperationResult ty) = Some ty
+named_type _ = None
+
+-- the constant, override, variable or function that an expression names
+unfoldable pub named_item : Expression → Option Reference
+named_item (Constant c) = Some (to.Constant c)
+named_item (Override o) = Some (to.Override o)
+named_item (GlobalVariable v) = Some (to.GlobalVariable v)
+named_item (LocalVariable v) = Some (to.LocalVariable v)
+named_item (CallResult f) = Some (to.Function f)
+named_item _ = None

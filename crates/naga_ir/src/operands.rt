@@ -1,0 +1,239 @@
+//! What an expression is worked out from, and what else it names.
+
+ghost use Rattle.std.specs.Prelude.{◌≡◌, [], ◌++◌, IfNone};
+ghost use Rattle.naga_ir.specs.Operands.{ReadsNoImage, listed, present};
+ghost use Rattle.naga_ir.specs.References as spec;
+ghost use Rattle.naga_ir_types.specs.Parts.{optional};
+
+use crate::expression::{Expression, ImageQuery, SampleLevel};
+use crate::reference::Reference;
+use naga_arena::handle::Handle;
+use naga_arena::tags::{ExpressionTag, TypeTag};
+use std::marker::Model;
+
+#[cfg(test)]
+mod tests;
+
+/// The operands that have fields of their own. Contracts see those that are left.
+#[derive(Drop)]
+struct Fields {
+    operands: [Option<Handle<ExpressionTag>>; 8],
+    /// The place of the first that is left.
+    next: usize,
+}
+
+impl Model for Fields {
+    ghost use Rattle.std.specs.Prelude.{ℕ, List, drop};
+    ghost use Rattle.naga_ir.specs.Operands.{present};
+
+    ghost Value = { List ℕ };
+
+    ghost view = { λ f. present (drop f.next f.operands) };
+}
+
+impl Fields {
+    /// The next operand that is there.
+    fn next(&mut self) -> Option<Handle<ExpressionTag>>
+        ensures operand { self.old ≡ optional result ++ self.new }
+        ensures end { IfNone result (self.old ≡ []) }
+    {
+        while let Some(operand) = self.operands.get(self.next) {
+            self.next += 1;
+            if operand.is_some() {
+                return *operand;
+            }
+        }
+        None
+    }
+}
+
+/// The operands of an expression, in the order of its fields. Contracts see those that are left.
+#[derive(Drop)]
+pub struct Operands<'a> {
+    fields: Fields,
+    /// The operands in a list, which come after those in fields.
+    listed: &'a [Handle<ExpressionTag>],
+}
+
+impl<'a> Model for Operands<'a> {
+    ghost use Rattle.std.specs.Prelude.{ℕ, List, ◌++◌};
+
+    ghost Value = { List ℕ };
+
+    ghost view = { λ o. o.fields ++ o.listed.now };
+}
+
+impl<'a> Iterator for Operands<'a> {
+    ghost use Rattle.std.specs.Iterator.{YieldsFirst, item_count};
+
+    type Item = Handle<ExpressionTag>;
+
+    ghost next_gives = { YieldsFirst (λ s. s) };
+
+    ghost remaining = { item_count (λ s. s) };
+
+    fn next(&mut self) -> Option<Handle<ExpressionTag>> {
+        if let Some(operand) = self.fields.next() {
+            return Some(operand);
+        }
+        let (first, rest) = self.listed.split_first()?;
+        self.listed = rest;
+        Some(*first)
+    }
+}
+
+/// The derivatives of a level, or the one operand that it has.
+fn level_operands(level: SampleLevel) -> [Option<Handle<ExpressionTag>>; 2]
+    ensures { present result ≡ spec.level_operands level }
+{
+    match level {
+        SampleLevel::Auto | SampleLevel::Zero => [None, None],
+        SampleLevel::Exact(level) | SampleLevel::Bias(level) => [Some(level), None],
+        SampleLevel::Gradient { x, y } => [Some(x), Some(y)],
+    }
+}
+
+fn query_operand(query: ImageQuery) -> Option<Handle<ExpressionTag>>
+    ensures { optional result ≡ spec.query_operands query }
+{
+    match query {
+        ImageQuery::Size { level } => level,
+        ImageQuery::NumLevels | ImageQuery::NumLayers | ImageQuery::NumSamples => None,
+    }
+}
+
+/// Four operands at most, and four at most that follow them.
+fn both(
+    first: [Option<Handle<ExpressionTag>>; 4],
+    second: [Option<Handle<ExpressionTag>>; 4],
+) -> [Option<Handle<ExpressionTag>>; 8]
+    ensures { present result ≡ present first ++ present second }
+{
+    let [a, b, c, d] = first;
+    let [e, f, g, h] = second;
+    [a, b, c, d, e, f, g, h]
+}
+
+impl Expression {
+    /// The expressions that this one is worked out from.
+    pub fn operands(&self) -> Operands<'_>
+        ensures { result ≡ spec.operands self.now }
+    {
+        let listed = match self {
+            Self::Compose { components, .. } => components.as_slice(),
+            _ => &[],
+        };
+        let fields = Fields {
+            operands: self.field_operands(),
+            next: 0,
+        };
+        Operands { fields, listed }
+    }
+
+    /// The type that this names.
+    #[tactic(auto, unfolding(crate::specs::References::named_type))]
+    pub fn named_type(&self) -> Option<Handle<TypeTag>>
+        ensures { result ≡ spec.named_type self.now }
+    {
+        match *self {
+            Self::ZeroValue(ty)
+            | Self::Compose { ty, .. }
+            | Self::AtomicResult { ty, .. }
+            | Self::WorkGroupUniformLoadResult { ty }
+            | Self::SubgroupOperationResult { ty } => Some(ty),
+            _ => None,
+        }
+    }
+
+    /// The constant, override, variable or function that this names.
+    #[tactic(auto, unfolding(crate::specs::References::named_item))]
+    pub fn named_item(&self) -> Option<Reference>
+        ensures { result ≡ spec.named_item self.now }
+    {
+        match *self {
+            Self::Constant(constant) => Some(Reference::Constant(constant)),
+            Self::Override(override_) => Some(Reference::Override(override_)),
+            Self::GlobalVariable(variable) => Some(Reference::GlobalVariable(variable)),
+            Self::LocalVariable(variable) => Some(Reference::LocalVariable(variable)),
+            Self::CallResult(function) => Some(Reference::Function(function)),
+            _ => None,
+        }
+    }
+
+    /// The operands in the fields of a form that reads no image. There are four at most.
+    #[tactic(auto, unfolding(crate::specs::References::operands))]
+    fn plain_operands(&self) -> [Option<Handle<ExpressionTag>>; 4]
+        ensures { ReadsNoImage self.now → present result ++ listed self.now ≡ spec.operands self.now }
+    {
+        match *self {
+            Self::AccessIndex { base: expr, .. }
+            | Self::Splat { value: expr, .. }
+            | Self::Swizzle { vector: expr, .. }
+            | Self::Load { pointer: expr }
+            | Self::Unary { expr, .. }
+            | Self::Derivative { expr }
+            | Self::Relational { argument: expr, .. }
+            | Self::As { expr, .. }
+            | Self::ArrayLength(expr)
+            | Self::RayQueryGetIntersection { query: expr, .. }
+            | Self::RayQueryVertexPositions { query: expr, .. } => [Some(expr), None, None, None],
+            Self::Access { base, index } => [Some(base), Some(index), None, None],
+            Self::Binary { left, right, .. } => [Some(left), Some(right), None, None],
+            Self::CooperativeLoad { pointer, stride } => [Some(pointer), Some(stride), None, None],
+            Self::CooperativeMultiplyAdd { a, b, c } => [Some(a), Some(b), Some(c), None],
+            Self::Select {
+                condition,
+                accept,
+                reject,
+            } => [Some(condition), Some(accept), Some(reject), None],
+            Self::Math {
+                arg,
+                arg1,
+                arg2,
+                arg3,
+                ..
+            } => [Some(arg), arg1, arg2, arg3],
+            _ => [None, None, None, None],
+        }
+    }
+
+    /// The operands that have fields of their own.
+    #[tactic(auto, unfolding(crate::specs::References::operands))]
+    fn field_operands(&self) -> [Option<Handle<ExpressionTag>>; 8]
+        ensures { present result ++ listed self.now ≡ spec.operands self.now }
+    {
+        match *self {
+            Self::ImageSample {
+                image,
+                sampler,
+                coordinate,
+                array_index,
+                offset,
+                level,
+                depth_ref,
+                ..
+            } => {
+                let [first, second] = level_operands(level);
+                both(
+                    [Some(image), Some(sampler), Some(coordinate), array_index],
+                    [offset, first, second, depth_ref],
+                )
+            }
+            Self::ImageLoad {
+                image,
+                coordinate,
+                array_index,
+                sample,
+                level,
+            } => both(
+                [Some(image), Some(coordinate), array_index, sample],
+                [level, None, None, None],
+            ),
+            Self::ImageQuery { image, query } => both(
+                [Some(image), query_operand(query), None, None],
+                [None, None, None, None],
+            ),
+            _ => both(self.plain_operands(), [None, None, None, None]),
+        }
+    }
+}

@@ -1,0 +1,11 @@
+//! The types of a shader module, and the arena in which each stands once.
+//!
+//! Contracts see the arena as the list of its types.
+#![tactic(auto)]
+
+pub mod alignment;
+pub mod parts;
+#[cfg(test)]
+mod tests;
+pub mod types;
+pub mod unique_arena;

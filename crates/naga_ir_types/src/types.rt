@@ -1,0 +1,462 @@
+//! Types of a module.
+
+ghost use Rattle.std.specs.Prelude.{◌≡◌, ◌↔◌, IfOk, IsTrue};
+ghost use Rattle.naga_ir_types.specs.Plain.{IsPlain};
+ghost use Rattle.naga_ir_types.specs.Sizes.{components, is_numeric};
+ghost use Rattle.naga_ir_types.specs.TypeWords.{is_mipmapped, is_multisampled, pointer_base, scalar_of};
+
+use naga_arena::handle::Handle;
+use naga_arena::list::List;
+use naga_arena::memory::OutOfMemory;
+use naga_arena::tags::{OverrideTag, TypeTag};
+use naga_arena::text::Text;
+use std::num::NonZeroU32;
+
+/// The width of a Boolean scalar, in bytes.
+pub const BOOL_WIDTH: u8 = 1;
+
+/// The width of an abstract scalar, in bytes.
+pub const ABSTRACT_WIDTH: u8 = 8;
+
+/// What the bits of a scalar mean.
+#[derive(Clone, Copy, Debug, PartialEq, Eq, Hash)]
+pub enum ScalarKind {
+    /// Signed integers.
+    Sint,
+    /// Unsigned integers.
+    Uint,
+    /// Floating-point numbers.
+    Float,
+    /// Truth values.
+    Bool,
+    /// WGSL's abstract integers, of constant expressions alone.
+    AbstractInt,
+    /// WGSL's abstract floating-point numbers, of constant expressions alone.
+    AbstractFloat,
+}
+
+impl ScalarKind {
+    /// Whether the values are numbers: those of every kind but `Bool`.
+    pub fn is_numeric(self) -> bool
+        ensures { result ≡ is_numeric self }
+    {
+        match self {
+            ScalarKind::Sint
+            | ScalarKind::Uint
+            | ScalarKind::Float
+            | ScalarKind::AbstractInt
+            | ScalarKind::AbstractFloat => true,
+            ScalarKind::Bool => false,
+        }
+    }
+}
+
+/// A scalar type.
+#[derive(Clone, Copy, Debug, PartialEq, Eq, Hash)]
+pub struct Scalar {
+    pub kind: ScalarKind,
+    /// The size of a value, in bytes.
+    pub width: u8,
+}
+
+impl Scalar {
+    /// Truth values.
+    pub const BOOL: Scalar = Scalar {
+        kind: ScalarKind::Bool,
+        width: BOOL_WIDTH,
+    };
+
+    /// Signed integers of two bytes.
+    pub const I16: Scalar = Scalar {
+        kind: ScalarKind::Sint,
+        width: 2,
+    };
+
+    /// Unsigned integers of two bytes.
+    pub const U16: Scalar = Scalar {
+        kind: ScalarKind::Uint,
+        width: 2,
+    };
+
+    /// Signed integers of four bytes.
+    pub const I32: Scalar = Scalar {
+        kind: ScalarKind::Sint,
+        width: 4,
+    };
+
+    /// Unsigned integers of four bytes.
+    pub const U32: Scalar = Scalar {
+        kind: ScalarKind::Uint,
+        width: 4,
+    };
+
+    /// Signed integers of eight bytes.
+    pub const I64: Scalar = Scalar {
+        kind: ScalarKind::Sint,
+        width: 8,
+    };
+
+    /// Unsigned integers of eight bytes.
+    pub const U64: Scalar = Scalar {
+        kind: ScalarKind::Uint,
+        width: 8,
+    };
+
+    /// Floating-point numbers of two bytes.
+    pub const F16: Scalar = Scalar {
+        kind: ScalarKind::Float,
+        width: 2,
+    };
+
+    /// Floating-point numbers of four bytes.
+    pub const F32: Scalar = Scalar {
+        kind: ScalarKind::Float,
+        width: 4,
+    };
+
+    /// Floating-point numbers of eight bytes.
+    pub const F64: Scalar = Scalar {
+        kind: ScalarKind::Float,
+        width: 8,
+    };
+
+    /// WGSL's abstract integers.
+    pub const ABSTRACT_INT: Scalar = Scalar {
+        kind: ScalarKind::AbstractInt,
+        width: ABSTRACT_WIDTH,
+    };
+
+    /// WGSL's abstract floating-point numbers.
+    pub const ABSTRACT_FLOAT: Scalar = Scalar {
+        kind: ScalarKind::AbstractFloat,
+        width: ABSTRACT_WIDTH,
+    };
+
+    /// Whether the values are numbers.
+    pub fn is_numeric(self) -> bool
+        ensures { result ≡ is_numeric self.kind }
+    {
+        self.kind.is_numeric()
+    }
+}
+
+/// How many components a vector has, or a matrix columns or rows.
+#[derive(Clone, Copy, Debug, PartialEq, Eq, Hash)]
+pub enum VectorSize {
+    /// Two.
+    Bi,
+    /// Three.
+    Tri,
+    /// Four.
+    Quad,
+}
+
+impl VectorSize {
+    /// The number of components: 2, 3 or 4.
+    pub fn components(self) -> u8
+        ensures { result ≡ components self }
+    {
+        match self {
+            VectorSize::Bi => 2,
+            VectorSize::Tri => 3,
+            VectorSize::Quad => 4,
+        }
+    }
+}
+
+/// How many columns or rows a cooperative matrix has.
+#[derive(Clone, Copy, Debug, PartialEq, Eq, Hash)]
+pub enum CooperativeSize {
+    /// Eight.
+    Eight,
+    /// Sixteen.
+    Sixteen,
+}
+
+/// What a cooperative matrix stands for in a multiplication `a * b + c`.
+#[derive(Clone, Copy, Debug, PartialEq, Eq, Hash)]
+pub enum CooperativeRole {
+    /// The left factor.
+    A,
+    /// The right factor.
+    B,
+    /// The summand, and the result.
+    C,
+}
+
+/// How many elements an array has.
+#[derive(Clone, Copy, Debug, PartialEq, Eq, Hash)]
+pub enum ArraySize {
+    /// That many.
+    Constant(NonZeroU32),
+    /// As many as an override says when a pipeline is made.
+    Pending(Handle<OverrideTag>),
+    /// As many as the buffer has room for.
+    Dynamic,
+}
+
+/// Where a value comes from or goes to outside of the shader.
+#[derive(Clone, Copy, Debug, PartialEq, Eq, Hash)]
+pub enum Binding {
+    /// A value that the pipeline itself gives or takes, by number.
+    BuiltIn(u32),
+    /// A value that the stage before or after gives or takes.
+    Location {
+        location: u32,
+        /// Which of two sources of blending an output is, where there are two.
+        blend_src: Option<u32>,
+    },
+}
+
+/// A member of a struct.
+#[derive(Clone, Debug, PartialEq, Eq, Hash, Drop)]
+pub struct StructMember {
+    pub name: Option<Text>,
+    pub ty: Handle<TypeTag>,
+    pub binding: Option<Binding>,
+    /// The place of the first byte from the start of the struct, in bytes.
+    pub offset: u32,
+}
+
+impl StructMember {
+    /// An equal member, in memory of its own.
+    pub fn try_clone(&self) -> Result<StructMember, OutOfMemory>
+        ensures { IfOk result (λ copy. copy ≡ self.now) }
+    {
+        Ok(self.clone()?)
+    }
+}
+
+/// How many coordinates an image has.
+#[derive(Clone, Copy, Debug, PartialEq, Eq, Hash)]
+pub enum ImageDimension {
+    /// One.
+    D1,
+    /// Two.
+    D2,
+    /// Three.
+    D3,
+    /// Three, which are a direction.
+    Cube,
+}
+
+/// What a storage image may be used for.
+#[derive(Clone, Copy, Debug, PartialEq, Eq, Hash)]
+pub struct StorageAccess {
+    pub load: bool,
+    pub store: bool,
+    pub atomic: bool,
+}
+
+/// The format of a storage image, by number.
+#[derive(Clone, Copy, Debug, PartialEq, Eq, Hash)]
+pub struct StorageFormat(pub u32);
+
+/// What an image holds.
+#[derive(Clone, Copy, Debug, PartialEq, Eq, Hash)]
+pub enum ImageClass {
+    /// Values that a sampler reads.
+    Sampled {
+        kind: ScalarKind,
+        /// Whether there are several samples of each.
+        multi: bool,
+    },
+    /// Depths.
+    Depth {
+        /// Whether there are several samples of each.
+        multi: bool,
+    },
+    /// Values that the shader reads and writes.
+    Storage {
+        format: StorageFormat,
+        access: StorageAccess,
+    },
+    /// An image from outside, as a frame of a video.
+    External,
+}
+
+impl ImageClass {
+    /// Whether there are several samples of each value.
+    pub fn is_multisampled(self) -> bool
+        ensures { result ≡ is_multisampled self }
+    {
+        match self {
+            ImageClass::Sampled { multi, .. } | ImageClass::Depth { multi } => multi,
+            ImageClass::Storage { .. } | ImageClass::External => false,
+        }
+    }
+
+    /// Whether there may be several levels, each of half the size.
+    pub fn is_mipmapped(self) -> bool
+        ensures { result ≡ is_mipmapped self }
+    {
+        match self {
+            ImageClass::Sampled { multi, .. } | ImageClass::Depth { multi } => !multi,
+            ImageClass::Storage { .. } | ImageClass::External => false,
+        }
+    }
+}
+
+/// Where a variable is kept.
+#[derive(Clone, Copy, Debug, PartialEq, Eq, Hash)]
+pub enum AddressSpace {
+    /// In a function.
+    Function,
+    /// In an invocation.
+    Private,
+    /// In a workgroup, shared by its invocations.
+    WorkGroup,
+    /// In a buffer that shaders only read.
+    Uniform,
+    /// In a buffer.
+    Storage { access: StorageAccess },
+    /// Nowhere: an image or a sampler.
+    Handle,
+    /// Among the immediate data of a pipeline.
+    Immediate,
+    /// In what a task shader hands to its mesh shaders.
+    TaskPayload,
+    /// In what a ray hands to the shaders that it calls.
+    RayPayload,
+    /// In what the ray handed on that called this shader.
+    IncomingRayPayload,
+}
+
+/// The form of a type.
+#[derive(Clone, Debug, PartialEq, Eq, Hash, Drop)]
+pub enum TypeInner {
+    /// A number or a truth value.
+    Scalar(Scalar),
+    /// Scalars of one type, by their components.
+    Vector {
+        size: VectorSize,
+        scalar: Scalar,
+    },
+    /// Scalars of one type, in columns and rows.
+    Matrix {
+        columns: VectorSize,
+        rows: VectorSize,
+        scalar: Scalar,
+    },
+    /// A matrix that the invocations of a subgroup hold together.
+    CooperativeMatrix {
+        columns: CooperativeSize,
+        rows: CooperativeSize,
+        scalar: Scalar,
+        role: CooperativeRole,
+    },
+    /// A scalar that invocations change one after another.
+    Atomic(Scalar),
+    /// A place that holds a value of another type.
+    Pointer {
+        base: Handle<TypeTag>,
+        space: AddressSpace,
+    },
+    /// A place that holds a scalar, or a vector where there is a size.
+    ValuePointer {
+        size: Option<VectorSize>,
+        scalar: Scalar,
+        space: AddressSpace,
+    },
+    /// Values of one type, one after another.
+    Array {
+        base: Handle<TypeTag>,
+        size: ArraySize,
+        /// From the start of an element to that of the next, in bytes.
+        stride: u32,
+    },
+    /// Members, each with a type and a place.
+    Struct {
+        members: List<StructMember>,
+        /// The size, in bytes.
+        span: u32,
+    },
+    /// An image.
+    Image {
+        dim: ImageDimension,
+        arrayed: bool,
+        class: ImageClass,
+    },
+    /// How an image is sampled.
+    Sampler {
+        /// Whether depths are compared.
+        comparison: bool,
+    },
+    /// What rays are traced through.
+    AccelerationStructure {
+        /// Whether the corners of what was hit can be read.
+        vertex_return: bool,
+    },
+    /// A ray on its way.
+    RayQuery {
+        /// Whether the corners of what was hit can be read.
+        vertex_return: bool,
+    },
+    /// Bindings of one type under one number.
+    BindingArray {
+        base: Handle<TypeTag>,
+        size: ArraySize,
+    },
+}
+
+impl TypeInner {
+    /// An equal form, in memory of its own. Only a struct takes any.
+    pub fn try_clone(&self) -> Result<TypeInner, OutOfMemory>
+        ensures { IfOk result (λ copy. copy ≡ self.now) }
+    {
+        Ok(self.clone()?)
+    }
+
+    /// Whether it is a scalar, a vector or a matrix.
+    pub fn is_plain(&self) -> bool
+        ensures { IsTrue result ↔ IsPlain self.now }
+    {
+        match self {
+            TypeInner::Scalar(_) | TypeInner::Vector { .. } | TypeInner::Matrix { .. } => true,
+            _ => false,
+        }
+    }
+
+    /// The type of the components of a scalar, a vector or a matrix, of either kind of matrix. Other
+    /// types have none, atomics and pointers among them.
+    pub fn scalar(&self) -> Option<Scalar>
+        ensures { result ≡ scalar_of self.now }
+    {
+        match *self {
+            TypeInner::Scalar(scalar)
+            | TypeInner::Vector { scalar, .. }
+            | TypeInner::Matrix { scalar, .. }
+            | TypeInner::CooperativeMatrix { scalar, .. } => Some(scalar),
+            _ => None,
+        }
+    }
+
+    /// The type of what stands at a pointer, where that type has a handle.
+    pub fn pointer_base_type(&self) -> Option<Handle<TypeTag>>
+        ensures { result ≡ pointer_base self.now }
+    {
+        match *self {
+            TypeInner::Pointer { base, .. } => Some(base),
+            _ => None,
+        }
+    }
+}
+
+/// A type of a module. Two types are equal where name and form are.
+#[derive(Clone, Debug, PartialEq, Eq, Hash, Drop)]
+pub struct Type {
+    pub name: Option<Text>,
+    pub inner: TypeInner,
+}
+
+impl Type {
+    /// An equal type, in memory of its own.
+    pub fn try_clone(&self) -> Result<Type, OutOfMemory>
+        ensures { IfOk result (λ copy. copy ≡ self.now) }
+    {
+        Ok(Type {
+            name: self.name.clone()?,
+            inner: self.inner.try_clone()?,
+        })
+    }
+}

@@ -1,0 +1,193 @@
+//! The arena of types, in which each type stands once.
+
+ghost use Rattle.std.specs.Prelude.{◌≡◌, ◌==◌, ℕ, ◌<◌, ◌≤◌, [], ◌∷◌, ◌++◌, length, IsOk, IsTrue, IfOk, OnOk, OnErr, IfSome, IsSome, Contains, ◌↔◌, Some, slice_get, codes, IfErr};
+ghost use Rattle.naga_arena.specs.Existence.{IsGoodRange};
+ghost use Rattle.std.specs.List.{enumerate_from};
+ghost use Rattle.naga_ir_types.specs.Distinct.{AllDistinct};
+ghost use Rattle.naga_ir_types.specs.Plain.{ArePlain};
+
+use crate::types::Type;
+use indexmap::IndexSet;
+use naga_arena::handle::{BadHandle, Handle};
+use naga_arena::iter::Iter;
+use naga_arena::memory::OutOfMemory;
+use naga_arena::range::{BadRangeError, Range};
+use naga_arena::span::Span;
+use naga_arena::tags::TypeTag;
+use std::alloc::Global;
+use std::fmt;
+use std::marker::Model;
+use std::ops::Index;
+
+/// Types, each once, in the order in which they came, each with its place in the source. Contracts
+/// see the list of the types.
+///
+/// An insertion hashes the type and scans nothing, so a module's types cost as much as they are many.
+#[derive(Drop)]
+pub struct UniqueArena {
+    set: IndexSet<Type>,
+    span_info: Vec<Span>,
+}
+
+impl Model for UniqueArena {
+    ghost use Rattle.std.specs.Prelude.{List, ◌≡◌, ◌≤◌, length};
+    ghost use Rattle.naga_ir_types.specs.declared.types.«Type».{«Type»};
+
+    ghost Value = { List «Type» };
+
+    ghost view = { λ a. a.set.keys };
+
+    ghost invariant = { λ a. (length a.span_info.items ≡ length a.set.keys) × (length a.set.keys ≤ 4294967295) };
+}
+
+impl UniqueArena {
+    /// An empty arena, which takes its memory from `alloc`.
+    pub fn new(alloc: Global) -> UniqueArena
+        ensures { result ≡ [] }
+    {
+        UniqueArena {
+            set: IndexSet::new(alloc),
+            span_info: Vec::new(alloc),
+        }
+    }
+
+    /// How many types there are.
+    pub fn len(&self) -> usize
+        ensures value { result ≡ length self.now }
+        ensures bound { result ≤ 4294967295 }
+    {
+        self.set.len()
+    }
+
+    /// Whether there is no type.
+    pub fn is_empty(&self) -> bool
+        ensures { result ≡ (length self.now == 0) }
+    {
+        self.set.is_empty()
+    }
+
+    /// Whether all types are scalars, vectors and matrices.
+    pub fn are_plain(&self) -> bool
+        ensures { IsTrue result ↔ ArePlain self.now }
+    {
+        for ty in self.as_slice() {
+            if !ty.inner.is_plain() {
+                return false;
+            }
+        }
+        true
+    }
+
+    /// All types, in the order of their handles. No two are equal.
+    pub fn as_slice(&self) -> &[Type]
+        ensures items { result.now ≡ self.now }
+        ensures bound { length result.now ≤ 4294967295 }
+        ensures distinct { AllDistinct self.now }
+    {
+        self.set.as_slice()
+    }
+
+    /// The places of the types that came after the first `old_length` ones.
+    pub fn range_from(&self, old_length: usize) -> Range<TypeTag>
+        requires { old_length ≤ length self.now }
+        ensures start { result.start ≡ old_length }
+        ensures end { result.end ≡ length self.now }
+    {
+        let length = self.len();
+        Range::new(old_length as u32, length as u32)
+    }
+
+    /// The types with their handles, in order.
+    pub fn iter(&self) -> Iter<'_, Type, TypeTag>
+        ensures { result ≡ enumerate_from 0 self.now }
+    {
+        Iter::new(self.set.as_slice())
+    }
+
+    /// The type that a handle names.
+    pub fn get(&self, handle: Handle<TypeTag>) -> &Type
+        requires { handle < length self.now }
+        ensures { slice_get self.now handle ≡ Some result.now }
+    {
+        &self.set.as_slice()[handle.index()]
+    }
+
+    /// Where a type stands in the source; the default span where that isn't known.
+    pub fn get_span(&self, handle: Handle<TypeTag>) -> Span
+        requires { handle < length self.now }
+    {
+        self.span_info[handle.index()]
+    }
+
+    /// The handle of a type, where an equal one stands in the arena.
+    pub fn get_handle(&self, value: &Type) -> Option<Handle<TypeTag>>
+        ensures place { IfSome result (λ h. slice_get self.now h ≡ Some value.now) }
+        ensures found { IsSome result ↔ Contains self.now value.now }
+    {
+        let index = self.set.get_index_of(value)?;
+        Some(Handle::new(index as u32))
+    }
+
+    /// The handle of `value`, which is added with its `span` unless an equal type stands there.
+    ///
+    /// Refused memory leaves the arena as it was, and drops the type. A type that stands there
+    /// already is never refused.
+    pub fn insert(&mut self, value: Type, span: Span) -> Result<Handle<TypeTag>, OutOfMemory>
+        requires { length self.old < 4294967295 }
+        ensures present { (k : ℕ) → slice_get self.old k ≡ Some value → IsOk result × IfOk result (λ h. h ≡ k) × (self.new ≡ self.old) }
+        ensures place { ¬ (Contains self.old value) → IfOk result (λ h. h ≡ length self.old) }
+        ensures appended { ¬ (Contains self.old value) → OnOk result (self.new ≡ self.old ++ value ∷ []) }
+        ensures found { IfOk result (λ h. slice_get self.new h ≡ Some value) }
+        ensures refused { OnErr result (self.new ≡ self.old) }
+    {
+        let Ok((index, added)) = self.set.insert_full(value) else {
+            return Err(OutOfMemory);
+        };
+        if !added {
+            return Ok(Handle::new(index as u32));
+        }
+        if self.span_info.push(span).is_err() {
+            self.set.pop();
+            return Err(OutOfMemory);
+        }
+        Ok(Handle::new(index as u32))
+    }
+}
+
+impl UniqueArena {
+    /// Whether the arena has a type at a handle's place.
+    pub fn check_contains_handle(&self, handle: Handle<TypeTag>) -> Result<(), BadHandle>
+        ensures exists { IsOk result ↔ (handle < length self.now) }
+        ensures missing { IfErr result (λ e. e ≡ record { kind = codes "Type"; index = handle }) }
+    {
+        handle.check_valid_for(self.len())
+    }
+
+    /// Whether the arena has a type at each place of a range. An empty range is everywhere.
+    pub fn check_contains_range(&self, range: Range<TypeTag>) -> Result<(), BadRangeError>
+        ensures good { IsOk result ↔ IsGoodRange (length self.now) range }
+        ensures bad { IfErr result (λ e. e ≡ record { kind = codes "Type"; start = range.start; end = range.end }) }
+    {
+        range.check_valid_for(self.len())
+    }
+}
+
+impl Index<Handle<TypeTag>> for UniqueArena {
+    ghost use Rattle.std.specs.Prelude.{◌≡◌, ◌<◌, length, Some, slice_get};
+
+    type Output = Type;
+
+    ghost can_index = { λ a i. i < length a };
+
+    ghost index_gives = { λ a i r. slice_get a i ≡ Some r };
+
+    fn index(&self, handle: Handle<TypeTag>) -> &Type {
+        self.get(handle)
+    }
+}
+
+impl fmt::Debug for UniqueArena {
+    fn fmt<W: fmt::Write>(&self, f: &mut fmt::Formatter<W>) -> fmt::Result {
+        self.as_slice().fmt(f)
+    }
+}
