@@ -64,6 +64,10 @@ module _ {X A E : Type 0} (items : List X) (results : List (Result A E)) where
       let s = next done left n x more p e in
       ap (λ l. slice_get l n) s.whole ∙ ap (slice_get (s.front ++ x ∷ s.rest)) (s.number ∙ sym s.place) ∙ slice_get-seam s.front s.rest x
 
+  -- its place is behind the values so far
+  pub number : (done : List A) (left : List (ℕ × X)) (n : ℕ) (x : X) (more : List (ℕ × X)) → Progress done left → left ≡ (n, x) ∷ more → n ≡ length done
+  number done left n x more p e = (next done left n x more p e).number
+
   -- what is answered of the item that comes next
   answer : (done : List A) (left : List (ℕ × X)) (n : ℕ) (x : X) (more : List (ℕ × X)) (r : Result A E) (p : Progress done left) → left ≡ (n, x) ∷ more → slice_get results n ≡ Some r → (rest : List (Result A E)) × (p.others ≡ r ∷ rest)
   answer done left n x more r p e at =

@@ -1,5 +1,5 @@
 -- The modules that a text can say.
-use Rattle.std.proofs.Common.{◌≡◌, ℕ, List, [], ◌∷◌, None, All, filter_map, subst, sym}
+use Rattle.std.proofs.Common.{ℕ, List, [], ◌∷◌, None, filter_map, subst}
 use Rattle.std.specs.List.{AllZip}
 use Rattle.std.proofs.lemmas.List.Elements.{All-nil, All-cons}
 use Rattle.naga_ir.specs.Scope.{HasOnlyPlainTypes}

@@ -1,5 +1,5 @@
 -- What the lines of a text say, one line more and all together.
-use Rattle.std.proofs.Common.{◌≡◌, ℕ, ◌+◌, ◌<◌, inl, inr, Bool, true, false, List, [], ◌∷◌, ◌++◌, Option, None, Some, Result, Ok, Err, IfErr, IfOk, cond, drop, filter, get_or, length, map, option_to_list, take, refl, sym, ap, ◌∙◌, subst, append-nil, unwrap_or}
+use Rattle.std.proofs.Common.{◌≡◌, ℕ, ◌+◌, ◌<◌, inl, inr, Bool, true, false, List, [], ◌∷◌, ◌++◌, Option, None, Some, Result, Ok, Err, cond, drop, filter, get_or, length, map, option_to_list, take, refl, sym, ap, ◌∙◌, subst, append-nil, unwrap_or}
 use Rattle.std.specs.Bool.{MatchBool}
 use Rattle.std.specs.List.{AllZip}
 use Rattle.std.proofs.lemmas.List.{map-append, map_more, take-append-drop, take-map}

@@ -7,7 +7,7 @@ use Rattle.naga_types.specs.declared.error.TypeError.{TypeError}
 use Rattle.naga_types.specs.declared.error.TypeError.TheVariants.{MatrixElementNotFloat, WidthError}
 use Rattle.naga_types.specs.declared.info.TypeInfo.{TypeInfo}
 use Rattle.naga_typing.specs.declared.layouter.LayoutErrorInner.{LayoutErrorInner}
-use Rattle.naga_typing.specs.declared.layouter.LayoutErrorInner.TheVariants.{NonPowerOfTwoWidth, OutOfMemory}
+use Rattle.naga_typing.specs.declared.layouter.LayoutErrorInner.TheVariants.{TooLarge, NonPowerOfTwoWidth, OutOfMemory}
 use Rattle.naga_valid.specs.Accepted.{IsAccepted, IsRefusal, Settings}
 use Rattle.naga_valid.specs.declared.error.ValidationError.{ValidationError}
 use Rattle.naga_valid.specs.declared.error.ValidationError.TheVariants.{Layouter, Type_, OutOfMemory as NoMemory}
@@ -51,6 +51,7 @@ accepted_text infos = type_lines 0 infos ++ codes "ok\n"
 
 -- the names of refusals
 abbrev pub layout_error_name : LayoutErrorInner → List ℕ
+layout_error_name TooLarge = codes "TooLarge"
 layout_error_name NonPowerOfTwoWidth = codes "NonPowerOfTwoWidth"
 layout_error_name OutOfMemory = codes "OutOfMemory"
 

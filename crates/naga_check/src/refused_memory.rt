@@ -8,12 +8,11 @@ use crate::counted::Counted;
 use crate::report::Outcome;
 use crate::run::{RunFault, run};
 use naga_valid::{
-    Arena, Capabilities, Layouter, Module, ModuleInfo, OutOfMemory, Scalar, ScalarKind, Span, Text,
-    Type, TypeFlags, TypeInfos, TypeInner, TypeTag, ValidationError, ValidationFlags, Validator,
-    VectorSize, to_ctx,
+    Arena, Capabilities, Module, ModuleInfo, OutOfMemory, Scalar, ScalarKind, Span, Text, Type,
+    TypeFlags, TypeInfos, TypeInner, TypeTag, UniqueArena, ValidationError, ValidationFlags,
+    Validator, VectorSize, WithSpan,
 };
 use std::process::Abort;
-use std::test::Fail;
 
 const F32: Scalar = Scalar {
     kind: ScalarKind::Float,
@@ -26,7 +25,7 @@ fn is_refused_in_run(
     text: &str,
     outcome: Outcome,
     report: &str,
-) -> Result<bool, Fail> {
+) -> bool {
     let mut reader = Counted::new(text.as_bytes());
     let mut room = [0u8; 64];
     let mut writer = Counted::new(&mut room[..]);
@@ -36,45 +35,58 @@ fn is_refused_in_run(
     let written = 64 - left;
     let memory = "refused memory\n".as_bytes();
     match ended {
-        Ok(told) if told == outcome && &room[..written] == report.as_bytes() => Ok(false),
+        Ok(told) if told == outcome && &room[..written] == report.as_bytes() => false,
         Ok(Outcome::Refused) => {
             assert!(rt; &room[..written] == memory);
-            Ok(true)
+            true
         }
         Err(RunFault::OutOfMemory) => {
             assert!(rt; written == 0);
-            Ok(true)
+            true
         }
         _ => {
             assert!(rt; false, "{ended:?}");
-            Ok(false)
+            false
         }
     }
 }
 
-fn is_refused_in_accepted_run(rt: &(impl AllocGlobal + Abort)) -> Result<bool, Fail> {
+/// Runs over a text whose module is accepted.
+fn is_refused_in_accepted_run(rt: &(impl AllocGlobal + Abort)) -> bool {
     let text = "type scalar float 4\ntype vector 4 float 4\ntype matrix 2 3 float 4\n";
     let report = "T0 ff 4 4\nT1 ff 16 16\nT2 f7 16 16\nok\n";
     is_refused_in_run(rt, text, Outcome::Accepted, report)
 }
 
-fn is_refused_in_refused_run(rt: &(impl AllocGlobal + Abort)) -> Result<bool, Fail> {
+/// Runs over a text whose module is refused.
+fn is_refused_in_refused_run(rt: &(impl AllocGlobal + Abort)) -> bool {
     let report = "refused type T0 WidthError\n";
     is_refused_in_run(rt, "type scalar float 2", Outcome::Refused, report)
 }
 
-fn is_refused_in_unreadable_run(rt: &(impl AllocGlobal + Abort)) -> Result<bool, Fail> {
+/// Runs over a text that can't be read.
+fn is_refused_in_unreadable_run(rt: &(impl AllocGlobal + Abort)) -> bool {
     let text = "type scalar uint 4\ntype scalar uint 4\n";
     is_refused_in_run(rt, text, Outcome::Unreadable, "line 2 not readable\n")
 }
 
-/// Fills a module with a scalar that has no name, and a vector of Booleans that has one.
-fn fill(rt: &(impl AllocGlobal + Abort), module: &mut Module) -> Result<(), OutOfMemory> {
-    assert!(rt; module.types.len() < 2);
+/// Adds a type.
+fn add(
+    rt: &impl Abort,
+    types: &mut UniqueArena,
+    name: Option<Text>,
+    inner: TypeInner,
+    span: Span,
+) -> Result<(), OutOfMemory> {
+    assert!(rt; types.len() < 2);
+    types.insert(Type { name, inner }, span)?;
+    Ok(())
+}
+
+/// Adds a scalar that has no name, and a vector of Booleans that has one.
+fn fill(rt: &(impl AllocGlobal + Abort), types: &mut UniqueArena) -> Result<(), OutOfMemory> {
     let inner = TypeInner::Scalar(F32);
-    module
-        .types
-        .insert(Type { name: None, inner }, Span::default())?;
+    add(rt, types, None, inner, Span::default())?;
     let name = Text::from_string(String::from_str(rt.alloc(), "flags")?);
     let scalar = Scalar {
         kind: ScalarKind::Bool,
@@ -84,28 +96,26 @@ fn fill(rt: &(impl AllocGlobal + Abort), module: &mut Module) -> Result<(), OutO
         size: VectorSize::Bi,
         scalar,
     };
-    let name = Some(name);
-    assert!(rt; module.types.len() < 2);
-    module.types.insert(Type { name, inner }, Span::new(1, 2))?;
-    Ok(())
+    add(rt, types, Some(name), inner, Span::new(1, 2))
 }
 
-/// A filled module, and whether its first filling was refused, which leaves the arena as it was. One
-/// request alone is refused in a test, so the second filling succeeds.
-fn filled_module(rt: &(impl AllocGlobal + Abort)) -> Result<(Module, bool), Fail> {
-    let mut module = Module::new(rt.alloc());
-    let refused = fill(rt, &mut module).is_err();
+/// Fills an empty arena, and answers whether the first filling was refused, which leaves the arena
+/// as it was. One request alone is refused in a test, so the second filling succeeds.
+fn is_refused_in_filling(rt: &(impl AllocGlobal + Abort), types: &mut UniqueArena) -> bool {
+    let refused = fill(rt, types).is_err();
     if refused {
-        assert!(rt; module.types.len() < 2);
-        assert!(rt; fill(rt, &mut module).is_ok());
+        assert!(rt; types.len() < 2);
+        assert!(rt; fill(rt, types).is_ok());
     }
-    assert_eq!(rt; module.types.len(), 2);
-    Ok((module, refused))
+    assert_eq!(rt; types.len(), 2);
+    refused
 }
 
 /// A refused insertion leaves the arena as it was, and the next one succeeds.
-fn is_refused_in_arenas(rt: &(impl AllocGlobal + Abort)) -> Result<bool, Fail> {
-    let (_, mut refused) = filled_module(rt)?;
+fn is_refused_in_arenas(rt: &(impl AllocGlobal + Abort)) -> bool {
+    let mut types = UniqueArena::new(rt.alloc());
+    let mut refused = is_refused_in_filling(rt, &mut types);
+    drop(types);
     let mut arena: Arena<u8, TypeTag> = Arena::new(rt.alloc());
     if arena.append(7, Span::default()).is_err() {
         refused = true;
@@ -113,48 +123,68 @@ fn is_refused_in_arenas(rt: &(impl AllocGlobal + Abort)) -> Result<bool, Fail> {
         assert!(rt; arena.append(7, Span::default()).is_ok());
     }
     assert_eq!(rt; arena.len(), 1);
-    Ok(refused)
+    refused
+}
+
+/// Whether a refusal is of memory. Else it is of the second type, and says so.
+fn is_of_memory(rt: &impl Abort, error: &WithSpan<ValidationError>) -> bool {
+    match error.as_inner() {
+        ValidationError::OutOfMemory => {
+            assert_eq!(rt; error.span(), None);
+            true
+        }
+        ValidationError::Type_ { handle, name, .. } => {
+            assert_eq!(rt; handle.index(), 1);
+            assert!(rt; name.as_str() == "flags");
+            assert_eq!(rt; error.span(), Some(Span::new(1, 2)));
+            false
+        }
+        ValidationError::Layouter(_) => {
+            assert!(rt; false, "each width is a power of two");
+            false
+        }
+    }
+}
+
+/// Validates a filled module, and answers whether memory was refused.
+fn is_refused_in_call(rt: &impl Abort, validator: &mut Validator, module: &Module) -> bool {
+    assert!(rt; module.has_only_types());
+    assert!(rt; module.types.are_plain());
+    let answer = validator.validate(module);
+    assert_eq!(rt; validator.type_count(), 0);
+    let error = answer.expect_err(rt, "a Boolean has one byte");
+    is_of_memory(rt, &error)
 }
 
 /// Refused memory leaves the validator as after `reset`, and it then answers as a fresh one.
-fn is_refused_in_validation(rt: &(impl AllocGlobal + Abort)) -> Result<bool, Fail> {
-    let (module, mut refused) = filled_module(rt)?;
-    assert!(rt; module.has_only_types());
-    assert!(rt; module.types.are_plain());
+fn is_refused_in_calls(
+    rt: &(impl AllocGlobal + Abort),
+    module: &Module,
+    mut refused: bool,
+) -> bool {
     let flags = ValidationFlags::default();
     let mut validator = Validator::new(rt.alloc(), flags, Capabilities::default());
     for _ in 0..2 {
-        let Err(error) = validator.validate(&module) else {
-            assert!(rt; false, "a Boolean has one byte");
-            return Ok(refused);
-        };
-        assert_eq!(rt; validator.type_count(), 0);
-        match error.as_inner() {
-            ValidationError::OutOfMemory => {
-                assert!(rt; !refused);
-                assert_eq!(rt; error.span(), None);
-                refused = true;
-            }
-            ValidationError::Type_ { handle, name, .. } => {
-                assert_eq!(rt; handle.index(), 1);
-                assert!(rt; name.as_str() == "flags");
-                assert_eq!(rt; error.span(), Some(Span::new(1, 2)));
-            }
-            ValidationError::Layouter(_) => assert!(rt; false, "each width is a power of two"),
+        if is_refused_in_call(rt, &mut validator, module) {
+            assert!(rt; !refused);
+            refused = true;
         }
     }
-    Ok(refused)
+    refused
 }
 
-/// Refused memory leaves layouts, infos and flags as they were, and the next call succeeds.
-fn is_refused_in_lists(rt: &(impl AllocGlobal + Abort)) -> Result<bool, Fail> {
-    let (module, mut refused) = filled_module(rt)?;
-    assert!(rt; module.types.are_plain());
-    let mut layouter = Layouter::new(rt.alloc());
-    if layouter.update(to_ctx(&module)).is_err() {
-        refused = true;
-        assert!(rt; layouter.update(to_ctx(&module)).is_ok());
-    }
+/// Fills a module, and validates it.
+fn is_refused_in_validation(rt: &(impl AllocGlobal + Abort)) -> bool {
+    let mut module = Module::new(rt.alloc());
+    let refused = is_refused_in_filling(rt, &mut module.types);
+    let refused = is_refused_in_calls(rt, &module, refused);
+    drop(module);
+    refused
+}
+
+/// Refused memory leaves infos and flags as they were, and the next call succeeds.
+fn is_refused_in_lists(rt: &(impl AllocGlobal + Abort)) -> bool {
+    let mut refused = false;
     let mut info = ModuleInfo::new(rt.alloc());
     if info.push_type(TypeFlags::DATA).is_err() {
         refused = true;
@@ -168,77 +198,65 @@ fn is_refused_in_lists(rt: &(impl AllocGlobal + Abort)) -> Result<bool, Fail> {
         refused = true;
         assert!(rt; TypeInfos::with_room(rt.alloc(), 3).is_ok());
     }
-    Ok(refused)
+    refused
 }
 
 #[test]
-fn refusals_are_told_in_an_accepted_run(rt: HostRuntime) -> Result<(), Fail> {
-    is_refused_in_accepted_run(&rt)?;
-    Ok(())
+fn refusals_are_told_in_an_accepted_run(rt: HostRuntime) {
+    is_refused_in_accepted_run(&rt);
 }
 
 #[test]
-fn memory_is_ample_in_an_accepted_run(rt: HostRuntime) -> Result<(), Fail> {
-    assert!(rt; !is_refused_in_accepted_run(&rt)?);
-    Ok(())
+fn memory_is_ample_in_an_accepted_run(rt: HostRuntime) {
+    assert!(rt; !is_refused_in_accepted_run(&rt));
 }
 
 #[test]
-fn refusals_are_told_in_a_refused_run(rt: HostRuntime) -> Result<(), Fail> {
-    is_refused_in_refused_run(&rt)?;
-    Ok(())
+fn refusals_are_told_in_a_refused_run(rt: HostRuntime) {
+    is_refused_in_refused_run(&rt);
 }
 
 #[test]
-fn memory_is_ample_in_a_refused_run(rt: HostRuntime) -> Result<(), Fail> {
-    assert!(rt; !is_refused_in_refused_run(&rt)?);
-    Ok(())
+fn memory_is_ample_in_a_refused_run(rt: HostRuntime) {
+    assert!(rt; !is_refused_in_refused_run(&rt));
 }
 
 #[test]
-fn refusals_are_told_in_an_unreadable_run(rt: HostRuntime) -> Result<(), Fail> {
-    is_refused_in_unreadable_run(&rt)?;
-    Ok(())
+fn refusals_are_told_in_an_unreadable_run(rt: HostRuntime) {
+    is_refused_in_unreadable_run(&rt);
 }
 
 #[test]
-fn memory_is_ample_in_an_unreadable_run(rt: HostRuntime) -> Result<(), Fail> {
-    assert!(rt; !is_refused_in_unreadable_run(&rt)?);
-    Ok(())
+fn memory_is_ample_in_an_unreadable_run(rt: HostRuntime) {
+    assert!(rt; !is_refused_in_unreadable_run(&rt));
 }
 
 #[test]
-fn refusals_are_told_in_arenas(rt: HostRuntime) -> Result<(), Fail> {
-    is_refused_in_arenas(&rt)?;
-    Ok(())
+fn refusals_are_told_in_arenas(rt: HostRuntime) {
+    is_refused_in_arenas(&rt);
 }
 
 #[test]
-fn memory_is_ample_in_arenas(rt: HostRuntime) -> Result<(), Fail> {
-    assert!(rt; !is_refused_in_arenas(&rt)?);
-    Ok(())
+fn memory_is_ample_in_arenas(rt: HostRuntime) {
+    assert!(rt; !is_refused_in_arenas(&rt));
 }
 
 #[test]
-fn refusals_are_told_in_validation(rt: HostRuntime) -> Result<(), Fail> {
-    is_refused_in_validation(&rt)?;
-    Ok(())
+fn refusals_are_told_in_validation(rt: HostRuntime) {
+    is_refused_in_validation(&rt);
 }
 
 #[test]
-fn memory_is_ample_in_validation(rt: HostRuntime) -> Result<(), Fail> {
-    assert!(rt; !is_refused_in_validation(&rt)?);
-    Ok(())
+fn memory_is_ample_in_validation(rt: HostRuntime) {
+    assert!(rt; !is_refused_in_validation(&rt));
 }
 
 #[test]
-fn refusals_are_told_in_lists(rt: HostRuntime) -> Result<(), Fail> {
-    is_refused_in_lists(&rt)?;
-    Ok(())
+fn refusals_are_told_in_lists(rt: HostRuntime) {
+    is_refused_in_lists(&rt);
 }
 
 #[test]
-fn memory_is_ample_in_lists(rt: HostRuntime) -> Result<(), Fail> {
-    assert!(rt; !is_refused_in_lists(&rt)?);
-    Ok(())
+fn memory_is_ample_in_lists(rt: HostRuntime) {
+    assert!(rt; !is_refused_in_lists(&rt));
 }

@@ -49,6 +49,7 @@ fn layout_error_name(error: LayoutErrorInner) -> &'static str
     ensures { result.now ≡ layout_error_name error }
 {
     match error {
+        LayoutErrorInner::TooLarge => "TooLarge",
         LayoutErrorInner::NonPowerOfTwoWidth => "NonPowerOfTwoWidth",
         LayoutErrorInner::OutOfMemory => "OutOfMemory",
     }

@@ -1,4 +1,6 @@
 pub mod Handles
+pub mod PlainReferences
+pub mod Reached
 pub mod StatementLemmas
 pub mod WalkLemmas
 pub mod WorkedModules

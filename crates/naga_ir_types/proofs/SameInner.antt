@@ -36,6 +36,7 @@ use Rattle.naga_ir_types.specs.contracts.types.AddressSpacePartialEq.TheImpl as 
 use Rattle.naga_ir_types.specs.contracts.types.ImageDimensionPartialEq.TheImpl as of_dimension
 use Rattle.naga_ir_types.specs.contracts.types.ImageClassPartialEq.TheImpl as of_class
 use Rattle.naga_ir_types.specs.contracts.types.StructMemberEq.TheImpl.Laws as member_laws
+use Rattle.naga_ir_types.specs.contracts.types.TypeInnerEq.TheImpl.Laws as inner_laws
 
 bool_same : (a b : Bool) → of_bool.ghosts.eq a b ≡ true → a ≡ b
 bool_same a b h = search rules
@@ -144,3 +145,7 @@ inner_same (AccelerationStructure v) (AccelerationStructure w) h = search rules
 inner_same (RayQuery v) (RayQuery w) h = search rules
 inner_same (BindingArray base size) (BindingArray base' size') h = binding_array base base' size size' h
 inner_same _ _ h = cc
+
+-- `==` of two forms says whether they are equal
+pub inner_decides : (a b : TypeInner) → Decides (ghosts.eq a b) (a ≡ b)
+inner_decides a b = (inner_same a b, λ e. subst (λ (x : TypeInner). ghosts.eq a x ≡ true) e (inner_laws.laws-law.refl a))

@@ -2,6 +2,8 @@
 use Rattle.std.specs.Prelude.{ℕ, Bool as Truth, true, false}
 use Rattle.naga_ir_types.specs.declared.types.ScalarKind.{ScalarKind}
 use Rattle.naga_ir_types.specs.declared.types.ScalarKind.TheVariants.{Sint, Uint, Float, Bool, AbstractInt, AbstractFloat}
+use Rattle.naga_ir_types.specs.declared.types.CooperativeSize.{CooperativeSize}
+use Rattle.naga_ir_types.specs.declared.types.CooperativeSize.TheVariants.{Eight, Sixteen}
 use Rattle.naga_ir_types.specs.declared.types.VectorSize.{VectorSize}
 use Rattle.naga_ir_types.specs.declared.types.VectorSize.TheVariants.{Bi, Tri, Quad}
 
@@ -19,6 +21,11 @@ abbrev pub components : VectorSize → ℕ
 components Bi = 2
 components Tri = 3
 components Quad = 4
+
+-- how many columns or rows a cooperative matrix has
+abbrev pub cooperative_components : CooperativeSize → ℕ
+cooperative_components Eight = 8
+cooperative_components Sixteen = 16
 
 -- to how many components a vector is aligned
 abbrev pub vector_alignment : VectorSize → ℕ

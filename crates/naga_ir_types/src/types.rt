@@ -1,9 +1,9 @@
 //! Types of a module.
 
-ghost use Rattle.std.specs.Prelude.{◌≡◌, ◌↔◌, IfOk, IsTrue};
+ghost use Rattle.std.specs.Prelude.{◌≡◌, ◌↔◌, IfOk, IsOk, IsTrue};
 ghost use Rattle.naga_ir_types.specs.Plain.{IsPlain};
-ghost use Rattle.naga_ir_types.specs.Sizes.{components, is_numeric};
-ghost use Rattle.naga_ir_types.specs.TypeWords.{is_mipmapped, is_multisampled, pointer_base, scalar_of};
+ghost use Rattle.naga_ir_types.specs.Sizes.{components, cooperative_components, is_numeric};
+ghost use Rattle.naga_ir_types.specs.TypeWords.{IsNoStruct, is_mipmapped, is_multisampled, pointer_base, scalar_of};
 
 use naga_arena::handle::Handle;
 use naga_arena::list::List;
@@ -171,6 +171,18 @@ pub enum CooperativeSize {
     Eight,
     /// Sixteen.
     Sixteen,
+}
+
+impl CooperativeSize {
+    /// The number of columns or rows: 8 or 16.
+    pub fn components(self) -> u8
+        ensures { result ≡ cooperative_components self }
+    {
+        match self {
+            CooperativeSize::Eight => 8,
+            CooperativeSize::Sixteen => 16,
+        }
+    }
 }
 
 /// What a cooperative matrix stands for in a multiplication `a * b + c`.
@@ -402,7 +414,8 @@ pub enum TypeInner {
 impl TypeInner {
     /// An equal form, in memory of its own. Only a struct takes any.
     pub fn try_clone(&self) -> Result<TypeInner, OutOfMemory>
-        ensures { IfOk result (λ copy. copy ≡ self.now) }
+        ensures copy { IfOk result (λ copy. copy ≡ self.now) }
+        ensures no_struct { IsNoStruct self.now → IsOk result }
     {
         Ok(self.clone()?)
     }

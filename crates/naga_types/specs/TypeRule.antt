@@ -1,5 +1,5 @@
 -- The rule of one type.
-use Rattle.std.specs.Prelude.{ℕ, List, Result, Ok, Err, map, if◌then◌else◌}
+use Rattle.std.specs.Prelude.{ℕ, List, [], Result, Ok, Err, map, if◌then◌else◌}
 use Rattle.naga_flags.specs.Width.{width_rule}
 use Rattle.naga_flags.specs.declared.width.ImmediateError.{ImmediateError}
 use Rattle.naga_flags.specs.declared.width.WidthError.{WidthError}
@@ -34,10 +34,10 @@ shared_at flags alignment (Err e) = Err (BadWidth e)
 
 -- the info of a type, or why it is refused; no form but scalars, vectors and matrices has a rule
 abbrev pub type_rule : ℕ → TypeInner → Result TypeInfo TypeError
-type_rule capabilities (Scalar scalar) = shared_at (scalar_flags scalar.kind) (alignment_of (Scalar scalar)) (width_rule capabilities scalar)
-type_rule capabilities (Vector size scalar) = shared_at (scalar_flags scalar.kind) (alignment_of (Vector size scalar)) (width_rule capabilities scalar)
+type_rule capabilities (Scalar scalar) = shared_at (scalar_flags scalar.kind) (alignment_of [] (Scalar scalar)) (width_rule capabilities scalar)
+type_rule capabilities (Vector size scalar) = shared_at (scalar_flags scalar.kind) (alignment_of [] (Vector size scalar)) (width_rule capabilities scalar)
 type_rule capabilities (Matrix columns rows scalar) = elim scalar.kind [
-  | Float ↦ shared_at matrix_flags (alignment_of (Matrix columns rows scalar)) (width_rule capabilities scalar)
+  | Float ↦ shared_at matrix_flags (alignment_of [] (Matrix columns rows scalar)) (width_rule capabilities scalar)
   | _ ↦ Err MatrixElementNotFloat
 ]
 type_rule capabilities _ = Err MatrixElementNotFloat

@@ -1,5 +1,7 @@
 //! Answers that the rules give, by hand.
 
+ghost use Rattle.naga_ir.specs.Scope.{HasOnlyPlainTypes};
+
 use crate::error::{Disalignment, TypeError};
 use crate::info::{TypeContext, TypeInfo, TypeInfos};
 use crate::validate::validate_type;
@@ -7,6 +9,7 @@ use bitflags::Flags;
 use naga_flags::flags::{Capabilities, TypeFlags};
 use naga_flags::width::{ImmediateError, WidthError};
 use naga_ir::alignment::Alignment;
+use naga_ir::handle::Handle;
 use naga_ir::ir::Module;
 use naga_ir::span::Span;
 use naga_ir::text::StaticText;
@@ -17,6 +20,35 @@ use std::alloc::Global;
 use std::process::Abort;
 use std::test::Fail;
 
+/// Makes sure that a module is of the kind that is judged so far.
+fn assert_plain(rt: &impl Abort, module: &Module)
+    ensures { HasOnlyPlainTypes «module».now }
+{
+    assert!(rt; module.has_only_types());
+    assert!(rt; module.types.are_plain());
+}
+
+/// What is said of a module's first type, where all widths are powers of two.
+fn judged(
+    rt: &impl Abort,
+    alloc: Global,
+    capabilities: Capabilities,
+    module: &Module,
+) -> Result<Result<TypeInfo, TypeError>, Fail> {
+    assert_plain(rt, module);
+    assert!(rt; !module.types.is_empty());
+    let mut layouter = Layouter::new(alloc);
+    layouter.update(to_ctx(module))?;
+    let infos = TypeInfos::with_room(alloc, 0)?;
+    let ctx = TypeContext {
+        capabilities,
+        overrides_resolved: false,
+        infos: &infos,
+        layouter: &layouter,
+    };
+    Ok(validate_type(ctx, Handle::new(0), to_ctx(module)))
+}
+
 /// What is said of a module's only type, whose width is a power of two.
 fn said_of(
     rt: &impl Abort,
@@ -26,19 +58,8 @@ fn said_of(
 ) -> Result<Result<TypeInfo, TypeError>, Fail> {
     let mut module = Module::new(alloc);
     let ty = Type { name: None, inner };
-    let handle = module.types.insert(ty, Span::default())?;
-    assert!(rt; handle.index() < module.types.len());
-    assert!(rt; module.types.are_plain());
-    let mut layouter = Layouter::new(alloc);
-    layouter.update(to_ctx(&module))?;
-    let infos = TypeInfos::with_room(alloc, 0)?;
-    let ctx = TypeContext {
-        capabilities,
-        overrides_resolved: false,
-        infos: &infos,
-        layouter: &layouter,
-    };
-    Ok(validate_type(ctx, handle, to_ctx(&module)))
+    module.types.insert(ty, Span::default())?;
+    judged(rt, alloc, capabilities, &module)
 }
 
 fn scalar_of(kind: ScalarKind, width: u8) -> Scalar {

@@ -1,36 +1,38 @@
--- The layout of a type that was laid out.
-use Rattle.std.proofs.Common.{◌≡◌, ℕ, Bool, true, false, List, Some, Result, Ok, Err, slice_get, map, length, cond, refl, sym, ap, ◌∙◌}
-use Rattle.std.specs.Int.{is_power_of_two}
-use Rattle.std.specs.Option.{option_map}
-use Rattle.std.proofs.lemmas.List.{length-map}
-use Rattle.std.proofs.lemmas.Option.{same_Some, slice_get-map}
-use Rattle.naga_arena.specs.Results.{AllAccepted}
-use Rattle.naga_ir_types.specs.declared.types.«Type».{«Type»}
+-- Layouts follow from those of earlier types.
+use Rattle.std.proofs.Common.{◌≡◌, ◌<◌, ◌++◌, ◌∷◌, ℕ, suc, List, [], All, map, length, refl, ap, ◌∙◌, arith}
+use Rattle.naga_ir.specs.Handles.{GlobalReferencesOk}
+use Rattle.naga_ir.proofs.Reached.{parts_come_before}
+use Rattle.naga_ir.specs.ItemReferences.{GlobalLists}
+use Rattle.naga_ir_types.specs.declared.types.StructMember.{StructMember}
 use Rattle.naga_ir_types.specs.declared.types.TypeInner.{TypeInner}
-use Rattle.naga_typing.specs.Layout.{alignment_of, layout_results, layout_rule, size_of, width_of}
-use Rattle.naga_typing.specs.declared.layouter.LayoutErrorInner.{LayoutErrorInner}
-use Rattle.naga_typing.specs.declared.layouter.LayoutErrorInner.TheVariants.{NonPowerOfTwoWidth}
+use Rattle.naga_ir_types.specs.declared.types.TypeInner.TheVariants.{Array, Struct}
+use Rattle.naga_ir_types.proofs.PartLemmas.{base_is, members_are}
+use Rattle.naga_typing.proofs.WorkedOut.{LooksBack, get_stays}
+use Rattle.naga_typing.specs.Layout.{PartsLaidOut, alignment_at, alignment_in, alignment_of, greatest, layout_of, size_of}
 use Rattle.naga_typing.specs.declared.layouter.TypeLayout.{TypeLayout}
 
-alignment_found : (inner : TypeInner) (layout : TypeLayout) → layout_rule inner ≡ Ok layout → layout.alignment ≡ alignment_of inner
-alignment_found inner layout h = by_test (is_power_of_two (width_of inner)) h
-  where
-    by_test : (b : Bool) → cond b (Ok (record { size = size_of inner; alignment = alignment_of inner })) (Err NonPowerOfTwoWidth) ≡ Ok layout → layout.alignment ≡ alignment_of inner
-    by_test true h = let same : record { size = size_of inner; alignment = alignment_of inner } ≡ layout = cc in sym (ap (λ (l : TypeLayout). l.alignment) same)
-    by_test false h = cc
+-- the alignment at a place stays when more types are laid out
+at_stays : (layouts more : List TypeLayout) (t : ℕ) → t < length layouts → alignment_at (layouts ++ more) t ≡ alignment_at layouts t
+at_stays layouts more t within = ap alignment_in (get_stays layouts more t within)
 
--- where all types are laid out, the alignment at a type's place is that of the type
-pub alignment_at : (types : List «Type») (layouts : List TypeLayout) (i : ℕ) (t : «Type») (layout : TypeLayout)
-    → AllAccepted (layout_results types) layouts → slice_get types i ≡ Some t → slice_get layouts i ≡ Some layout → layout.alignment ≡ alignment_of t.inner
-alignment_at types layouts i t layout all at laid =
-    let rule : «Type» → Result TypeLayout LayoutErrorInner = λ (t : «Type»). layout_rule t.inner in
-    let oks : List (Result TypeLayout LayoutErrorInner) = map Ok layouts in
-    let found : slice_get (layout_results types) i ≡ Some (rule t) = slice_get-map rule types i ∙ ap (option_map rule) at in
-    let given : slice_get oks i ≡ Some (Ok layout) = slice_get-map Ok layouts i ∙ ap (option_map Ok) laid in
-    alignment_found t.inner layout (same_Some (rule t) (Ok layout) (sym found ∙ ap (λ l. slice_get l i) all ∙ given))
+members_stay : (layouts more : List TypeLayout) (members : List StructMember) → All (λ (m : StructMember). m.ty < length layouts) members
+    → map (λ (m : StructMember). alignment_at (layouts ++ more) m.ty) members ≡ map (λ (m : StructMember). alignment_at layouts m.ty) members
+members_stay layouts more [] all = refl
+members_stay layouts more (m ∷ members) all =
+    ap (λ a. a ∷ map (λ (m : StructMember). alignment_at (layouts ++ more) m.ty) members) (at_stays layouts more m.ty (all 0 m (omega arith)))
+    ∙ ap (λ rest. alignment_at layouts m.ty ∷ rest) (members_stay layouts more members (λ k d within. all (suc k) d (omega (arith, within))))
 
--- where all types are laid out, there are as many layouts as types
-pub as_many_layouts : (types : List «Type») (layouts : List TypeLayout) → AllAccepted (layout_results types) layouts → length layouts ≡ length types
-as_many_layouts types layouts all =
-    let ok : TypeLayout → Result TypeLayout LayoutErrorInner = λ (l : TypeLayout). Ok l in
-    sym (length-map layouts ok) ∙ sym (ap length all) ∙ length-map types (λ (t : «Type»). layout_rule t.inner)
+-- the alignment of a form stays when its parts are laid out already
+pub alignment_stays : (layouts more : List TypeLayout) (inner : TypeInner) → PartsLaidOut layouts inner → alignment_of (layouts ++ more) inner ≡ alignment_of layouts inner
+alignment_stays layouts more (Array base size stride) laid_out = at_stays layouts more base (base_is (λ (p : ℕ). p < length layouts) (Array base size stride) base size stride laid_out refl)
+alignment_stays layouts more (Struct members span) laid_out =
+    ap greatest (members_stay layouts more members (members_are (λ (p : ℕ). p < length layouts) (Struct members span) members span laid_out refl))
+alignment_stays layouts more _ laid_out = refl
+
+module _ (g : GlobalLists) (ok : GlobalReferencesOk g) where
+  -- a layout hangs on earlier ones alone
+  pub layouts_look_back : LooksBack (layout_of g) g.types
+  layouts_look_back t x layouts more at reached =
+      let laid_out : PartsLaidOut layouts x.inner = λ p stands. omega (arith, reached, parts_come_before g ok t x p at stands) in
+      let same = alignment_stays layouts more x.inner laid_out in
+      ap (λ (a : ℕ). let l : TypeLayout = record { size = size_of g x.inner; alignment = a } in l) same

@@ -1,2 +1,14 @@
+pub mod CheckedReferences
+pub mod Checking
+pub mod FormOperands
+pub mod Greatest
+pub mod LatestKinds
+pub mod Laying
 pub mod Layouts
+pub mod Named
+pub mod Pointers
 pub mod Powers
+pub mod Resolutions
+pub mod Resolving
+pub mod WorkedOut
+pub mod Working

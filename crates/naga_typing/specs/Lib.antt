@@ -1,1 +1,11 @@
+pub mod Constants
+pub mod Context
+pub mod Index
+pub mod Kinds
 pub mod Layout
+pub mod PlainLaws
+pub mod PlainTyping
+pub mod Resolutions
+pub mod tests
+pub mod Typings
+pub mod WorkedOut

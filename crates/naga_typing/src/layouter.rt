@@ -1,21 +1,29 @@
 //! The sizes and alignments of a module's types.
 
-ghost use Rattle.std.specs.Prelude.{◌≡◌, [], ◌∷◌, ◌++◌, OnErr};
+ghost use Rattle.std.specs.Prelude.{◌≡◌, ◌*◌, ◌<◌, [], ◌∷◌, ◌++◌, All, length, map, IfSome, is_some, IfErr, MatchResult, OnErr, Ok, Err};
+ghost use Rattle.std.specs.Int.{is_power_of_two};
 ghost use Rattle.naga_arena.specs.Memory.{AnsweredOrRefused};
-ghost use Rattle.naga_arena.specs.Results.{AllAccepted, IsFirstRefusal};
-ghost use Rattle.naga_ir_types.specs.Plain.{ArePlain, IsPlain};
-ghost use Rattle.naga_typing.specs.declared.layouter.TypeLayout.{TypeLayout};
-ghost use Rattle.naga_typing.specs.Layout.{alignment_of, layout_results, layout_rule, size_of};
+ghost use Rattle.naga_arena.specs.Results.{IsFirstRefusal};
+ghost use Rattle.naga_ir.specs.Handles.{GlobalReferencesOk};
+ghost use Rattle.naga_ir_types.specs.declared.types.StructMember as member;
+ghost use Rattle.naga_ir_types.specs.Sizes as sizes;
+ghost use Rattle.naga_typing.specs.Context.{ReferencesExist, lists_of};
+ghost use Rattle.naga_typing.specs.Layout as spec;
+ghost use Rattle.naga_typing.specs.Layout.{AreLayouts, PartsLaidOut, alignment_at, greatest, layout_of_inner, layout_results, layout_rule, size_of, size_rule, width_of};
 
 use crate::context::GlobalCtx;
+use crate::type_methods::{array_size, size_unless_array};
 use naga_ir::alignment::Alignment;
 use naga_ir::handle::Handle;
 use naga_ir::tags::TypeTag;
-use naga_ir::types::TypeInner;
+use naga_ir::types::{Scalar, StructMember, TypeInner, VectorSize};
 use std::alloc::{AllocFailed, Global};
 use std::marker::Model;
 use std::ops::Index;
 use thiserror::Error;
+
+/// The greatest size of an array, in bytes. The limit is naga's.
+pub const MAX_TYPE_SIZE: u32 = 2_147_483_647;
 
 /// The size of a type's values, in bytes, and their alignment.
 #[derive(Clone, Copy, Debug, PartialEq, Eq)]
@@ -27,6 +35,9 @@ pub struct TypeLayout {
 /// Why a type has no layout.
 #[derive(Clone, Copy, Debug, PartialEq, Error)]
 pub enum LayoutErrorInner {
+    /// An array is larger than `MAX_TYPE_SIZE`.
+    #[error("The array is larger than 2147483647 bytes")]
+    TooLarge,
     /// A scalar's width is no power of two.
     #[error("The scalar width is not a power of two")]
     NonPowerOfTwoWidth,
@@ -78,58 +89,31 @@ impl Model for Layouter {
     ghost view = { λ l. l.layouts.items };
 }
 
-/// The size of a value, in bytes: a column of three rows takes the room of four.
-fn size_of(inner: &TypeInner) -> u32
-    requires { IsPlain inner.now }
-    ensures { result ≡ size_of inner.now }
+/// The size of a value, in bytes, where it is no array or not too large.
+fn limited_size(inner: &TypeInner, gctx: GlobalCtx<'_>) -> Result<u32, LayoutErrorInner>
+    requires there { ReferencesExist (lists_of gctx) inner.now }
+    requires references { GlobalReferencesOk (lists_of gctx) }
+    ensures { MatchResult result (λ size. (size_rule (lists_of gctx.entry) inner.now ≡ Ok tt) × (size ≡ size_of (lists_of gctx.entry) inner.now))
+        (λ e. size_rule (lists_of gctx.entry) inner.now ≡ Err e) }
 {
     match inner {
-        TypeInner::Scalar(scalar) => u32::from(scalar.width),
-        TypeInner::Vector { size, scalar } => {
-            u32::from(size.components()) * u32::from(scalar.width)
+        TypeInner::Array { size, stride, .. } => {
+            match u32::try_from(array_size(*size, *stride, gctx)) {
+                Ok(bytes) if bytes <= MAX_TYPE_SIZE => Ok(bytes),
+                _ => Err(LayoutErrorInner::TooLarge),
+            }
         }
-        TypeInner::Matrix {
-            columns,
-            rows,
-            scalar,
-        } => {
-            let column = Alignment::from(*rows).get() * u32::from(scalar.width);
-            u32::from(columns.components()) * column
-        }
-        _ => unreachable!(),
+        _ => Ok(size_unless_array(inner)),
     }
 }
 
-/// To how many bytes a value is aligned, where that is a power of two.
-fn alignment_of(inner: &TypeInner) -> u32
-    requires { IsPlain inner.now }
-    ensures { result ≡ alignment_of inner.now }
+/// The alignment of a vector, where the width of its scalars is a power of two.
+#[tactic(auto, using(crate::proofs::Powers::power_of_vector))]
+fn vector_alignment(size: VectorSize, scalar: Scalar) -> Option<Alignment>
+    ensures power { is_some result ≡ is_power_of_two scalar.width }
+    ensures value { IfSome result (λ a. a ≡ sizes.vector_alignment size * scalar.width) }
 {
-    match inner {
-        TypeInner::Scalar(scalar) => u32::from(scalar.width),
-        TypeInner::Vector { size, scalar } => {
-            Alignment::from(*size).get() * u32::from(scalar.width)
-        }
-        TypeInner::Matrix { rows, scalar, .. } => {
-            Alignment::from(*rows).get() * u32::from(scalar.width)
-        }
-        _ => unreachable!(),
-    }
-}
-
-/// The layout of a value.
-#[tactic(auto, using(crate::proofs::Powers::power_of_width))]
-fn layout_of(inner: &TypeInner) -> Result<TypeLayout, LayoutErrorInner>
-    requires { IsPlain inner.now }
-    ensures { result ≡ layout_rule inner.now }
-{
-    match Alignment::new(alignment_of(inner)) {
-        Some(alignment) => Ok(TypeLayout {
-            size: size_of(inner),
-            alignment,
-        }),
-        None => Err(LayoutErrorInner::NonPowerOfTwoWidth),
-    }
+    Alignment::new(Alignment::from(size).get() * u32::from(scalar.width))
 }
 
 impl Layouter {
@@ -149,20 +133,28 @@ impl Layouter {
         self.layouts.clear();
     }
 
-    /// Lays out the types of a module, which are scalars, vectors and matrices, and forgets what was
-    /// laid out before.
+    /// Lays out the types of a module, and forgets what was laid out before.
     ///
-    /// `LayoutError` names the first type with a width that is no power of two, or the type at which
-    /// memory was refused. It leaves no layouts.
+    /// Sizes are those of `size`. A vector is aligned to 2 or 4 times the width of its scalars (a
+    /// vector of three to 4 times), a matrix as one of its columns, an array as its base, and a
+    /// struct as that of its members which is aligned most, or to 1 where there are none; scalars,
+    /// atomics and cooperative matrices to the width, and all else to 1. The rule is naga's, and
+    /// for types that a buffer may hold WGSL's.
+    ///
+    /// `LayoutError` names the first type that has no layout: an array of more than `MAX_TYPE_SIZE`
+    /// bytes (`TooLarge`), or a scalar, vector, matrix, cooperative matrix or atomic with a width
+    /// that is no power of two (`NonPowerOfTwoWidth`); or the type at which memory was refused. It
+    /// leaves no layouts. The cost is linear in the types and their members.
     pub fn update(&mut self, gctx: GlobalCtx<'_>) -> Result<(), LayoutError>
-        requires { ArePlain gctx.types.now }
-        ensures answer { AnsweredOrRefused (λ e. e.inner ≡ LayoutErrorInner.OutOfMemory) result (λ _. AllAccepted (layout_results gctx.entry.types.now) self.new)
-            (λ e. IsFirstRefusal (layout_results gctx.entry.types.now) e.ty e.inner) }
+        requires { GlobalReferencesOk (lists_of gctx) }
+        ensures answer { AnsweredOrRefused (λ e. e.inner ≡ LayoutErrorInner.OutOfMemory) result (λ _. AreLayouts (lists_of gctx.entry) self.new)
+            (λ e. IsFirstRefusal (layout_results (lists_of gctx.entry)) e.ty e.inner) }
+        ensures place { IfErr result (λ e. e.ty < length gctx.entry.types.now) }
         ensures cleared { OnErr result (self.new ≡ []) }
     {
         self.clear();
         for (ty, type_) in gctx.types.iter() {
-            if let Err(inner) = self.append(&type_.inner) {
+            if let Err(inner) = self.append(&type_.inner, gctx) {
                 self.clear();
                 return Err(inner.with(ty));
             }
@@ -171,15 +163,72 @@ impl Layouter {
     }
 
     /// Lays out one more type.
-    fn append(&mut self, inner: &TypeInner) -> Result<(), LayoutErrorInner>
-        requires { IsPlain inner.now }
+    fn append(&mut self, inner: &TypeInner, gctx: GlobalCtx<'_>) -> Result<(), LayoutErrorInner>
+        requires laid_out { PartsLaidOut self.old inner.now }
+        requires there { ReferencesExist (lists_of gctx) inner.now }
+        requires references { GlobalReferencesOk (lists_of gctx) }
         ensures { AnsweredOrRefused (λ e. e ≡ LayoutErrorInner.OutOfMemory) result
-            (λ _. (layout : TypeLayout) × (layout_rule inner.now ≡ Ok layout) × (self.new ≡ self.old ++ layout ∷ []))
-            (λ e. layout_rule inner.now ≡ Err e) }
+            (λ _. (layout_rule (lists_of gctx.entry) inner.now ≡ Ok tt) × (self.new ≡ self.old ++ layout_of_inner (lists_of gctx.entry) self.old inner.now ∷ []))
+            (λ e. layout_rule (lists_of gctx.entry) inner.now ≡ Err e) }
     {
-        let layout = layout_of(inner)?;
+        let layout = self.layout_of(inner, gctx)?;
         self.layouts.push(layout)?;
         Ok(())
+    }
+
+    /// The layout of one type.
+    fn layout_of(
+        &self,
+        inner: &TypeInner,
+        gctx: GlobalCtx<'_>,
+    ) -> Result<TypeLayout, LayoutErrorInner>
+        requires laid_out { PartsLaidOut self.now inner.now }
+        requires there { ReferencesExist (lists_of gctx) inner.now }
+        requires references { GlobalReferencesOk (lists_of gctx) }
+        ensures { MatchResult result (λ layout. (layout_rule (lists_of gctx.entry) inner.now ≡ Ok tt) × (layout ≡ layout_of_inner (lists_of gctx.entry) self.now inner.now))
+            (λ e. layout_rule (lists_of gctx.entry) inner.now ≡ Err e) }
+    {
+        let Some(alignment) = self.alignment_of(inner) else {
+            return Err(LayoutErrorInner::NonPowerOfTwoWidth);
+        };
+        let size = limited_size(inner, gctx)?;
+        Ok(TypeLayout { size, alignment })
+    }
+
+    /// The alignment of a value, where the width of its scalars is a power of two.
+    #[tactic(auto, using(crate::proofs::Powers::power_of_one))]
+    fn alignment_of(&self, inner: &TypeInner) -> Option<Alignment>
+        requires { PartsLaidOut self.now inner.now }
+        ensures power { is_some result ≡ is_power_of_two (width_of inner.now) }
+        ensures value { IfSome result (λ a. a ≡ spec.alignment_of self.now inner.now) }
+    {
+        match inner {
+            TypeInner::Scalar(scalar)
+            | TypeInner::Atomic(scalar)
+            | TypeInner::CooperativeMatrix { scalar, .. } => {
+                Alignment::new(u32::from(scalar.width))
+            }
+            TypeInner::Vector { size, scalar } => vector_alignment(*size, *scalar),
+            TypeInner::Matrix { rows, scalar, .. } => vector_alignment(*rows, *scalar),
+            TypeInner::Array { base, .. } => Some(self[*base].alignment),
+            TypeInner::Struct { members, .. } => Some(self.greatest_alignment(members.as_slice())),
+            _ => Some(Alignment::ONE),
+        }
+    }
+
+    /// The greatest alignment of some members, and 1 where there are none.
+    fn greatest_alignment(&self, members: &[StructMember]) -> Alignment
+        requires { All (λ (m : member.StructMember). m.ty < length self.now) members.now }
+        ensures { result ≡ greatest (map (λ (m : member.StructMember). alignment_at self.now m.ty) members.now) }
+    {
+        let mut alignment = Alignment::ONE;
+        for member in members {
+            let next = self[member.ty].alignment;
+            if next > alignment {
+                alignment = next;
+            }
+        }
+        alignment
     }
 }
 

@@ -1,7 +1,14 @@
-//! What a module's types are, apart from any rule on them: their sizes and alignments.
+//! What a module's types and expressions are, apart from any rule on them: sizes and alignments,
+//! numbers that expressions give, when their values are known, and their types.
 #![tactic(auto)]
 
 pub mod context;
+pub mod expression_kind;
+pub mod index;
 pub mod layouter;
+pub mod plain_typing;
 #[cfg(test)]
 mod tests;
+pub mod type_methods;
+pub mod typifier;
+pub mod typing;

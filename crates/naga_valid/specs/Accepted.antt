@@ -5,6 +5,7 @@ use Rattle.naga_flags.specs.declared.flags.Capabilities.{Capabilities}
 use Rattle.naga_flags.specs.declared.flags.TypeFlags.{TypeFlags}
 use Rattle.naga_flags.specs.declared.flags.ValidationFlags.{ValidationFlags}
 use Rattle.naga_arena.specs.Results.{AllAccepted, IsFirstRefusal}
+use Rattle.naga_ir.specs.ItemReferences.{global_lists}
 use Rattle.naga_ir.specs.declared.ir.Module.{Module}
 use Rattle.naga_ir_types.specs.declared.types.«Type».{«Type»}
 use Rattle.naga_types.specs.TypeRule.{type_results}
@@ -26,7 +27,7 @@ settings_of state resolved = record { flags = state.flags; capabilities = state.
 
 -- each type has a layout, and each keeps its rule, which gives these infos
 pub record IsAccepted (m : Module) (settings : Settings) (infos : List TypeInfo) : Type 0 where
-  pub layouts : All IsOk (layout_results m.types)
+  pub layouts : All IsOk (layout_results (global_lists m))
   pub types : AllAccepted (type_results settings.capabilities.0 m.types) infos
 
 -- what each type may be used for
@@ -43,7 +44,7 @@ IsNameOf types place name = (t : «Type») × (slice_get types place ≡ Some t)
 
 -- the first refusal of a module: of its layouts, else of its types
 abbrev pub IsRefusal : Module → Settings → ValidationError → Type 0
-IsRefusal m settings (Layouter e) = IsFirstRefusal (layout_results m.types) e.ty e.inner
+IsRefusal m settings (Layouter e) = IsFirstRefusal (layout_results (global_lists m)) e.ty e.inner
 IsRefusal m settings (Type_ handle name source) =
-    All IsOk (layout_results m.types) × IsFirstRefusal (type_results settings.capabilities.0 m.types) handle source × IsNameOf m.types handle name
+    All IsOk (layout_results (global_lists m)) × IsFirstRefusal (type_results settings.capabilities.0 m.types) handle source × IsNameOf m.types handle name
 IsRefusal m settings OutOfMemory = ⊥

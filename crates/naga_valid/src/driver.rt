@@ -3,11 +3,12 @@
 ghost use Rattle.std.specs.Prelude.{◌≡◌, ◌<◌, ◌⊎◌, [], length, IfOk, OnErr, OnOk, Some, slice_get, false, true, unwrap_or};
 ghost use Rattle.naga_arena.specs.Memory.{AnsweredOrRefused};
 ghost use Rattle.naga_arena.specs.Results.{AllAccepted};
+ghost use Rattle.naga_ir.specs.ItemReferences.{global_lists};
 ghost use Rattle.naga_arena.specs.Span.{inner_of};
 ghost use Rattle.naga_ir.specs.Scope.{HasOnlyPlainTypes};
 ghost use Rattle.naga_ir_types.specs.Plain.{ArePlain};
 ghost use Rattle.naga_types.specs.TypeRule.{type_results};
-ghost use Rattle.naga_typing.specs.Layout.{layout_results};
+ghost use Rattle.naga_typing.specs.Layout.{AreLayouts};
 ghost use Rattle.naga_valid.specs.Accepted.{AcceptsWith, IsRefusal, Settings, flags_of, settings_of};
 
 use crate::error::ValidationError;
@@ -161,15 +162,17 @@ impl Validator {
 
 /// Lays out a module's types.
 fn lay_out(layouter: &mut Layouter, module: &Module) -> Result<(), ValidationError>
-    requires { ArePlain «module».now.types }
-    ensures { AnsweredOrRefused (λ e. e ≡ ValidationError.OutOfMemory) result (λ _. AllAccepted (layout_results «module».now.types) layouter.new)
+    requires { HasOnlyPlainTypes «module».now }
+    ensures { AnsweredOrRefused (λ e. e ≡ ValidationError.OutOfMemory) result (λ _. AreLayouts (global_lists «module».now) layouter.new)
         (λ e. (settings : Settings) → IsRefusal «module».now settings e) }
 {
     match layouter.update(to_ctx(module)) {
         Ok(()) => Ok(()),
         Err(error) => match error.inner {
             LayoutErrorInner::OutOfMemory => Err(ValidationError::OutOfMemory),
-            LayoutErrorInner::NonPowerOfTwoWidth => Err(ValidationError::from(error)),
+            LayoutErrorInner::TooLarge | LayoutErrorInner::NonPowerOfTwoWidth => {
+                Err(ValidationError::from(error))
+            }
         },
     }
 }
@@ -197,7 +200,7 @@ fn validate_types(
     infos: &mut TypeInfos,
 ) -> Result<ModuleInfo, ValidationError>
     requires plain { ArePlain «module».now.types }
-    requires laid_out { AllAccepted (layout_results «module».now.types) layouter.now }
+    requires laid_out { AreLayouts (global_lists «module».now) layouter.now }
     ensures { AnsweredOrRefused (λ e. e ≡ ValidationError.OutOfMemory) result
         (λ info. AllAccepted (type_results capabilities.0 «module».now.types) infos.new.infos × (info.type_flags ≡ flags_of infos.new.infos))
         (λ e. (settings : Settings) → settings.capabilities ≡ capabilities → IsRefusal «module».now settings e) }
@@ -241,7 +244,7 @@ fn type_info_of(
 ) -> Result<TypeInfo, TypeError>
     requires exists { handle < length «module».now.types }
     requires plain { ArePlain «module».now.types }
-    requires laid_out { AllAccepted (layout_results «module».now.types) layouter.now }
+    requires laid_out { AreLayouts (global_lists «module».now) layouter.now }
     ensures { slice_get (type_results capabilities.0 «module».now.types) handle ≡ Some result }
 {
     let ctx = TypeContext {

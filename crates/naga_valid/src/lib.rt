@@ -10,47 +10,114 @@ pub mod error;
 pub use driver::Validator;
 pub use error::ValidationError;
 pub use naga_exprs::module_info::ModuleInfo;
-pub use naga_flags::flags::{Capabilities, TypeFlags, ValidationFlags};
-pub use naga_flags::width::{ImmediateCompatibility, ImmediateError, WidthError, check_width};
+pub use naga_flags::flags::Capabilities;
+pub use naga_flags::flags::TypeFlags;
+pub use naga_flags::flags::ValidationFlags;
+pub use naga_flags::width::ImmediateCompatibility;
+pub use naga_flags::width::ImmediateError;
+pub use naga_flags::width::WidthError;
+pub use naga_flags::width::check_width;
 pub use naga_ir::alignment::Alignment;
 pub use naga_ir::arena::Arena;
-pub use naga_ir::expression::{
-    BinaryOperator, Expression, ImageQuery, Literal, MathFunction, RelationalFunction, SampleLevel,
-    SwizzleComponent, UnaryOperator,
-};
-pub use naga_ir::handle::{BadHandle, Handle, Kind};
-pub use naga_ir::ir::{
-    Constant, DiagnosticFilterNode, DocComments, EntryPoint, Function, FunctionArgument,
-    FunctionResult, GlobalVariable, LocalVariable, MeshStageInfo, Module, Override, SpecialTypes,
-};
+pub use naga_ir::expression::BinaryOperator;
+pub use naga_ir::expression::Expression;
+pub use naga_ir::expression::ImageQuery;
+pub use naga_ir::expression::Literal;
+pub use naga_ir::expression::MathFunction;
+pub use naga_ir::expression::RelationalFunction;
+pub use naga_ir::expression::SampleLevel;
+pub use naga_ir::expression::SwizzleComponent;
+pub use naga_ir::expression::UnaryOperator;
+pub use naga_ir::handle::BadHandle;
+pub use naga_ir::handle::Handle;
+pub use naga_ir::handle::Kind;
+pub use naga_ir::ir::Constant;
+pub use naga_ir::ir::DiagnosticFilterNode;
+pub use naga_ir::ir::DocComments;
+pub use naga_ir::ir::EntryPoint;
+pub use naga_ir::ir::Function;
+pub use naga_ir::ir::FunctionArgument;
+pub use naga_ir::ir::FunctionResult;
+pub use naga_ir::ir::GlobalVariable;
+pub use naga_ir::ir::LocalVariable;
+pub use naga_ir::ir::MeshStageInfo;
+pub use naga_ir::ir::Module;
+pub use naga_ir::ir::Override;
+pub use naga_ir::ir::SpecialTypes;
 pub use naga_ir::iter::Iter;
 pub use naga_ir::list::List;
 pub use naga_ir::memory::OutOfMemory;
 pub use naga_ir::operands::Operands;
 pub use naga_ir::parts::Parts;
-pub use naga_ir::range::{BadRangeError, Range};
+pub use naga_ir::range::BadRangeError;
+pub use naga_ir::range::Range;
 pub use naga_ir::reference::Reference;
-pub use naga_ir::span::{Span, WithSpan};
-pub use naga_ir::statement::{
-    AtomicFunction, Block, GatherMode, RayPipelineFunction, RayQueryFunction, Statement,
-    SubgroupOperation, SwitchCase,
-};
-pub use naga_ir::tags::{
-    ConstantTag, DiagnosticFilterNodeTag, ExpressionTag, FunctionTag, GlobalVariableTag,
-    LocalVariableTag, OverrideTag, TypeTag,
-};
-pub use naga_ir::text::{StaticText, Text};
-pub use naga_ir::types::{
-    AddressSpace, ArraySize, BOOL_WIDTH, Binding, CooperativeRole, CooperativeSize, ImageClass,
-    ImageDimension, Scalar, ScalarKind, StorageAccess, StorageFormat, StructMember, Type,
-    TypeInner, VectorSize,
-};
+pub use naga_ir::span::Span;
+pub use naga_ir::span::WithSpan;
+pub use naga_ir::statement::AtomicFunction;
+pub use naga_ir::statement::Block;
+pub use naga_ir::statement::GatherMode;
+pub use naga_ir::statement::RayPipelineFunction;
+pub use naga_ir::statement::RayQueryFunction;
+pub use naga_ir::statement::Statement;
+pub use naga_ir::statement::SubgroupOperation;
+pub use naga_ir::statement::SwitchCase;
+pub use naga_ir::tags::ConstantTag;
+pub use naga_ir::tags::DiagnosticFilterNodeTag;
+pub use naga_ir::tags::ExpressionTag;
+pub use naga_ir::tags::FunctionTag;
+pub use naga_ir::tags::GlobalVariableTag;
+pub use naga_ir::tags::LocalVariableTag;
+pub use naga_ir::tags::OverrideTag;
+pub use naga_ir::tags::TypeTag;
+pub use naga_ir::text::StaticText;
+pub use naga_ir::text::Text;
+pub use naga_ir::types::AddressSpace;
+pub use naga_ir::types::ArraySize;
+pub use naga_ir::types::BOOL_WIDTH;
+pub use naga_ir::types::Binding;
+pub use naga_ir::types::CooperativeRole;
+pub use naga_ir::types::CooperativeSize;
+pub use naga_ir::types::ImageClass;
+pub use naga_ir::types::ImageDimension;
+pub use naga_ir::types::Scalar;
+pub use naga_ir::types::ScalarKind;
+pub use naga_ir::types::StorageAccess;
+pub use naga_ir::types::StorageFormat;
+pub use naga_ir::types::StructMember;
+pub use naga_ir::types::Type;
+pub use naga_ir::types::TypeInner;
+pub use naga_ir::types::VectorSize;
 pub use naga_ir::unique_arena::UniqueArena;
-pub use naga_types::error::{Disalignment, TypeError};
-pub use naga_types::info::{LayoutCompatibility, TypeContext, TypeInfo, TypeInfos};
+pub use naga_types::error::Disalignment;
+pub use naga_types::error::TypeError;
+pub use naga_types::info::LayoutCompatibility;
+pub use naga_types::info::TypeContext;
+pub use naga_types::info::TypeInfo;
+pub use naga_types::info::TypeInfos;
 pub use naga_types::validate::validate_type;
-pub use naga_typing::context::{GlobalCtx, to_ctx};
-pub use naga_typing::layouter::{LayoutError, LayoutErrorInner, Layouter, TypeLayout};
+pub use naga_typing::context::ConstValueError;
+pub use naga_typing::context::GlobalCtx;
+pub use naga_typing::context::get_const_val_from;
+pub use naga_typing::context::to_ctx;
+pub use naga_typing::expression_kind::ExpressionKind;
+pub use naga_typing::expression_kind::ExpressionKindTracker;
+pub use naga_typing::index::IndexableLength;
+pub use naga_typing::index::IndexableLengthError;
+pub use naga_typing::index::indexable_length_pending;
+pub use naga_typing::index::indexable_length_resolved;
+pub use naga_typing::layouter::LayoutError;
+pub use naga_typing::layouter::LayoutErrorInner;
+pub use naga_typing::layouter::Layouter;
+pub use naga_typing::layouter::MAX_TYPE_SIZE;
+pub use naga_typing::layouter::TypeLayout;
+pub use naga_typing::plain_typing::PlainTyping;
+pub use naga_typing::type_methods::size;
+pub use naga_typing::type_methods::try_size;
+pub use naga_typing::typifier::ResolveError;
+pub use naga_typing::typifier::TypeResolution;
+pub use naga_typing::typifier::compare_types;
+pub use naga_typing::typing::Typing;
 
 #[cfg(test)]
 mod tests;

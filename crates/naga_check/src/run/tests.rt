@@ -3,6 +3,7 @@
 use crate::counted::Counted;
 use crate::report::Outcome;
 use crate::run::{RunFault, run, status};
+use std::alloc::Global;
 use std::io;
 use std::io::{Error, ErrorKind, Read, Write};
 use std::test::Fail;
@@ -54,8 +55,20 @@ const TEXT: &str =
 /// The report on it, of 27 bytes.
 const REPORT: &str = "T0 ff 2 2\nT1 ff 16 16\nok\n";
 
+/// Runs, and answers how that ended, how many reads and writes failed, and the writer.
+fn run_counted<R: Read + Drop, W: Write + Drop>(
+    alloc: Global,
+    reader: R,
+    writer: W,
+) -> (Result<Outcome, RunFault>, (u64, u64), W) {
+    let mut reader = Counted::new(reader);
+    let mut writer = Counted::new(writer);
+    let ended = run(alloc, &mut reader, &mut writer);
+    (ended, (reader.failed, writer.failed), writer.inner)
+}
+
 #[test]
-fn texts_are_reported_on(rt: HostRuntime) -> Result<(), Fail> {
+fn texts_are_reported_on(rt: HostRuntime) {
     for (text, want, code) in [
         (
             "type scalar float 4\ntype vector 4 float 4\ntype matrix 2 3 float 4\n",
@@ -99,106 +112,90 @@ fn texts_are_reported_on(rt: HostRuntime) -> Result<(), Fail> {
         ),
         (TEXT, REPORT, 0),
     ] {
-        let mut reader = Counted::new(text.as_bytes());
-        let mut writer = Counted::new(Vec::new(rt.alloc()));
-        let ended = run(rt.alloc(), &mut reader, &mut writer);
+        let output = Vec::new(rt.alloc());
+        let (ended, failed, output) = run_counted(rt.alloc(), text.as_bytes(), output);
         assert_eq!(rt; status(&ended), code, "{text:?}");
-        assert!(rt; writer.inner.as_slice() == want.as_bytes(), "{text:?}");
-        assert_eq!(rt; (reader.failed, writer.failed), (0, 0));
+        assert!(rt; output.as_slice() == want.as_bytes(), "{text:?}");
+        assert_eq!(rt; failed, (0, 0));
     }
-    Ok(())
 }
 
 #[test]
-fn any_bytes_have_a_report(rt: HostRuntime) -> Result<(), Fail> {
-    let mut reader = Counted::new(b"#\xff\x00\n\xff\n".as_slice());
-    let mut writer = Counted::new(Vec::new(rt.alloc()));
-    let ended = run(rt.alloc(), &mut reader, &mut writer);
+fn any_bytes_have_a_report(rt: HostRuntime) {
+    let text = b"#\xff\x00\n\xff\n".as_slice();
+    let (ended, _, output) = run_counted(rt.alloc(), text, Vec::new(rt.alloc()));
     assert_eq!(rt; ended, Ok(Outcome::Unreadable));
-    assert!(rt; writer.inner.as_slice() == b"line 2 not readable\n".as_slice());
-    Ok(())
+    assert!(rt; output.as_slice() == b"line 2 not readable\n".as_slice());
 }
 
 #[test]
-fn each_read_fails_in_turn(rt: HostRuntime) -> Result<(), Fail> {
+fn each_read_fails_in_turn(rt: HostRuntime) {
     // Calls 0 to 21 give 4 bytes at most, and call 22 tells the end.
     let reads = TEXT.len().div_ceil(4);
     for bad in 0..30 {
-        let mut reader = Counted::new(Failing {
+        let reader = Failing {
             inner: TEXT.as_bytes(),
             step: 4,
             bad,
             calls: 0,
-        });
-        let mut writer = Counted::new(Vec::new(rt.alloc()));
-        let ended = run(rt.alloc(), &mut reader, &mut writer);
+        };
+        let (ended, (failed, _), output) = run_counted(rt.alloc(), reader, Vec::new(rt.alloc()));
         if bad <= reads {
             assert_eq!(rt; ended, Err(RunFault::Read), "{bad}");
             assert_eq!(rt; status(&ended), 3);
-            assert_eq!(rt; reader.failed, 1);
-            assert!(rt; writer.inner.is_empty());
+            assert_eq!(rt; failed, 1);
+            assert!(rt; output.is_empty());
         } else {
             assert_eq!(rt; ended, Ok(Outcome::Accepted), "{bad}");
-            assert_eq!(rt; reader.failed, 0);
+            assert_eq!(rt; failed, 0);
         }
     }
-    Ok(())
 }
 
 #[test]
-fn each_write_and_the_flush_fail_in_turn(rt: HostRuntime) -> Result<(), Fail> {
+fn each_write_and_the_flush_fail_in_turn(rt: HostRuntime) {
     // Calls 0 to 4 take 5 bytes each, and call 5 flushes.
     let out = REPORT.as_bytes();
     let writes = out.len().div_ceil(5);
     for bad in 0..10 {
-        let mut reader = Counted::new(TEXT.as_bytes());
-        let mut writer = Counted::new(Failing {
+        let writer = Failing {
             inner: Vec::new(rt.alloc()),
             step: 5,
             bad,
             calls: 0,
-        });
-        let ended = run(rt.alloc(), &mut reader, &mut writer);
+        };
+        let (ended, (_, failed), writer) = run_counted(rt.alloc(), TEXT.as_bytes(), writer);
         let len = out.len().min(bad.saturating_mul(5));
-        assert!(rt; writer.inner.inner.as_slice() == &out[..len], "{bad}");
+        assert!(rt; writer.inner.as_slice() == &out[..len], "{bad}");
         if bad <= writes {
             assert_eq!(rt; ended, Err(RunFault::Write), "{bad}");
             assert_eq!(rt; status(&ended), 3);
-            assert_eq!(rt; writer.failed, 1);
+            assert_eq!(rt; failed, 1);
         } else {
             assert_eq!(rt; ended, Ok(Outcome::Accepted), "{bad}");
-            assert_eq!(rt; writer.failed, 0);
+            assert_eq!(rt; failed, 0);
         }
     }
-    Ok(())
 }
 
 #[test]
-fn a_writer_that_takes_nothing_more_is_a_fault(rt: HostRuntime) -> Result<(), Fail> {
-    let mut reader = Counted::new(TEXT.as_bytes());
+fn a_writer_that_takes_nothing_more_is_a_fault(rt: HostRuntime) {
     let mut room = [0u8; 7];
-    let mut writer = Counted::new(&mut room[..]);
-    let ended = run(rt.alloc(), &mut reader, &mut writer);
+    let (ended, (_, failed), left) = run_counted(rt.alloc(), TEXT.as_bytes(), &mut room[..]);
     assert_eq!(rt; ended, Err(RunFault::Write));
-    assert_eq!(rt; writer.failed, 1);
-    assert!(rt; writer.inner.is_empty());
-    Ok(())
+    assert_eq!(rt; failed, 1);
+    assert!(rt; left.is_empty());
 }
 
 #[test]
 fn faults_have_messages(rt: HostRuntime) -> Result<(), Fail> {
-    let alloc = rt.alloc();
-    assert_eq!(rt;
-        format!(in alloc; "{}", RunFault::Read)?.as_str(),
-        "reading failed"
-    );
-    assert_eq!(rt;
-        format!(in alloc; "{}", RunFault::Write)?.as_str(),
-        "writing failed"
-    );
-    assert_eq!(rt;
-        format!(in alloc; "{}", RunFault::OutOfMemory)?.as_str(),
-        "out of memory"
-    );
+    for (fault, message) in [
+        (RunFault::Read, "reading failed"),
+        (RunFault::Write, "writing failed"),
+        (RunFault::OutOfMemory, "out of memory"),
+    ] {
+        let text = format!(in rt.alloc(); "{fault}")?;
+        assert_eq!(rt; text.as_str(), message);
+    }
     Ok(())
 }

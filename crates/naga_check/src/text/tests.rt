@@ -1,18 +1,37 @@
 //! Rows of texts.
 
-use crate::text::{TextError, read_text};
+use crate::text::{Contents, TextError, read_text};
 use bitflags::Flags;
 use naga_valid::{Capabilities, ValidationFlags};
-use std::test::Fail;
+
+/// What a text says, with the number of its types in the place of its module.
+#[derive(Clone, Copy)]
+struct Summary {
+    types: usize,
+    flags: ValidationFlags,
+    capabilities: Capabilities,
+    resolved: bool,
+}
+
+/// Counts the types, and lets go of the module.
+fn summary_of(contents: Contents) -> Summary {
+    let summary = Summary {
+        types: contents.module.types.len(),
+        flags: contents.flags,
+        capabilities: contents.capabilities,
+        resolved: contents.resolved,
+    };
+    drop(contents);
+    summary
+}
 
 /// How many types a text has.
 fn types_of(rt: HostRuntime, text: &[u8]) -> Result<usize, TextError> {
-    let contents = read_text(rt.alloc(), text)?;
-    Ok(contents.module.types.len())
+    Ok(read_text(rt.alloc(), text).map(summary_of)?.types)
 }
 
 #[test]
-fn texts_are_read(rt: HostRuntime) -> Result<(), Fail> {
+fn texts_are_read(rt: HostRuntime) {
     for (text, want) in [
         ("", 0),
         ("# flags 64\n\n#", 0),
@@ -34,11 +53,10 @@ fn texts_are_read(rt: HostRuntime) -> Result<(), Fail> {
         assert_eq!(rt; types_of(rt, text.as_bytes()), Ok(want), "{text:?}");
     }
     assert_eq!(rt; types_of(rt, b"# any bytes \xff\n"), Ok(0));
-    Ok(())
 }
 
 #[test]
-fn lines_are_refused(rt: HostRuntime) -> Result<(), Fail> {
+fn lines_are_refused(rt: HostRuntime) {
     for (text, line) in [
         ("type scalar uint 4\ntype scalar uint 4", 2),
         ("type vector 2 uint 4\n\n#\ntype vector 02 uint 04\n", 4),
@@ -71,18 +89,20 @@ fn lines_are_refused(rt: HostRuntime) -> Result<(), Fail> {
             "{text:?}"
         );
     }
-    Ok(())
 }
 
 #[test]
-fn settings_are_as_given(rt: HostRuntime) -> Result<(), Fail> {
-    let contents = read_text(rt.alloc(), b"").expect(&rt, "readable");
-    assert!(rt; contents.flags == ValidationFlags::default());
-    assert!(rt; contents.capabilities == Capabilities::default());
-    assert!(rt; !contents.resolved);
-    let contents = read_text(rt.alloc(), b"caps 5\nresolved\nflags 3").expect(&rt, "readable");
-    assert!(rt; contents.flags.bits() == 3);
-    assert!(rt; contents.capabilities.bits() == 5);
-    assert!(rt; contents.resolved);
-    Ok(())
+fn settings_are_as_given(rt: HostRuntime) {
+    let given = read_text(rt.alloc(), b"")
+        .map(summary_of)
+        .expect(&rt, "readable");
+    assert!(rt; given.flags == ValidationFlags::default());
+    assert!(rt; given.capabilities == Capabilities::default());
+    assert!(rt; !given.resolved);
+    let given = read_text(rt.alloc(), b"caps 5\nresolved\nflags 3")
+        .map(summary_of)
+        .expect(&rt, "readable");
+    assert!(rt; given.flags.bits() == 3);
+    assert!(rt; given.capabilities.bits() == 5);
+    assert!(rt; given.resolved);
 }

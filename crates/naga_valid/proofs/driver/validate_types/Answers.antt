@@ -1,13 +1,12 @@
-use Rattle.std.proofs.Common.{List, [], ◌∷◌, ◌++◌, Result, sym, subst, ap, ◌∙◌, inr}
+use Rattle.std.proofs.Common.{[], ◌∷◌, ◌++◌, sym, subst, ap, ◌∙◌, inr}
 use Rattle.std.proofs.lemmas.List.{length-map, map-append}
 use Rattle.std.proofs.lemmas.Option.{slice_get_within}
-use Rattle.naga_arena.proofs.Progress.{accepted_ok, begun, stands, went_on, ended, refused}
+use Rattle.naga_arena.proofs.Progress.{begun, stands, went_on, ended, refused}
 use Rattle.naga_flags.specs.declared.flags.Capabilities.{Capabilities}
 use Rattle.naga_arena.specs.Results.{IsFirstRefusal}
 use Rattle.naga_ir_types.specs.declared.types.«Type».{«Type»}
 use Rattle.naga_types.specs.TypeRule.{type_results, type_rule}
 use Rattle.naga_types.specs.declared.info.TypeInfo.{TypeInfo}
-use Rattle.naga_typing.specs.Layout.{layout_results}
 use Rattle.naga_valid.specs.Accepted.{flags_of}
 use Rattle.naga_valid.proofs.driver.validate_types.Goals as goal
 
@@ -32,7 +31,7 @@ returns-in-Err c =
     let at = stands types results _ _ _ _ _ c.loop-handle.invariant.infos c.in-Some.ensures.steps in
     let first = refused types results _ _ _ _ _ _ c.loop-handle.invariant.infos c.in-Some.ensures.steps c.in-Err.ensures in
     inr (λ settings same. (
-      accepted_ok (layout_results types) _ c.requires.laid_out,
+      c.requires.laid_out.accepted,
       subst (λ (k : Capabilities). IsFirstRefusal (type_results k.0 types) c.in-Some.handle c.in-Err.source) (sym same) first,
       (c.in-Some.ty.now, at, c.in_ok-name-in-Err.ensures),
     ))

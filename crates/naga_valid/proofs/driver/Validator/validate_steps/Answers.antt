@@ -1,13 +1,10 @@
-use Rattle.std.proofs.Common.{◌≡◌, ◌⊎◌, List, Bool, ap, subst, sym, ◌∙◌, inl, inr, ⊎_elim}
+use Rattle.std.proofs.Common.{◌≡◌, ap, subst, sym, inl, inr, ⊎_elim}
 use Rattle.std.proofs.lemmas.Result.{MatchResult-weaker, err_from_is_err_and}
 use Rattle.naga_flags.specs.declared.flags.Capabilities.{Capabilities}
-use Rattle.naga_arena.proofs.Progress.{accepted_ok}
 use Rattle.naga_arena.specs.Results.{AllAccepted}
 use Rattle.naga_types.specs.TypeRule.{type_results}
-use Rattle.naga_typing.specs.Layout.{layout_results}
 use Rattle.naga_valid.specs.Accepted.{IsRefusal, Settings, settings_of}
 use Rattle.naga_valid.specs.State.{State}
-use Rattle.naga_valid.specs.declared.error.ValidationError.{ValidationError}
 use Rattle.naga_valid.specs.declared.error.ValidationError.TheVariants.{OutOfMemory}
 use Rattle.naga_valid.proofs.driver.Validator.validate_steps.Goals as goal
 
@@ -23,11 +20,10 @@ returns-clause-answer c =
     let types = c.args.module.now.types in
     let settings = settings_of c.args.self.now c.args.overrides_resolved in
     let same : c.self.inside.capabilities ≡ c.args.self.now.capabilities = ap (λ (s : State). s.capabilities) c.self.view_is in
-    let layouts = accepted_ok (layout_results types) _ c.in_ok-lay_out.ensures in
     MatchResult-weaker c.validate_types.result c.validate_types.ensures
     (λ info h. (
       record {
-        layouts = layouts;
+        layouts = c.in_ok-lay_out.ensures.accepted;
         types = subst (λ (k : Capabilities). AllAccepted (type_results k.0 types) c.validate_types.new.infos.infos) same h.0;
       },
       h.1,

@@ -1,0 +1,32 @@
+-- Laying out types in their order.
+use Rattle.std.proofs.Common.{◌≡◌, ◌<◌, ℕ, List, [], ◌∷◌, Result, subst}
+use Rattle.naga_ir.specs.Handles.{GlobalReferencesOk}
+use Rattle.naga_ir.specs.ItemReferences.{GlobalLists}
+use Rattle.naga_ir_types.specs.declared.types.«Type».{«Type»}
+use Rattle.naga_ir.proofs.Reached.{parts_come_before}
+use Rattle.naga_typing.proofs.Working.{Working, all_have_values, finished, next_item, next_place}
+use Rattle.naga_typing.specs.Layout.{AreLayouts, PartsLaidOut, layout_of, layout_rule}
+use Rattle.naga_typing.specs.declared.layouter.LayoutErrorInner.{LayoutErrorInner}
+use Rattle.naga_typing.specs.declared.layouter.TypeLayout.{TypeLayout}
+
+module _ (g : GlobalLists) where
+  abbrev pub accepts : «Type» → Result (Unit {0}) LayoutErrorInner
+  accepts t = layout_rule g t.inner
+
+  -- the types so far have these layouts, and these types are left
+  abbrev pub Laying : List TypeLayout → List (ℕ × «Type») → Type 0
+  Laying = Working (layout_of g) accepts g.types
+
+  -- the parts of the type that comes next are laid out
+  pub next_parts : GlobalReferencesOk g → (layouts : List TypeLayout) (left : List (ℕ × «Type»)) (n : ℕ) (t : «Type») (more : List (ℕ × «Type»)) → Laying layouts left → left ≡ (n, t) ∷ more
+      → PartsLaidOut layouts t.inner
+  next_parts ok layouts left n t more w e u names =
+      let there = next_item (layout_of g) accepts g.types layouts left n t more w e in
+      subst (λ (k : ℕ). u < k) (next_place (layout_of g) accepts g.types layouts left n t more w e) (parts_come_before g ok n t u there names)
+
+  -- when no type is left, all are laid out
+  pub all_laid_out : (layouts : List TypeLayout) (left : List (ℕ × «Type»)) → Laying layouts left → left ≡ [] → AreLayouts g layouts
+  all_laid_out layouts left w e = record {
+    accepted = finished (layout_of g) accepts g.types layouts left w e;
+    worked_out = all_have_values (layout_of g) accepts g.types layouts left w e;
+  }

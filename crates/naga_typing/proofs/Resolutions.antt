@@ -1,0 +1,12 @@
+-- Handles in forms and resolutions are there.
+use Rattle.std.proofs.Common.{◌≡◌, ◌<◌, ℕ, List, length, subst}
+use Rattle.naga_ir_types.specs.declared.types.«Type».{«Type»}
+use Rattle.naga_ir_types.specs.declared.types.AddressSpace.{AddressSpace}
+use Rattle.naga_ir_types.specs.declared.types.TypeInner.{TypeInner}
+use Rattle.naga_ir_types.specs.declared.types.TypeInner.TheVariants.{Pointer}
+use Rattle.naga_typing.proofs.Pointers.{parts_of_pointer}
+use Rattle.naga_typing.specs.Resolutions.{PartsExist}
+
+-- the base of a pointer is there
+pub base_exists : (types : List «Type») (inner : TypeInner) (base : ℕ) (space : AddressSpace) → PartsExist types inner → inner ≡ Pointer base space → base < length types
+base_exists types inner base space exist e = subst (PartsExist types) e exist base (parts_of_pointer base space)

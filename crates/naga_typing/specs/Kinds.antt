@@ -1,0 +1,58 @@
+-- When the value of an expression is known.
+use Rattle.std.specs.Prelude.{ℕ, List, [], ◌∷◌, map, slice_get, unwrap_or, Option, Some, ⊤}
+use Rattle.naga_ir.specs.References.{operands}
+use Rattle.naga_ir.specs.declared.expression.Expression.{Expression}
+use Rattle.naga_ir.specs.declared.expression.Expression.TheVariants as expression
+use Rattle.naga_typing.specs.declared.expression_kind.ExpressionKind.{ExpressionKind}
+use Rattle.naga_typing.specs.declared.expression_kind.ExpressionKind.TheVariants.{Const, Override, Runtime}
+
+-- the later of two kinds
+abbrev pub later : ExpressionKind → ExpressionKind → ExpressionKind
+later Const k = k
+later Override Const = Override
+later Override k = k
+later Runtime k = Runtime
+
+-- the latest of some kinds
+abbrev pub latest : List ExpressionKind → ExpressionKind
+latest [] = Const
+latest (k ∷ rest) = later k (latest rest)
+
+-- the kind of the expression at a place
+abbrev pub kind_at : List ExpressionKind → ℕ → ExpressionKind
+kind_at kinds e = unwrap_or (slice_get kinds e) Runtime
+
+-- the latest kind of what an expression is worked out from
+abbrev pub of_operands : List ExpressionKind → Expression → ExpressionKind
+of_operands kinds x = latest (map (kind_at kinds) (operands x))
+
+-- the kind of an expression, by those of other expressions
+abbrev pub kind_of : List ExpressionKind → Expression → ExpressionKind
+kind_of kinds (expression.Literal value) = Const
+kind_of kinds (expression.ZeroValue ty) = Const
+kind_of kinds (expression.Constant c) = Const
+kind_of kinds (expression.Override o) = Override
+kind_of kinds (expression.Compose ty components) = of_operands kinds (expression.Compose ty components)
+kind_of kinds (expression.Splat size value) = of_operands kinds (expression.Splat size value)
+kind_of kinds (expression.Access base index) = of_operands kinds (expression.Access base index)
+kind_of kinds (expression.AccessIndex base index) = of_operands kinds (expression.AccessIndex base index)
+kind_of kinds (expression.Swizzle size vector pattern) = of_operands kinds (expression.Swizzle size vector pattern)
+kind_of kinds (expression.Unary op expr) = of_operands kinds (expression.Unary op expr)
+kind_of kinds (expression.Binary op left right) = of_operands kinds (expression.Binary op left right)
+kind_of kinds (expression.Math fun arg arg1 arg2 arg3) = of_operands kinds (expression.Math fun arg arg1 arg2 arg3)
+kind_of kinds (expression.As expr kind convert) = of_operands kinds (expression.As expr kind convert)
+kind_of kinds (expression.Select condition accept reject) = of_operands kinds (expression.Select condition accept reject)
+kind_of kinds (expression.Relational fun argument) = of_operands kinds (expression.Relational fun argument)
+kind_of kinds (expression.ArrayLength expr) = of_operands kinds (expression.ArrayLength expr)
+kind_of kinds _ = Runtime
+
+-- a kind is there, and is that of a constant
+abbrev pub IsConst : Option ExpressionKind → Type 0
+IsConst (Some Const) = ⊤
+IsConst _ = ⊥
+
+-- a kind is there, and is that of a constant or an override
+abbrev pub IsConstOrOverride : Option ExpressionKind → Type 0
+IsConstOrOverride (Some Const) = ⊤
+IsConstOrOverride (Some Override) = ⊤
+IsConstOrOverride _ = ⊥

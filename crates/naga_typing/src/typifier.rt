@@ -1,0 +1,143 @@
+//! The types of expressions.
+
+ghost use Rattle.std.specs.Prelude.{◌≡◌, ◌↔◌, IfOk, IsFalse, IsOk, IsTrue, Some, unwrap_or};
+ghost use Rattle.naga_ir_types.specs.TypeWords.{IsNoStruct, IsStruct};
+ghost use Rattle.naga_typing.specs.Resolutions as spec;
+ghost use Rattle.naga_typing.specs.Resolutions.{AllPartsExist, AreSameTypes, IsProperResolution, PartsExist, ResolutionExists, inner_in};
+
+use naga_ir::handle::Handle;
+use naga_ir::memory::OutOfMemory;
+use naga_ir::tags::TypeTag;
+use naga_ir::types::TypeInner;
+use naga_ir::unique_arena::UniqueArena;
+use thiserror::Error;
+
+/// The type of an expression.
+#[derive(Clone, Debug, PartialEq, Drop)]
+pub enum TypeResolution {
+    /// A type of the module.
+    Handle(Handle<TypeTag>),
+    /// A type that need not stand in the module. It is no array, binding array or struct.
+    Value(TypeInner),
+}
+
+impl TypeResolution {
+    /// The handle of the type, where it is one of the module's.
+    pub fn handle(&self) -> Option<Handle<TypeTag>>
+        ensures { result ≡ spec.handle_of self.now }
+    {
+        match *self {
+            TypeResolution::Handle(handle) => Some(handle),
+            TypeResolution::Value(_) => None,
+        }
+    }
+
+    /// The form of the type.
+    pub fn inner_with<'a>(&'a self, types: &'a UniqueArena) -> &'a TypeInner
+        requires { ResolutionExists types.now self.now }
+        ensures { inner_in types.now self.now ≡ Some result.now }
+    {
+        match self {
+            TypeResolution::Handle(handle) => &types[*handle].inner,
+            TypeResolution::Value(inner) => inner,
+        }
+    }
+
+    /// An equal resolution. Only a struct that is given as a value takes memory, and `OutOfMemory`
+    /// says that it was refused.
+    pub fn try_clone(&self) -> Result<TypeResolution, OutOfMemory>
+        ensures copy { IfOk result (λ copy. copy ≡ self.now) }
+        ensures proper { IsProperResolution self.now → IsOk result }
+    {
+        Ok(match self {
+            TypeResolution::Handle(handle) => TypeResolution::Handle(*handle),
+            TypeResolution::Value(inner) => TypeResolution::Value(inner.try_clone()?),
+        })
+    }
+}
+
+/// Why an expression has no type.
+#[derive(Clone, Copy, Debug, PartialEq, Eq, Error)]
+pub enum ResolveError {
+    /// The operands have types that the expression can't be worked out from.
+    #[error("Incompatible operands")]
+    IncompatibleOperands,
+    /// The form of the expression is one that this typing doesn't know.
+    #[error("The type of the expression can't be resolved")]
+    NotResolvable,
+    /// A request for memory was refused.
+    #[error("Out of memory")]
+    OutOfMemory,
+}
+
+impl From<OutOfMemory> for ResolveError {
+    ghost use Rattle.std.specs.Prelude.{◌≡◌};
+    ghost use Rattle.naga_typing.specs.declared.typifier.ResolveError.TheVariants.{OutOfMemory};
+
+    ghost from_gives = { λ _ e. e ≡ OutOfMemory };
+
+    fn from(_: OutOfMemory) -> ResolveError {
+        ResolveError::OutOfMemory
+    }
+}
+
+/// Whether two types are one: structs where their handles are equal, and other types where their
+/// forms are, a pointer to a scalar or to a vector being written as a value pointer. The rule is
+/// naga's.
+pub fn compare_types(lhs: &TypeResolution, rhs: &TypeResolution, types: &UniqueArena) -> bool
+    requires lhs_exists { ResolutionExists types.now lhs.now }
+    requires rhs_exists { ResolutionExists types.now rhs.now }
+    requires parts_exist { AllPartsExist types.now }
+    ensures { IsTrue result ↔ AreSameTypes types.now lhs.now rhs.now }
+{
+    let left = lhs.inner_with(types);
+    let right = rhs.inner_with(types);
+    match (is_struct(left), is_struct(right)) {
+        (true, true) => lhs.handle().is_some() && lhs.handle() == rhs.handle(),
+        (false, false) => are_equivalent(left, right, types),
+        _ => false,
+    }
+}
+
+/// Whether a form is a struct.
+fn is_struct(inner: &TypeInner) -> bool
+    ensures yes { IsTrue result ↔ IsStruct inner.now }
+    ensures no { IsFalse result ↔ IsNoStruct inner.now }
+{
+    matches!(inner, TypeInner::Struct { .. })
+}
+
+/// Whether two forms are equal as they are compared.
+fn are_equivalent(left: &TypeInner, right: &TypeInner, types: &UniqueArena) -> bool
+    requires left_exists { PartsExist types.now left.now }
+    requires right_exists { PartsExist types.now right.now }
+    ensures { IsTrue result ↔ (spec.canonical types.now left.now ≡ spec.canonical types.now right.now) }
+{
+    let canonical_left = canonical_form(left, types);
+    let canonical_right = canonical_form(right, types);
+    canonical_left.as_ref().unwrap_or(left) == canonical_right.as_ref().unwrap_or(right)
+}
+
+/// A pointer to a scalar or to a vector as a value pointer. All other forms are compared as they
+/// are.
+fn canonical_form(inner: &TypeInner, types: &UniqueArena) -> Option<TypeInner>
+    requires { PartsExist types.now inner.now }
+    ensures { unwrap_or result inner.now ≡ spec.canonical types.now inner.now }
+{
+    let TypeInner::Pointer { base, space } = *inner else {
+        return None;
+    };
+    match types[base].inner {
+        TypeInner::Scalar(scalar) => Some(TypeInner::ValuePointer {
+            size: None,
+            scalar,
+            space,
+        }),
+        TypeInner::Vector { size, scalar } => Some(TypeInner::ValuePointer {
+            size: Some(size),
+            scalar,
+            space,
+        }),
+        _ => None,
+    }
+}
