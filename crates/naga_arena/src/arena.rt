@@ -114,6 +114,13 @@ impl<T: Drop, K> Arena<T, K> {
         Range::new(old_length as u32, length as u32)
     }
 
+    /// The items in order.
+    pub fn as_slice(&self) -> &[T]
+        ensures { result.now ≡ self.now }
+    {
+        &self.data
+    }
+
     /// The items with their handles, in order.
     pub fn iter(&self) -> Iter<'_, T, K>
         ensures { result ≡ enumerate_from 0 self.now }

@@ -40,6 +40,6 @@ plain_lines (ws ∷ words) (Type_ t ∷ said) h =
 -- a text says a module of scalars, vectors and matrices alone
 pub plain_text : (lines : List (List ℕ)) (contents : Contents) → IsText lines contents → HasOnlyPlainTypes contents.«module»
 plain_text lines contents text = record {
-  only_types = text.together.nothing_else;
+  only_types = text.together.nothing_else.documented_types;
   plain = subst ArePlain text.together.types (plain_lines _ text.said text.forms);
 }

@@ -3,14 +3,16 @@ use Rattle.std.specs.Fmt.{digit_glyph}
 use Rattle.std.specs.Prelude.{◌≡◌, ◌⊎◌, ℕ, ◌+◌, ◌/◌, ◌%◌, false, List, [], ◌∷◌, ◌++◌, Result, Ok, Err, codes, decimal}
 use Rattle.naga_types.specs.declared.error.Disalignment.{Disalignment}
 use Rattle.naga_types.specs.declared.error.Disalignment.TheVariants.{ArrayStride, StructSpan, MemberOffset, MemberOffsetAfterStruct, UnsizedMember, NonHostShareable}
+use Rattle.naga_handles.specs.declared.error.InvalidHandleError.{InvalidHandleError}
+use Rattle.naga_handles.specs.declared.error.InvalidHandleError.TheVariants.{BadHandle, ForwardDependency, BadRange}
 use Rattle.naga_types.specs.declared.error.TypeError.{TypeError}
-use Rattle.naga_types.specs.declared.error.TypeError.TheVariants.{MatrixElementNotFloat, WidthError}
+use Rattle.naga_types.specs.declared.error.TypeError.TheVariants.{InvalidData, MatrixElementNotFloat, WidthError}
 use Rattle.naga_types.specs.declared.info.TypeInfo.{TypeInfo}
 use Rattle.naga_typing.specs.declared.layouter.LayoutErrorInner.{LayoutErrorInner}
 use Rattle.naga_typing.specs.declared.layouter.LayoutErrorInner.TheVariants.{TooLarge, NonPowerOfTwoWidth, OutOfMemory}
 use Rattle.naga_valid.specs.Accepted.{IsAccepted, IsRefusal, Settings}
 use Rattle.naga_valid.specs.declared.error.ValidationError.{ValidationError}
-use Rattle.naga_valid.specs.declared.error.ValidationError.TheVariants.{Layouter, Type_, OutOfMemory as NoMemory}
+use Rattle.naga_valid.specs.declared.error.ValidationError.TheVariants.{InvalidHandle, Layouter, Type_, OutOfMemory as NoMemory}
 use Rattle.naga_check.specs.Text.{IsFirstUnreadable, IsText}
 use Rattle.naga_check.specs.Words.{lines_of}
 use Rattle.naga_check.specs.declared.report.Outcome.{Outcome}
@@ -49,13 +51,21 @@ type_lines i (info ∷ infos) = type_line i info ++ type_lines (i + 1) infos
 abbrev pub accepted_text : List TypeInfo → List ℕ
 accepted_text infos = type_lines 0 infos ++ codes "ok\n"
 
--- the names of refusals
+-- the name of what is wrong with a handle or range
+abbrev pub handle_error_name : InvalidHandleError → List ℕ
+handle_error_name (BadHandle source) = codes "BadHandle"
+handle_error_name (ForwardDependency source) = codes "ForwardDependency"
+handle_error_name (BadRange source) = codes "BadRange"
+
+-- the name of why a type has no layout
 abbrev pub layout_error_name : LayoutErrorInner → List ℕ
 layout_error_name TooLarge = codes "TooLarge"
 layout_error_name NonPowerOfTwoWidth = codes "NonPowerOfTwoWidth"
 layout_error_name OutOfMemory = codes "OutOfMemory"
 
+-- the name of the rule that a type breaks
 abbrev pub type_error_name : TypeError → List ℕ
+type_error_name (InvalidData handle) = codes "InvalidData"
 type_error_name MatrixElementNotFloat = codes "MatrixElementNotFloat"
 type_error_name (WidthError source) = codes "WidthError"
 
@@ -69,6 +79,7 @@ refused_memory_text = codes "refused memory\n"
 
 -- the report on a refused module
 abbrev pub refused_text : ValidationError → List ℕ
+refused_text (InvalidHandle e) = codes "refused handle " ++ (handle_error_name e ++ codes "\n")
 refused_text (Layouter e) = refused_line (codes "layout T") e.ty (layout_error_name e.inner)
 refused_text (Type_ handle name source) = refused_line (codes "type T") handle (type_error_name source)
 refused_text NoMemory = refused_memory_text

@@ -139,6 +139,10 @@ fn is_of_memory(rt: &impl Abort, error: &WithSpan<ValidationError>) -> bool {
             assert_eq!(rt; error.span(), Some(Span::new(1, 2)));
             false
         }
+        ValidationError::InvalidHandle(_) => {
+            assert!(rt; false, "no type names another");
+            false
+        }
         ValidationError::Layouter(_) => {
             assert!(rt; false, "each width is a power of two");
             false
@@ -148,7 +152,7 @@ fn is_of_memory(rt: &impl Abort, error: &WithSpan<ValidationError>) -> bool {
 
 /// Validates a filled module, and answers whether memory was refused.
 fn is_refused_in_call(rt: &impl Abort, validator: &mut Validator, module: &Module) -> bool {
-    assert!(rt; module.has_only_types());
+    assert!(rt; module.has_only_documented_types());
     assert!(rt; module.types.are_plain());
     let answer = validator.validate(module);
     assert_eq!(rt; validator.type_count(), 0);

@@ -1,14 +1,14 @@
 //! The report on a text.
 
 ghost use Rattle.naga_ir.specs.Scope.{HasOnlyPlainTypes};
-ghost use Rattle.naga_check.specs.Report.{IsReport, IsReportOn, accepted_text, disalignment_name, hex_byte, layout_error_name, layout_text, refused_text, type_error_name, type_line};
+ghost use Rattle.naga_check.specs.Report.{IsReport, IsReportOn, accepted_text, disalignment_name, handle_error_name, hex_byte, layout_error_name, layout_text, refused_text, type_error_name, type_line};
 ghost use Rattle.std.specs.Prelude.{◌≡◌, ◌++◌, IfOk, OnOk, codes, decimal, length, string_bytes};
 
 use crate::text::{Contents, TextError, read_text};
 use bitflags::Flags;
 use naga_valid::{
-    Disalignment, Handle, LayoutCompatibility, LayoutErrorInner, Module, TypeError, TypeFlags,
-    TypeInfo, TypeTag, ValidationError, Validator,
+    Disalignment, Handle, InvalidHandleError, LayoutCompatibility, LayoutErrorInner, Module,
+    TypeError, TypeFlags, TypeInfo, TypeTag, ValidationError, Validator,
 };
 use std::alloc::{AllocError, Global};
 
@@ -44,6 +44,17 @@ fn disalignment_name(disalignment: Disalignment) -> &'static str
     }
 }
 
+/// The name of what is wrong with a handle or range.
+fn handle_error_name(error: &InvalidHandleError) -> &'static str
+    ensures { result.now ≡ handle_error_name error.now }
+{
+    match error {
+        InvalidHandleError::BadHandle(_) => "BadHandle",
+        InvalidHandleError::ForwardDependency(_) => "ForwardDependency",
+        InvalidHandleError::BadRange(_) => "BadRange",
+    }
+}
+
 /// The name of why a type has no layout.
 fn layout_error_name(error: LayoutErrorInner) -> &'static str
     ensures { result.now ≡ layout_error_name error }
@@ -60,6 +71,7 @@ fn type_error_name(error: &TypeError) -> &'static str
     ensures { result.now ≡ type_error_name error.now }
 {
     match error {
+        TypeError::InvalidData(_) => "InvalidData",
         TypeError::MatrixElementNotFloat => "MatrixElementNotFloat",
         TypeError::WidthError(_) => "WidthError",
     }
@@ -117,6 +129,10 @@ fn refused(alloc: Global, error: &ValidationError) -> Result<String, AllocError>
     ensures { IfOk result (λ text. string_bytes text ≡ refused_text error.now) }
 {
     match error {
+        ValidationError::InvalidHandle(error) => {
+            let name = handle_error_name(error);
+            format!(in alloc; "refused handle {name}\n")
+        }
         ValidationError::Layouter(error) => {
             let index = error.ty.index();
             let name = layout_error_name(error.inner);

@@ -75,6 +75,33 @@ type_flags =
     (codes "CONSTRUCTIBLE", 128) ∷
     []
 
+-- the stages of a pipeline
+abbrev pub shader_stages : List (List ℕ × ℕ)
+shader_stages =
+    (codes "VERTEX", 1) ∷
+    (codes "FRAGMENT", 2) ∷
+    (codes "COMPUTE", 4) ∷
+    (codes "MESH", 8) ∷
+    (codes "TASK", 16) ∷
+    (codes "RAY_GENERATION", 32) ∷
+    (codes "ANY_HIT", 64) ∷
+    (codes "CLOSEST_HIT", 128) ∷
+    (codes "MISS", 256) ∷
+    (codes "COMPUTE_LIKE", 28) ∷
+    []
+
+-- the groups of operations among a subgroup
+abbrev pub subgroup_operations : List (List ℕ × ℕ)
+subgroup_operations =
+    (codes "BASIC", 1) ∷
+    (codes "VOTE", 2) ∷
+    (codes "ARITHMETIC", 4) ∷
+    (codes "BALLOT", 8) ∷
+    (codes "SHUFFLE", 16) ∷
+    (codes "SHUFFLE_RELATIVE", 32) ∷
+    (codes "QUAD_FRAGMENT_COMPUTE", 128) ∷
+    []
+
 -- whether a set has all bits of another
 abbrev pub has : ℕ → ℕ → Bool
 has set flags = bit_and set flags == flags

@@ -1,2 +1,4 @@
+pub mod Extensions
 pub mod Flags
+pub mod Subgroups
 pub mod Width

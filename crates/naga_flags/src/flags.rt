@@ -243,3 +243,116 @@ impl Flags for TypeFlags {
         TypeFlags(bits)
     }
 }
+
+/// Stages of a pipeline.
+#[derive(Clone, Copy, Debug, PartialEq, Eq)]
+pub struct ShaderStages(u16);
+
+bitflag_items! {
+    impl ShaderStages: u16 {
+        /// Vertex shaders.
+        const VERTEX = 0x1;
+        /// Fragment shaders.
+        const FRAGMENT = 0x2;
+        /// Compute shaders.
+        const COMPUTE = 0x4;
+        /// Mesh shaders.
+        const MESH = 0x8;
+        /// Task shaders.
+        const TASK = 0x10;
+        /// Shaders that generate rays.
+        const RAY_GENERATION = 0x20;
+        /// Shaders that judge a hit of a ray.
+        const ANY_HIT = 0x40;
+        /// Shaders for the closest hit of a ray.
+        const CLOSEST_HIT = 0x80;
+        /// Shaders for rays that hit nothing.
+        const MISS = 0x100;
+        /// Stages that run in workgroups: compute, mesh and task shaders.
+        const COMPUTE_LIKE = 0x1c;
+    }
+}
+
+impl Flags for ShaderStages {
+    ghost use Rattle.std.specs.Prelude.{⊤};
+    ghost use Rattle.naga_flags.specs.Flags.{shader_stages};
+
+    type Bits = u16;
+
+    ghost exact = { ⊤ };
+
+    ghost table = { shader_stages };
+
+    ghost set_of = { λ flags. flags.0 };
+
+    fn flags<'a>() -> &'a [Flag<ShaderStages>] {
+        ShaderStages::FLAGS
+    }
+
+    fn bits(&self) -> u16 {
+        self.0
+    }
+
+    fn from_bits_retain(bits: u16) -> ShaderStages {
+        ShaderStages(bits)
+    }
+}
+
+/// Operations among the invocations of a subgroup, in groups as devices have them.
+#[derive(Clone, Copy, Debug, PartialEq, Eq)]
+pub struct SubgroupOperationSet(u8);
+
+bitflag_items! {
+    impl SubgroupOperationSet: u8 {
+        /// Barriers.
+        const BASIC = 0x1;
+        /// Whether all or any agree.
+        const VOTE = 0x2;
+        /// Reductions and scans.
+        const ARITHMETIC = 0x4;
+        /// Ballots, and broadcasts.
+        const BALLOT = 0x8;
+        /// Values of any other invocation.
+        const SHUFFLE = 0x10;
+        /// Values of an invocation so many further or before.
+        const SHUFFLE_RELATIVE = 0x20;
+        /// Values within a quad, in fragment and compute shaders.
+        const QUAD_FRAGMENT_COMPUTE = 0x80;
+    }
+}
+
+impl Flags for SubgroupOperationSet {
+    ghost use Rattle.std.specs.Prelude.{⊤};
+    ghost use Rattle.naga_flags.specs.Flags.{subgroup_operations};
+
+    type Bits = u8;
+
+    ghost exact = { ⊤ };
+
+    ghost table = { subgroup_operations };
+
+    ghost set_of = { λ flags. flags.0 };
+
+    fn flags<'a>() -> &'a [Flag<SubgroupOperationSet>] {
+        SubgroupOperationSet::FLAGS
+    }
+
+    fn bits(&self) -> u8 {
+        self.0
+    }
+
+    fn from_bits_retain(bits: u8) -> SubgroupOperationSet {
+        SubgroupOperationSet(bits)
+    }
+}
+
+impl Default for SubgroupOperationSet {
+    ghost use Rattle.std.specs.Prelude.{◌≡◌};
+
+    ghost is_default = { λ flags. flags ≡ record { 0 = 0 } };
+
+    /// No operations.
+    fn default() -> SubgroupOperationSet {
+        SubgroupOperationSet(0)
+    }
+}

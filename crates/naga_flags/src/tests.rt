@@ -1,8 +1,12 @@
 //! Widths and flags as their tables have them, and the texts of errors.
 
-use crate::flags::{Capabilities, TypeFlags, ValidationFlags};
+use crate::extension::ImplementedEnableExtension;
+use crate::flags::{Capabilities, ShaderStages, SubgroupOperationSet, TypeFlags, ValidationFlags};
+use crate::subgroup::{required_operations, required_operations_of_gather};
 use crate::width::{ImmediateError, WidthError, check_width};
 use bitflags::Flags;
+use naga_ir::handle::Handle;
+use naga_ir::statement::{GatherMode, SubgroupOperation};
 use naga_ir::text::StaticText;
 use naga_ir::types::{Scalar, ScalarKind};
 use std::test::Fail;
@@ -13,6 +17,13 @@ fn all_flags_are_these(rt: HostRuntime) {
     assert_eq!(rt; Capabilities::flags().len(), 44);
     assert_eq!(rt; ValidationFlags::all().bits(), 0x3f);
     assert_eq!(rt; TypeFlags::all().bits(), 0xff);
+    assert_eq!(rt; ShaderStages::all().bits(), 0x1ff);
+    assert_eq!(rt; ShaderStages::COMPUTE_LIKE.bits(), 0x1c);
+    assert_eq!(rt;
+        ShaderStages::COMPUTE_LIKE,
+        ShaderStages::COMPUTE | ShaderStages::MESH | ShaderStages::TASK
+    );
+    assert_eq!(rt; SubgroupOperationSet::all().bits(), 0xbf);
 }
 
 #[test]
@@ -23,6 +34,10 @@ fn flags_of_the_default_sets_are_these(rt: HostRuntime) {
         Capabilities::MULTISAMPLED_SHADING | Capabilities::CUBE_ARRAY_TEXTURES
     );
     assert_eq!(rt; ValidationFlags::default(), ValidationFlags::all());
+    assert_eq!(rt;
+        SubgroupOperationSet::default(),
+        SubgroupOperationSet::empty()
+    );
 }
 
 #[test]
@@ -233,4 +248,57 @@ fn errors_say_what_is_wrong(rt: HostRuntime) -> Result<(), Fail> {
         "The scalar type Scalar { kind: Float, width: 2 } is not supported in immediates"
     );
     Ok(())
+}
+
+#[test]
+fn single_capabilities_stand_for_extensions(rt: HostRuntime) {
+    for (capabilities, extension) in [
+        (
+            Capabilities::SHADER_FLOAT16,
+            Some(ImplementedEnableExtension::F16),
+        ),
+        (
+            Capabilities::STORAGE_TEXTURE_BINDING_ARRAY_NON_UNIFORM_INDEXING,
+            Some(ImplementedEnableExtension::WgpuBindingArray),
+        ),
+        (Capabilities::SHADER_FLOAT16_IN_FLOAT32, None),
+        (
+            Capabilities::SHADER_FLOAT16 | Capabilities::SHADER_INT16,
+            None,
+        ),
+        (Capabilities::empty(), None),
+    ] {
+        assert_eq!(rt; capabilities.extension(), extension, "of {capabilities:?}");
+    }
+    let standing = Capabilities::flags()
+        .iter()
+        .filter(|flag| flag.value().extension().is_some());
+    assert_eq!(rt; standing.count(), 18);
+}
+
+#[test]
+fn operations_of_subgroups_are_these(rt: HostRuntime) {
+    for (op, operations) in [
+        (SubgroupOperation::Any, SubgroupOperationSet::VOTE),
+        (SubgroupOperation::Xor, SubgroupOperationSet::ARITHMETIC),
+    ] {
+        assert_eq!(rt; required_operations(op), operations);
+    }
+    for (mode, operations) in [
+        (GatherMode::BroadcastFirst, SubgroupOperationSet::BALLOT),
+        (
+            GatherMode::ShuffleXor(Handle::new(0)),
+            SubgroupOperationSet::SHUFFLE,
+        ),
+        (
+            GatherMode::ShuffleUp(Handle::new(0)),
+            SubgroupOperationSet::SHUFFLE_RELATIVE,
+        ),
+        (
+            GatherMode::QuadSwap,
+            SubgroupOperationSet::QUAD_FRAGMENT_COMPUTE,
+        ),
+    ] {
+        assert_eq!(rt; required_operations_of_gather(mode), operations);
+    }
 }

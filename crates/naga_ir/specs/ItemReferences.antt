@@ -27,9 +27,13 @@ use Rattle.naga_ir.specs.declared.reference.Reference.TheVariants as to
 abbrev pub type_references : TypeInner → List Reference
 type_references inner = map to.Type_ (parts inner) ++ map to.Override (optional (size_override inner))
 
--- an expression refers to its operands, to the type that it names and to the item that it names
+-- beside its operands an expression refers to the type that it names and to the item that it names
+abbrev pub named_references : Expression → List Reference
+named_references x = map to.Type_ (optional (named_type x)) ++ optional (named_item x)
+
+-- an expression refers to its operands, and to those
 abbrev pub expression_references : Expression → List Reference
-expression_references x = map to.Expression (operands x) ++ (map to.Type_ (optional (named_type x)) ++ optional (named_item x))
+expression_references x = map to.Expression (operands x) ++ named_references x
 
 -- a constant refers to its type and to its initialiser
 abbrev pub constant_references : Constant → List Reference

@@ -1,7 +1,7 @@
 //! A shader module and what it holds beside types, expressions and statements.
 
 ghost use Rattle.std.specs.Prelude.{◌≡◌, ◌↔◌, [], IsTrue, None};
-ghost use Rattle.naga_ir.specs.Scope.{HasNoComments, HasNoSpecialTypes, HasOnlyTypes};
+ghost use Rattle.naga_ir.specs.Scope.{HasNoComments, HasNoSpecialTypes, HasOnlyDocumentedTypes, HasOnlyTypes};
 
 use crate::expression::Expression;
 use crate::statement::Block;
@@ -269,9 +269,9 @@ impl Module {
         }
     }
 
-    /// Whether all but the types is empty.
-    pub fn has_only_types(&self) -> bool
-        ensures { IsTrue result ↔ HasOnlyTypes self.now }
+    /// Whether all but the types and the comments is empty.
+    pub fn has_only_documented_types(&self) -> bool
+        ensures { IsTrue result ↔ HasOnlyDocumentedTypes self.now }
     {
         self.special_types.is_empty()
             && self.constants.is_empty()
@@ -282,6 +282,5 @@ impl Module {
             && self.entry_points.is_empty()
             && self.diagnostic_filters.is_empty()
             && self.diagnostic_filter_leaf.is_none()
-            && self.doc_comments.is_empty()
     }
 }

@@ -2,6 +2,8 @@
 
 use naga_flags::width::WidthError;
 use naga_ir::alignment::Alignment;
+use naga_ir::handle::Handle;
+use naga_ir::tags::TypeTag;
 use std::fmt;
 use thiserror::Error;
 
@@ -77,6 +79,9 @@ impl fmt::Display for Disalignment {
 /// Why a type is refused.
 #[derive(Debug, PartialEq, Drop, Error)]
 pub enum TypeError {
+    /// A comment is on a member of a type that has no such member.
+    #[error("Expected data type, found {0:?}")]
+    InvalidData(Handle<TypeTag>),
     /// A matrix holds something other than floating-point numbers (WGSL).
     #[error("Matrix elements must always be floating-point types")]
     MatrixElementNotFloat,

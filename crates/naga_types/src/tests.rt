@@ -24,7 +24,7 @@ use std::test::Fail;
 fn assert_plain(rt: &impl Abort, module: &Module)
     ensures { HasOnlyPlainTypes «module».now }
 {
-    assert!(rt; module.has_only_types());
+    assert!(rt; module.has_only_documented_types());
     assert!(rt; module.types.are_plain());
 }
 

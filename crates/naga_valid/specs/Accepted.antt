@@ -1,19 +1,24 @@
 -- Which modules are accepted, and what is said of the others.
-use Rattle.std.specs.Prelude.{◌≡◌, ℕ, Bool, List, [], Some, All, IsOk, map, slice_get, unwrap_or}
+use Rattle.std.specs.Prelude.{◌≡◌, ◌⊎◌, ℕ, Bool, List, [], Some, All, IsOk, map, slice_get, unwrap_or}
 use Rattle.naga_exprs.specs.ModuleInfo.{ModuleInfoLists}
 use Rattle.naga_flags.specs.declared.flags.Capabilities.{Capabilities}
 use Rattle.naga_flags.specs.declared.flags.TypeFlags.{TypeFlags}
 use Rattle.naga_flags.specs.declared.flags.ValidationFlags.{ValidationFlags}
 use Rattle.naga_arena.specs.Results.{AllAccepted, IsFirstRefusal}
+use Rattle.naga_handles.specs.Faults.{IsFault, IsHandleFault}
+use Rattle.naga_handles.specs.declared.error.ValidationFault.TheVariants.{MissingMember}
+use Rattle.naga_ir.specs.Handles.{HandlesAccepted}
 use Rattle.naga_ir.specs.ItemReferences.{global_lists}
 use Rattle.naga_ir.specs.declared.ir.Module.{Module}
 use Rattle.naga_ir_types.specs.declared.types.«Type».{«Type»}
 use Rattle.naga_types.specs.TypeRule.{type_results}
+use Rattle.naga_types.specs.declared.error.TypeError.{TypeError}
+use Rattle.naga_types.specs.declared.error.TypeError.TheVariants.{InvalidData}
 use Rattle.naga_types.specs.declared.info.TypeInfo.{TypeInfo}
 use Rattle.naga_typing.specs.Layout.{layout_results}
 use Rattle.naga_valid.specs.State.{State}
 use Rattle.naga_valid.specs.declared.error.ValidationError.{ValidationError}
-use Rattle.naga_valid.specs.declared.error.ValidationError.TheVariants.{Layouter, Type_, OutOfMemory}
+use Rattle.naga_valid.specs.declared.error.ValidationError.TheVariants.{InvalidHandle, Layouter, Type_, OutOfMemory}
 
 -- what modules are judged by: the parts that are looked at, what may be used, and whether overrides have to have their values
 pub record Settings : Type 0 where
@@ -25,8 +30,9 @@ pub record Settings : Type 0 where
 abbrev pub settings_of : State → Bool → Settings
 settings_of state resolved = record { flags = state.flags; capabilities = state.capabilities; resolved = resolved }
 
--- each type has a layout, and each keeps its rule, which gives these infos
+-- all handles are right, each type has a layout, and each keeps its rule, which gives these infos
 pub record IsAccepted (m : Module) (settings : Settings) (infos : List TypeInfo) : Type 0 where
+  pub handles : HandlesAccepted m
   pub layouts : All IsOk (layout_results (global_lists m))
   pub types : AllAccepted (type_results settings.capabilities.0 m.types) infos
 
@@ -42,9 +48,18 @@ AcceptsWith m settings infos info = IsAccepted m settings infos × (info.type_fl
 abbrev pub IsNameOf : List «Type» → ℕ → List ℕ → Type 0
 IsNameOf types place name = (t : «Type») × (slice_get types place ≡ Some t) × (name ≡ unwrap_or t.name [])
 
--- the first refusal of a module: of its layouts, else of its types
+-- a comment is on a member that the type at this place doesn't have
+abbrev pub IsMissingMember : Module → ℕ → List ℕ → TypeError → Type 0
+IsMissingMember m handle name source = IsFault m (MissingMember handle name) × (source ≡ InvalidData handle)
+
+-- all handles are right and all types have layouts, and this is the first that breaks its rule
+abbrev pub IsFirstBroken : Module → Settings → ℕ → List ℕ → TypeError → Type 0
+IsFirstBroken m settings handle name source =
+    HandlesAccepted m × All IsOk (layout_results (global_lists m)) × IsFirstRefusal (type_results settings.capabilities.0 m.types) handle source × IsNameOf m.types handle name
+
+-- a refusal of a module: a fault of its handles, else the first of its layouts, else of its types
 abbrev pub IsRefusal : Module → Settings → ValidationError → Type 0
-IsRefusal m settings (Layouter e) = IsFirstRefusal (layout_results (global_lists m)) e.ty e.inner
-IsRefusal m settings (Type_ handle name source) =
-    All IsOk (layout_results (global_lists m)) × IsFirstRefusal (type_results settings.capabilities.0 m.types) handle source × IsNameOf m.types handle name
+IsRefusal m settings (InvalidHandle e) = IsHandleFault m e
+IsRefusal m settings (Layouter e) = HandlesAccepted m × IsFirstRefusal (layout_results (global_lists m)) e.ty e.inner
+IsRefusal m settings (Type_ handle name source) = IsMissingMember m handle name source ⊎ IsFirstBroken m settings handle name source
 IsRefusal m settings OutOfMemory = ⊥

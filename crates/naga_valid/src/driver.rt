@@ -3,6 +3,7 @@
 ghost use Rattle.std.specs.Prelude.{◌≡◌, ◌<◌, ◌⊎◌, [], length, IfOk, OnErr, OnOk, Some, slice_get, false, true, unwrap_or};
 ghost use Rattle.naga_arena.specs.Memory.{AnsweredOrRefused};
 ghost use Rattle.naga_arena.specs.Results.{AllAccepted};
+ghost use Rattle.naga_ir.specs.Handles.{HandlesAccepted};
 ghost use Rattle.naga_ir.specs.ItemReferences.{global_lists};
 ghost use Rattle.naga_arena.specs.Span.{inner_of};
 ghost use Rattle.naga_ir.specs.Scope.{HasOnlyPlainTypes};
@@ -14,6 +15,7 @@ ghost use Rattle.naga_valid.specs.Accepted.{AcceptsWith, IsRefusal, Settings, fl
 use crate::error::ValidationError;
 use naga_exprs::module_info::ModuleInfo;
 use naga_flags::flags::{Capabilities, ValidationFlags};
+use naga_handles::handles::validate_module_handles;
 use naga_ir::handle::Handle;
 use naga_ir::ir::Module;
 use naga_ir::memory::OutOfMemory;
@@ -73,11 +75,12 @@ impl Validator {
     }
 
     /// Whether a module keeps all rules, and what is known of it then. So far the module holds nothing
-    /// but types, and these are scalars, vectors and matrices.
+    /// but types and comments, and the types are scalars, vectors and matrices.
     ///
-    /// The error is the first refusal: of a type without layout, `ValidationError::Layouter`; else of
-    /// a type that breaks its rule, `ValidationError::Type_`. After an error, want of memory too, the
-    /// validator is as after `reset`.
+    /// The error is a refusal: of a handle or range that isn't right, `ValidationError::InvalidHandle`,
+    /// or of a comment on a missing member, `Type_` with `InvalidData`; else the first of a type
+    /// without layout, `Layouter`; else the first of a type that breaks its rule, `Type_`. The last two
+    /// have the span of the type. After an error, want of memory too, the validator is as after `reset`.
     pub fn validate(&mut self, module: &Module) -> Result<ModuleInfo, WithSpan<ValidationError>>
         requires { HasOnlyPlainTypes «module».now }
         ensures answer { AnsweredOrRefused (λ e. inner_of e ≡ ValidationError.OutOfMemory) result (AcceptsWith «module».now (settings_of self.old false) self.new.infos)
@@ -113,6 +116,10 @@ impl Validator {
         ensures cleared { OnErr result (self.new.infos ≡ []) }
         ensures settings { self.new ≡ record self.old { infos = self.new.infos } }
     {
+        if let Err(fault) = validate_module_handles(self.alloc, module) {
+            self.reset();
+            return Err(WithSpan::new(ValidationError::from(fault)));
+        }
         match self.validate_steps(module, overrides_resolved) {
             Ok(info) => Ok(info),
             Err(error) => {
@@ -122,13 +129,14 @@ impl Validator {
         }
     }
 
-    /// The rules in their order, up to the first refusal.
+    /// The rules that come after that of handles, in their order, up to the first refusal.
     fn validate_steps(
         &mut self,
         module: &Module,
         overrides_resolved: bool,
     ) -> Result<ModuleInfo, ValidationError>
-        requires { HasOnlyPlainTypes «module».now }
+        requires handles { HandlesAccepted «module».now }
+        requires plain { HasOnlyPlainTypes «module».now }
         ensures answer { AnsweredOrRefused (λ e. e ≡ ValidationError.OutOfMemory) result (AcceptsWith «module».now (settings_of self.old overrides_resolved) self.new.infos)
             (IsRefusal «module».now (settings_of self.old overrides_resolved)) }
         ensures settings { self.new ≡ record self.old { infos = self.new.infos } }
@@ -162,7 +170,7 @@ impl Validator {
 
 /// Lays out a module's types.
 fn lay_out(layouter: &mut Layouter, module: &Module) -> Result<(), ValidationError>
-    requires { HasOnlyPlainTypes «module».now }
+    requires { HandlesAccepted «module».now }
     ensures { AnsweredOrRefused (λ e. e ≡ ValidationError.OutOfMemory) result (λ _. AreLayouts (global_lists «module».now) layouter.new)
         (λ e. (settings : Settings) → IsRefusal «module».now settings e) }
 {
@@ -185,7 +193,7 @@ fn with_span(error: ValidationError, module: &Module) -> WithSpan<ValidationErro
     let span = match &error {
         ValidationError::Layouter(LayoutError { ty, .. }) => module.types.get_span(*ty),
         ValidationError::Type_ { handle, .. } => module.types.get_span(*handle),
-        ValidationError::OutOfMemory => Span::default(),
+        ValidationError::InvalidHandle(_) | ValidationError::OutOfMemory => Span::default(),
     };
     WithSpan::new(error).with_span(span)
 }
@@ -199,6 +207,7 @@ fn validate_types(
     layouter: &Layouter,
     infos: &mut TypeInfos,
 ) -> Result<ModuleInfo, ValidationError>
+    requires handles { HandlesAccepted «module».now }
     requires plain { ArePlain «module».now.types }
     requires laid_out { AreLayouts (global_lists «module».now) layouter.now }
     ensures { AnsweredOrRefused (λ e. e ≡ ValidationError.OutOfMemory) result

@@ -1,7 +1,9 @@
 //! Why a module is refused.
 
-use naga_ir::handle::Handle;
+use naga_handles::error::{FwdDepError, InvalidHandleError, ValidationFault};
+use naga_ir::handle::{BadHandle, Handle};
 use naga_ir::memory::OutOfMemory;
+use naga_ir::range::BadRangeError;
 use naga_ir::tags::TypeTag;
 use naga_ir::text::Text;
 use naga_types::error::TypeError;
@@ -11,10 +13,15 @@ use thiserror::Error;
 /// Why a module is refused.
 #[derive(Debug, PartialEq, Drop, Error)]
 pub enum ValidationError {
+    /// A handle or range isn't right.
+    #[error("{0}")]
+    InvalidHandle(InvalidHandleError),
     /// A type has no layout.
     #[error("{0}")]
     Layouter(LayoutError),
-    /// A type breaks its rule. The name is empty where the type has none.
+    /// A type breaks its rule, or a comment is on a member that it doesn't have (`InvalidData`). The
+    /// name is empty where the type has none; on a comment it then is what is wrong, `Unknown` where
+    /// the type is no struct, else `members length incorrect`.
     #[error("Type {handle:?} '{name}' is invalid")]
     Type_ {
         handle: Handle<TypeTag>,
@@ -24,6 +31,71 @@ pub enum ValidationError {
     /// A request for memory was refused. Nothing is said of the module.
     #[error("Out of memory")]
     OutOfMemory,
+}
+
+impl From<InvalidHandleError> for ValidationError {
+    ghost use Rattle.std.specs.Prelude.{◌≡◌};
+    ghost use Rattle.naga_valid.specs.declared.error.ValidationError.TheVariants as variant;
+
+    ghost from_gives = { λ source error. error ≡ variant.InvalidHandle source };
+
+    fn from(source: InvalidHandleError) -> ValidationError {
+        ValidationError::InvalidHandle(source)
+    }
+}
+
+impl From<BadHandle> for ValidationError {
+    ghost use Rattle.std.specs.Prelude.{◌≡◌};
+    ghost use Rattle.naga_handles.specs.declared.error.InvalidHandleError.TheVariants.{BadHandle};
+    ghost use Rattle.naga_valid.specs.declared.error.ValidationError.TheVariants as variant;
+
+    ghost from_gives = { λ source error. error ≡ variant.InvalidHandle (BadHandle source) };
+
+    fn from(source: BadHandle) -> ValidationError {
+        ValidationError::InvalidHandle(source.into())
+    }
+}
+
+impl From<FwdDepError> for ValidationError {
+    ghost use Rattle.std.specs.Prelude.{◌≡◌};
+    ghost use Rattle.naga_handles.specs.declared.error.InvalidHandleError.TheVariants.{ForwardDependency};
+    ghost use Rattle.naga_valid.specs.declared.error.ValidationError.TheVariants as variant;
+
+    ghost from_gives = { λ source error. error ≡ variant.InvalidHandle (ForwardDependency source) };
+
+    fn from(source: FwdDepError) -> ValidationError {
+        ValidationError::InvalidHandle(source.into())
+    }
+}
+
+impl From<BadRangeError> for ValidationError {
+    ghost use Rattle.std.specs.Prelude.{◌≡◌};
+    ghost use Rattle.naga_handles.specs.declared.error.InvalidHandleError.TheVariants.{BadRange};
+    ghost use Rattle.naga_valid.specs.declared.error.ValidationError.TheVariants as variant;
+
+    ghost from_gives = { λ source error. error ≡ variant.InvalidHandle (BadRange source) };
+
+    fn from(source: BadRangeError) -> ValidationError {
+        ValidationError::InvalidHandle(source.into())
+    }
+}
+
+impl From<ValidationFault> for ValidationError {
+    ghost use Rattle.naga_valid.specs.Faults.{IsErrorOf};
+
+    ghost from_gives = { IsErrorOf };
+
+    fn from(fault: ValidationFault) -> ValidationError {
+        match fault {
+            ValidationFault::Invalid(source) => ValidationError::InvalidHandle(source),
+            ValidationFault::MissingMember { handle, name } => ValidationError::Type_ {
+                handle,
+                name,
+                source: TypeError::InvalidData(handle),
+            },
+            ValidationFault::OutOfMemory => ValidationError::OutOfMemory,
+        }
+    }
 }
 
 impl From<LayoutError> for ValidationError {

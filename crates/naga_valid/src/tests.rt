@@ -3,13 +3,23 @@
 ghost use Rattle.naga_ir.specs.Scope.{HasOnlyPlainTypes};
 
 use crate::{
-    Alignment, Capabilities, Handle, LayoutError, LayoutErrorInner, Module, OutOfMemory, Scalar,
+    Alignment, BadHandle, BadRangeError, Capabilities, FunctionTag, FwdDepError, Handle,
+    InvalidHandleError, LayoutError, LayoutErrorInner, List, Module, OutOfMemory, Scalar,
     ScalarKind, Span, StaticText, Text, Type, TypeError, TypeFlags, TypeInner, TypeTag,
     ValidationError, ValidationFlags, Validator, VectorSize, WidthError, WithSpan,
 };
 use std::alloc::Global;
 use std::process::Abort;
 use std::test::Fail;
+
+/// What `judge` makes of a module, which is empty at first. No other function here owns a module, since
+/// each exit of a function drops what it owns, and the proof goes through each.
+fn with_module<R, F: FnOnce(&mut Module) -> R>(alloc: Global, judge: F) -> R
+    requires { F.IsAlwaysCallable judge }
+{
+    let mut module = Module::new(alloc);
+    judge(&mut module)
+}
 
 /// A validator of whole modules.
 fn validator_under(alloc: Global, capabilities: Capabilities) -> Validator {
@@ -39,7 +49,7 @@ fn add(
 fn assert_plain(rt: &impl Abort, module: &Module)
     ensures { HasOnlyPlainTypes «module».now }
 {
-    assert!(rt; module.has_only_types());
+    assert!(rt; module.has_only_documented_types());
     assert!(rt; module.types.are_plain());
 }
 
@@ -87,8 +97,9 @@ fn refusal_of(
 
 #[test]
 fn an_empty_module_is_accepted(rt: HostRuntime) -> Result<(), Fail> {
-    let module = Module::new(rt.alloc());
-    is_accepted_empty(&rt, rt.alloc(), &module)
+    with_module(rt.alloc(), |module| {
+        is_accepted_empty(&rt, rt.alloc(), module)
+    })
 }
 
 /// Makes sure that an empty module is accepted, and that nothing is known of it.
@@ -108,9 +119,10 @@ fn is_accepted_empty(rt: &impl Abort, alloc: Global, module: &Module) -> Result<
 
 #[test]
 fn types_of_f32_are_accepted(rt: HostRuntime) -> Result<(), Fail> {
-    let mut module = Module::new(rt.alloc());
-    add_types_of_f32(&rt, &mut module)?;
-    are_accepted_as_f32(&rt, rt.alloc(), &module)
+    with_module(rt.alloc(), |module| {
+        add_types_of_f32(&rt, module)?;
+        are_accepted_as_f32(&rt, rt.alloc(), module)
+    })
 }
 
 /// Adds a scalar, a vector and a matrix.
@@ -170,9 +182,10 @@ fn refusal_of_floats(
     alloc: Global,
     widths: &[u8],
 ) -> Result<WithSpan<ValidationError>, Fail> {
-    let mut module = Module::new(alloc);
-    add_floats(rt, &mut module, widths)?;
-    refusal_of(rt, alloc, &module)
+    with_module(alloc, |module| {
+        add_floats(rt, module, widths)?;
+        refusal_of(rt, alloc, module)
+    })
 }
 
 #[test]
@@ -192,9 +205,10 @@ fn a_missing_capability_refuses_the_first_type_that_wants_it(rt: HostRuntime) ->
 
 #[test]
 fn a_given_capability_lets_the_type_in(rt: HostRuntime) -> Result<(), Fail> {
-    let mut module = Module::new(rt.alloc());
-    add_floats(&rt, &mut module, &[2])?;
-    is_accepted_with_halves(&rt, rt.alloc(), &module)
+    with_module(rt.alloc(), |module| {
+        add_floats(&rt, module, &[2])?;
+        is_accepted_with_halves(&rt, rt.alloc(), module)
+    })
 }
 
 /// Makes sure that both calls accept a module of one type where it may have two bytes.
@@ -232,9 +246,11 @@ fn add_named_half(rt: &impl Abort, alloc: Global, module: &mut Module) -> Result
 
 #[test]
 fn a_refusal_has_the_name_of_the_type(rt: HostRuntime) -> Result<(), Fail> {
-    let mut module = Module::new(rt.alloc());
-    add_named_half(&rt, rt.alloc(), &mut module)?;
-    match refusal_of(&rt, rt.alloc(), &module)?.into_inner() {
+    let error = with_module(rt.alloc(), |module| {
+        add_named_half(&rt, rt.alloc(), module)?;
+        refusal_of(&rt, rt.alloc(), module)
+    })?;
+    match error.into_inner() {
         ValidationError::Type_ { name, .. } => assert_eq!(rt; name.as_str(), "Half"),
         _ => assert!(rt; false, "refused otherwise"),
     }
@@ -255,9 +271,10 @@ fn refusal_at(
     width: u8,
     span: Span,
 ) -> Result<WithSpan<ValidationError>, Fail> {
-    let mut module = Module::new(alloc);
-    add_two(rt, &mut module, width, span)?;
-    refusal_of(rt, alloc, &module)
+    with_module(alloc, |module| {
+        add_two(rt, module, width, span)?;
+        refusal_of(rt, alloc, module)
+    })
 }
 
 #[test]
@@ -274,19 +291,73 @@ fn a_refusal_has_the_place_of_the_type(rt: HostRuntime) -> Result<(), Fail> {
     Ok(())
 }
 
+/// The error on function 5, which isn't there.
+fn missing_function() -> BadHandle {
+    BadHandle {
+        kind: StaticText::new("Function"),
+        index: 5,
+    }
+}
+
+/// Comments on a function that isn't there.
+fn comment_on_function(alloc: Global, module: &mut Module) -> Result<(), Fail> {
+    let comment = (Handle::new(5), List::new(alloc));
+    Ok(module.doc_comments.functions.push(comment)?)
+}
+
+#[test]
+fn a_missing_function_has_no_comment(rt: HostRuntime) -> Result<(), Fail> {
+    let error = with_module(rt.alloc(), |module| {
+        comment_on_function(rt.alloc(), module)?;
+        refusal_of(&rt, rt.alloc(), module)
+    })?;
+    assert_eq!(rt; error.span(), None);
+    assert_eq!(rt;
+        error.into_inner(),
+        ValidationError::from(missing_function())
+    );
+    Ok(())
+}
+
+/// Adds a type at a place, and comments on its first member.
+fn comment_on_member(rt: &impl Abort, alloc: Global, module: &mut Module) -> Result<(), Fail> {
+    let ty = add(rt, module, float(4), Span::new(5, 9))?;
+    let comment = ((ty, 0), List::new(alloc));
+    Ok(module.doc_comments.struct_members.push(comment)?)
+}
+
+#[test]
+fn a_missing_member_has_no_comment(rt: HostRuntime) -> Result<(), Fail> {
+    let error = with_module(rt.alloc(), |module| {
+        comment_on_member(&rt, rt.alloc(), module)?;
+        refusal_of(&rt, rt.alloc(), module)
+    })?;
+    assert_eq!(rt; error.span(), None);
+    let handle = Handle::new(0);
+    let want = ValidationError::Type_ {
+        handle,
+        name: Text::from_string(String::from_str(rt.alloc(), "Unknown")?),
+        source: TypeError::InvalidData(handle),
+    };
+    assert_eq!(rt; error.into_inner(), want);
+    Ok(())
+}
+
 #[test]
 fn each_answer_is_of_its_own_module(rt: HostRuntime) -> Result<(), Fail> {
-    let mut good = Module::new(rt.alloc());
-    add_floats(&rt, &mut good, &[4])?;
-    judge_beside(&rt, rt.alloc(), &good, &[4, 3])?;
-    judge_beside(&rt, rt.alloc(), &good, &[4, 2])
+    with_module(rt.alloc(), |good| {
+        add_floats(&rt, good, &[4])?;
+        judge_beside(&rt, rt.alloc(), good, &[4, 3])?;
+        judge_beside(&rt, rt.alloc(), good, &[4, 2])
+    })
 }
 
 /// Judges a good module in turn with one that is refused, of types of these widths.
 fn judge_beside(rt: &impl Abort, alloc: Global, good: &Module, widths: &[u8]) -> Result<(), Fail> {
-    let mut refused = Module::new(alloc);
-    add_floats(rt, &mut refused, widths)?;
-    are_judged_in_turn(rt, alloc, good, &refused)
+    with_module(alloc, |refused| {
+        add_floats(rt, refused, widths)?;
+        are_judged_in_turn(rt, alloc, good, refused)
+    })
 }
 
 /// Makes sure that one validator accepts the one module and refuses the other, again and again.
@@ -312,16 +383,18 @@ fn are_judged_in_turn(
 
 #[test]
 fn a_reset_forgets_the_module_alone(rt: HostRuntime) -> Result<(), Fail> {
-    let mut half = Module::new(rt.alloc());
-    add_floats(&rt, &mut half, &[2])?;
-    reset_after(&rt, rt.alloc(), &half)
+    with_module(rt.alloc(), |half| {
+        add_floats(&rt, half, &[2])?;
+        reset_after(&rt, rt.alloc(), half)
+    })
 }
 
 /// Resets a validator that has judged a module of halves, and asks it for doubles.
 fn reset_after(rt: &impl Abort, alloc: Global, half: &Module) -> Result<(), Fail> {
-    let mut double = Module::new(alloc);
-    add_floats(rt, &mut double, &[8])?;
-    settings_outlast_a_reset(rt, alloc, half, &double)
+    with_module(alloc, |double| {
+        add_floats(rt, double, &[8])?;
+        settings_outlast_a_reset(rt, alloc, half, double)
+    })
 }
 
 /// Makes sure that a reset validator has no types, and still knows which width it may accept.
@@ -343,6 +416,21 @@ fn settings_outlast_a_reset(
     Ok(())
 }
 
+/// The error on a range that ends past the last expression.
+fn bad_range() -> BadRangeError {
+    BadRangeError {
+        kind: StaticText::new("Expression"),
+        start: 2,
+        end: 5,
+    }
+}
+
+/// The error on function 2, which calls function 3.
+fn late_function() -> FwdDepError {
+    let caller: Handle<FunctionTag> = Handle::new(2);
+    FwdDepError::new(caller, Handle::new(3))
+}
+
 #[test]
 fn errors_come_from_those_below(rt: HostRuntime) {
     let error = LayoutError {
@@ -350,6 +438,14 @@ fn errors_come_from_those_below(rt: HostRuntime) {
         inner: LayoutErrorInner::NonPowerOfTwoWidth,
     };
     assert_eq!(rt; ValidationError::from(error), no_layout(Handle::new(7)));
+    assert_eq!(rt;
+        ValidationError::from(bad_range()),
+        ValidationError::InvalidHandle(InvalidHandleError::BadRange(bad_range()))
+    );
+    assert_eq!(rt;
+        ValidationError::from(late_function()),
+        ValidationError::InvalidHandle(InvalidHandleError::ForwardDependency(late_function()))
+    );
     assert_eq!(rt;
         ValidationError::from(OutOfMemory),
         ValidationError::OutOfMemory
@@ -372,6 +468,10 @@ fn errors_read_as_sentences(rt: HostRuntime) -> Result<(), Fail> {
         (
             no_layout(Handle::new(1)),
             "Error laying out type [1]: The scalar width is not a power of two",
+        ),
+        (
+            ValidationError::from(missing_function()),
+            "Handle 5 of Function is either not present, or inaccessible yet",
         ),
         (ValidationError::OutOfMemory, "Out of memory"),
     ] {

@@ -30,7 +30,8 @@ returns-in-Err c =
     let results = type_results c.args.capabilities.0 types in
     let at = stands types results _ _ _ _ _ c.loop-handle.invariant.infos c.in-Some.ensures.steps in
     let first = refused types results _ _ _ _ _ _ c.loop-handle.invariant.infos c.in-Some.ensures.steps c.in-Err.ensures in
-    inr (λ settings same. (
+    inr (λ settings same. inr (
+      c.requires.handles,
       c.requires.laid_out.accepted,
       subst (λ (k : Capabilities). IsFirstRefusal (type_results k.0 types) c.in-Some.handle c.in-Err.source) (sym same) first,
       (c.in-Some.ty.now, at, c.in_ok-name-in-Err.ensures),

@@ -23,6 +23,7 @@ returns-clause-answer c =
     MatchResult-weaker c.validate_types.result c.validate_types.ensures
     (λ info h. (
       record {
+        handles = c.requires.handles;
         layouts = c.in_ok-lay_out.ensures.accepted;
         types = subst (λ (k : Capabilities). AllAccepted (type_results k.0 types) c.validate_types.new.infos.infos) same h.0;
       },

@@ -1,0 +1,10 @@
+use Rattle.std.proofs.Common.{◌≡◌, ◌+◌, ◌<◌, ◌≤◌, ℕ, length}
+use Rattle.naga_handles.specs.Visits.{Seen}
+use Rattle.naga_handles.proofs.walk.Walker.visit_rest.Given as goal
+
+abbrev pub invariant-loop-index : goal.invariant-loop-index
+invariant-loop-index l = record {
+  at : l.self.visited ≡ l.index;
+  looked : l.self.reader.looks ≡ length l.module.types + l.index;
+  seen : (k : ℕ) → l.fn.self.visited ≤ k → k < l.index → Seen l.module (length l.module.types) k;
+}

@@ -1,0 +1,502 @@
+//! Whether what a module's items refer to is there and comes before them.
+
+ghost use Rattle.std.specs.Prelude.{◌≡◌, ◌↔◌, ℕ, IfErr, IfOk, IsTrue, List, ◌∷◌, None, OnOk, map};
+ghost use Rattle.std.specs.List.{enumerate_from, flat_map};
+ghost use Rattle.std.specs.Fn.{FnReturnsAt};
+ghost use Rattle.naga_ir.specs.ItemReferences.{constant_references, entry_point_references, global_variable_references, local_variable_references, override_references};
+ghost use Rattle.naga_ir.specs.References as spec;
+ghost use Rattle.naga_ir.specs.ItemReferences as item;
+ghost use Rattle.naga_ir.specs.Handles.{HandlesAccepted, function_counts, module_counts};
+ghost use Rattle.naga_ir.specs.Operands.{present};
+ghost use Rattle.naga_ir.specs.declared.reference.Reference.TheVariants as to;
+ghost use Rattle.naga_ir_types.specs.Parts.{optional};
+ghost use Rattle.naga_ir.specs.Walks.{ChecksEach};
+ghost use Rattle.naga_arena.specs.Memory.{AnsweredOrRefused};
+ghost use Rattle.naga_handles.specs.Faults.{IsFault, MayWantMemory, body_references, called, local_references, signature_references, what_is_wrong};
+ghost use Rattle.naga_handles.specs.ItemLooks.{Answers, AnswersEntryPoint, AnswersMember, AnswersOperand, HasMember, all_filter_looks, code_looks, documented_references, entry_point_looks, expression_looks, filter_looks, function_looks, looks_in, module_looks, numbered_looks, valued_references};
+ghost use Rattle.naga_handles.specs.Others.{IsRefusal, OthersStand};
+ghost use Rattle.naga_handles.specs.Looks.{of_function};
+
+use crate::counts::{Counts, check_dep, check_operands};
+use crate::error::{InvalidHandleError, ValidationFault};
+use crate::walk::walk;
+use naga_ir::expression::Expression;
+use naga_ir::handle::{BadHandle, Handle};
+use naga_ir::ir::{
+    Constant, DocComments, EntryPoint, Function, FunctionArgument, GlobalVariable, LocalVariable,
+    Module, Override, SpecialTypes,
+};
+use naga_ir::list::List;
+use naga_ir::memory::OutOfMemory;
+use naga_ir::reference::Reference;
+use naga_ir::tags::{ConstantTag, ExpressionTag, FunctionTag, GlobalVariableTag, TypeTag};
+use naga_ir::text::{StaticText, Text};
+use naga_ir::types::{Type, TypeInner};
+use std::alloc::Global;
+
+/// Whether all handles and ranges of a module, which may hold any numbers, are right: what they name
+/// is there, what has to come before an item does, and so do the types that a size asks for. All that
+/// comments are on is there too. Then every index and recursion over the module is safe.
+///
+/// These come before the item that names them: the parts of a type, and the type of the override that
+/// sizes it; the operands of an expression; of a global expression also what the constant or override
+/// begins with that it names; functions that a function calls, or whose answers it names; the filter
+/// around a filter. Where a size is decided by an override that begins with an expression, that
+/// expression and all before it name only types before the one that is sized. The rule is naga's, with
+/// the references that naga leaves unchecked.
+///
+/// `ValidationFault` names a fault that is there: of several, the first in the order of the groups:
+/// types with the global expressions that sizes ask for, other global expressions, constants,
+/// overrides, variables, entry points, functions, special types, filters, comments. `MissingMember`
+/// is of a comment on a member. `OutOfMemory` is answered where a request was refused, and only where
+/// the module has overrides or a `MissingMember` is due. The cost is linear in the module.
+pub fn validate_module_handles(alloc: Global, module: &Module) -> Result<(), ValidationFault>
+    ensures { AnsweredOrRefused (λ fault. (fault ≡ ValidationFault.OutOfMemory) × MayWantMemory «module».now) result (λ _. HandlesAccepted «module».now)
+        (λ fault. IsFault «module».now fault × (HandlesAccepted «module».now → ⊥)) }
+{
+    validate_all_handles(alloc, module)
+}
+
+/// The same, by what stands and by what is wrong.
+fn validate_all_handles(alloc: Global, module: &Module) -> Result<(), ValidationFault>
+    ensures accepted { OnOk result (HandlesAccepted «module».now) }
+    ensures refused { IfErr result (IsRefusal «module».now) }
+{
+    walk(module)?;
+    validate_other_handles(alloc, module)
+}
+
+/// Hands each item to `check`, and stops at the first that it refuses.
+fn try_each<T, E, F: Fn(&T) -> Result<(), E>>(items: &[T], check: &F) -> Result<(), E>
+    requires { F.IsAlwaysCallable check.now }
+    ensures { ChecksEach (FnReturnsAt F.Fn check.now) items.now result }
+{
+    for item in items {
+        check(item)?;
+    }
+    Ok(())
+}
+
+/// What an item may refer to: items that are there, and of functions those before the one that it
+/// stands in.
+#[derive(Clone, Copy)]
+struct Scope {
+    counts: Counts,
+    /// None outside the functions of the module, as in an entry point.
+    caller: Option<Handle<FunctionTag>>,
+}
+
+impl Scope {
+    /// That of the items of a module that stand in no function.
+    fn of_module(module: &Module) -> Scope
+        ensures counts { result.counts ≡ module_counts «module».now }
+        ensures caller { result.caller ≡ None }
+    {
+        Scope {
+            counts: Counts::of_module(module),
+            caller: None,
+        }
+    }
+
+    /// That of a function of the module, or of an entry point's.
+    fn of_function(
+        module: &Module,
+        caller: Option<Handle<FunctionTag>>,
+        function: &Function,
+    ) -> Scope
+        ensures counts { result.counts ≡ function_counts «module».now function.now }
+        ensures caller { result.caller ≡ caller }
+    {
+        Scope {
+            counts: Counts::of_function(module, function),
+            caller,
+        }
+    }
+
+    /// Whether the scope has what is referred to.
+    fn check(&self, reference: Reference) -> Result<(), InvalidHandleError>
+        ensures { Answers (record { there = self.now.counts; subject = of_function self.now.caller reference; target = reference }) result }
+    {
+        if let (Some(caller), Reference::Function(function)) = (self.caller, reference) {
+            check_dep(caller, function)
+        } else {
+            self.counts.check_exists(reference)
+        }
+    }
+
+    /// Whether it has all of some references.
+    fn check_all(&self, references: &[Option<Reference>]) -> Result<(), InvalidHandleError>
+        ensures { ChecksEach Answers (looks_in self.now (present references.now)) result }
+    {
+        for reference in references {
+            if let Some(reference) = reference {
+                self.check(*reference)?;
+            }
+        }
+        Ok(())
+    }
+}
+
+/// Whether the type of an item is there, and its initialiser where it has one.
+fn check_valued(
+    scope: &Scope,
+    ty: Handle<TypeTag>,
+    init: Option<Handle<ExpressionTag>>,
+) -> Result<(), InvalidHandleError>
+    ensures { ChecksEach Answers (looks_in scope.now (to.Type_ ty ∷ map to.Expression (optional init))) result }
+{
+    scope.check_all(&[Some(Reference::Type_(ty)), init.map(Reference::Expression)])
+}
+
+fn validate_expression_handles(
+    scope: &Scope,
+    handle: Handle<ExpressionTag>,
+    expression: &Expression,
+) -> Result<(), InvalidHandleError>
+    ensures { ChecksEach Answers (expression_looks scope.now.counts scope.now.caller (handle, expression.now)) result }
+{
+    check_operands(handle, expression)?;
+    scope.check_all(&[
+        expression.named_type().map(Reference::Type_),
+        expression.named_item(),
+    ])
+}
+
+/// Whether what a function's expressions refer to is there, and their operands come before them.
+fn validate_expressions(scope: &Scope, function: &Function) -> Result<(), InvalidHandleError>
+    ensures { ChecksEach Answers (flat_map (expression_looks scope.now.counts scope.now.caller) (enumerate_from 0 function.now.expressions)) result }
+{
+    for (handle, expression) in function.expressions.iter() {
+        validate_expression_handles(scope, handle, expression)?;
+    }
+    Ok(())
+}
+
+/// Whether what a function takes and answers is there.
+fn validate_signature(scope: &Scope, function: &Function) -> Result<(), InvalidHandleError>
+    ensures { ChecksEach Answers (looks_in scope.now (signature_references function.now)) result }
+{
+    try_each(
+        function.arguments.as_slice(),
+        &|argument: &FunctionArgument| scope.check_all(&[Some(Reference::Type_(argument.ty))]),
+    )?;
+    scope.check_all(&[
+        function
+            .result
+            .as_ref()
+            .map(|answer| Reference::Type_(answer.ty)),
+    ])
+}
+
+/// Whether what a function's variables and named expressions refer to is there.
+fn validate_locals(scope: &Scope, function: &Function) -> Result<(), InvalidHandleError>
+    ensures { ChecksEach Answers (looks_in scope.now (local_references function.now)) result }
+{
+    try_each(
+        function.local_variables.as_slice(),
+        &|variable: &LocalVariable| check_valued(scope, variable.ty, variable.init),
+    )?;
+    try_each(
+        function.named_expressions.as_slice(),
+        &|named: &(Handle<ExpressionTag>, Text)| {
+            scope.check_all(&[Some(Reference::Expression(named.0))])
+        },
+    )
+}
+
+/// Whether what a function's statements refer to is there, and its filter.
+fn validate_body(scope: &Scope, function: &Function) -> Result<(), InvalidHandleError>
+    ensures { ChecksEach Answers (looks_in scope.now (body_references function.now)) result }
+{
+    function
+        .body
+        .try_for_each_reference(&|reference: Reference| scope.check(reference))?;
+    scope.check_all(&[
+        function
+            .diagnostic_filter_leaf
+            .map(Reference::DiagnosticFilterNode),
+    ])
+}
+
+fn validate_function_handles(scope: &Scope, function: &Function) -> Result<(), InvalidHandleError>
+    ensures { ChecksEach Answers (function_looks scope.now.counts scope.now.caller function.now) result }
+{
+    validate_signature(scope, function)?;
+    validate_locals(scope, function)?;
+    validate_expressions(scope, function)?;
+    validate_body(scope, function)
+}
+
+/// Whether the sizes of an entry point's workgroups are there that overrides decide.
+fn validate_workgroup_sizes(
+    scope: &Scope,
+    entry_point: &EntryPoint,
+) -> Result<(), InvalidHandleError>
+    ensures { ChecksEach Answers (looks_in scope.now (map to.Expression (item.workgroup_sizes entry_point.now.workgroup_size_overrides))) result }
+{
+    match &entry_point.workgroup_size_overrides {
+        Some(sizes) => try_each(
+            sizes,
+            &|size: &Option<Handle<ExpressionTag>>| {
+                scope.check_all(&[size.map(Reference::Expression)])
+            },
+        ),
+        None => Ok(()),
+    }
+}
+
+/// What a mesh shader's output refers to.
+fn mesh_references(entry_point: &EntryPoint) -> [Option<Reference>; 5]
+    ensures { present result ≡ flat_map item.mesh_references (optional entry_point.now.mesh_info) }
+{
+    match entry_point.mesh_info {
+        Some(mesh) => [
+            Some(Reference::GlobalVariable(mesh.output_variable)),
+            Some(Reference::Type_(mesh.vertex_output_type)),
+            Some(Reference::Type_(mesh.primitive_output_type)),
+            mesh.max_vertices_override.map(Reference::Expression),
+            mesh.max_primitives_override.map(Reference::Expression),
+        ],
+        None => [None, None, None, None, None],
+    }
+}
+
+/// Whether what an entry point refers to beside its function is there.
+fn validate_stage(scope: &Scope, entry_point: &EntryPoint) -> Result<(), InvalidHandleError>
+    ensures { ChecksEach Answers (looks_in scope.now (entry_point_references entry_point.now)) result }
+{
+    validate_workgroup_sizes(scope, entry_point)?;
+    scope.check_all(&[entry_point.task_payload.map(Reference::GlobalVariable)])?;
+    scope.check_all(&mesh_references(entry_point))
+}
+
+fn validate_entry_point_handles(
+    module: &Module,
+    entry_point: &EntryPoint,
+) -> Result<(), InvalidHandleError>
+    ensures { ChecksEach Answers (entry_point_looks «module».now entry_point.now) result }
+{
+    let scope = Scope::of_function(module, None, &entry_point.function);
+    validate_function_handles(&scope, &entry_point.function)?;
+    validate_stage(&Scope::of_module(module), entry_point)
+}
+
+/// Whether what the functions of a module refer to is there, and they call those before them.
+fn validate_functions(module: &Module) -> Result<(), InvalidHandleError>
+    ensures { ChecksEach Answers (flat_map (numbered_looks «module».now) (enumerate_from 0 «module».now.functions)) result }
+{
+    for (handle, function) in module.functions.iter() {
+        let scope = Scope::of_function(module, Some(handle), function);
+        validate_function_handles(&scope, function)?;
+    }
+    Ok(())
+}
+
+/// Whether what the entry points and functions of a module refer to is there.
+fn validate_code(module: &Module) -> Result<(), InvalidHandleError>
+    ensures { ChecksEach Answers (code_looks «module».now) result }
+{
+    try_each(
+        module.entry_points.as_slice(),
+        &|entry_point: &EntryPoint| validate_entry_point_handles(module, entry_point),
+    )?;
+    validate_functions(module)
+}
+
+/// Whether what constants, overrides and variables of a module refer to is there.
+fn validate_valued(scope: &Scope, module: &Module) -> Result<(), InvalidHandleError>
+    ensures { ChecksEach Answers (looks_in scope.now (valued_references «module».now)) result }
+{
+    try_each(
+        module.constants.as_slice(),
+        &|constant: &Constant| check_valued(scope, constant.ty, Some(constant.init)),
+    )?;
+    try_each(
+        module.overrides.as_slice(),
+        &|over: &Override| check_valued(scope, over.ty, over.init),
+    )?;
+    try_each(
+        module.global_variables.as_slice(),
+        &|variable: &GlobalVariable| check_valued(scope, variable.ty, variable.init),
+    )
+}
+
+/// Whether the special types are there.
+fn validate_special_types(
+    scope: &Scope,
+    special_types: &SpecialTypes,
+) -> Result<(), InvalidHandleError>
+    ensures { ChecksEach Answers (looks_in scope.now (map to.Type_ (item.special_types special_types.now))) result }
+{
+    scope.check_all(&[
+        special_types.ray_desc.map(Reference::Type_),
+        special_types.ray_intersection.map(Reference::Type_),
+        special_types.ray_vertex_return.map(Reference::Type_),
+    ])?;
+    try_each(
+        special_types.others.as_slice(),
+        &|ty: &Handle<TypeTag>| scope.check_all(&[Some(Reference::Type_(*ty))]),
+    )
+}
+
+/// Whether each filter's parent comes before it.
+fn validate_filter_parents(module: &Module) -> Result<(), InvalidHandleError>
+    ensures { ChecksEach Answers (flat_map (filter_looks (module_counts «module».now)) (enumerate_from 0 «module».now.diagnostic_filters)) result }
+{
+    for (handle, filter) in module.diagnostic_filters.iter() {
+        if let Some(parent) = filter.parent {
+            check_dep(handle, parent)?;
+        }
+    }
+    Ok(())
+}
+
+/// Whether the filters of a module are there, and each stands after the one around it.
+fn validate_filters(module: &Module) -> Result<(), InvalidHandleError>
+    ensures { ChecksEach Answers (all_filter_looks «module».now) result }
+{
+    validate_filter_parents(module)?;
+    Scope::of_module(module).check_all(&[
+        module
+            .diagnostic_filter_leaf
+            .map(Reference::DiagnosticFilterNode),
+    ])
+}
+
+/// Whether what comments name by a handle is there, the types of members aside.
+fn validate_documented(scope: &Scope, comments: &DocComments) -> Result<(), InvalidHandleError>
+    ensures { ChecksEach Answers (looks_in scope.now (documented_references comments.now)) result }
+{
+    try_each(
+        comments.types.as_slice(),
+        &|comment: &(Handle<TypeTag>, List<Text>)| {
+            scope.check_all(&[Some(Reference::Type_(comment.0))])
+        },
+    )?;
+    try_each(
+        comments.functions.as_slice(),
+        &|comment: &(Handle<FunctionTag>, List<Text>)| {
+            scope.check_all(&[Some(Reference::Function(comment.0))])
+        },
+    )?;
+    try_each(
+        comments.constants.as_slice(),
+        &|comment: &(Handle<ConstantTag>, List<Text>)| {
+            scope.check_all(&[Some(Reference::Constant(comment.0))])
+        },
+    )?;
+    try_each(
+        comments.global_variables.as_slice(),
+        &|comment: &(Handle<GlobalVariableTag>, List<Text>)| {
+            scope.check_all(&[Some(Reference::GlobalVariable(comment.0))])
+        },
+    )
+}
+
+/// Whether all that items refer to and that comments name by a handle is there and comes before.
+fn validate_items(module: &Module) -> Result<(), InvalidHandleError>
+    ensures { ChecksEach Answers (module_looks «module».now) result }
+{
+    let scope = Scope::of_module(module);
+    validate_valued(&scope, module)?;
+    validate_code(module)?;
+    validate_special_types(&scope, &module.special_types)?;
+    validate_filters(module)?;
+    validate_documented(&scope, &module.doc_comments)
+}
+
+fn validate_entry_point_index(module: &Module, index: usize) -> Result<(), InvalidHandleError>
+    ensures { AnswersEntryPoint «module».now index result }
+{
+    if index < module.entry_points.len() {
+        Ok(())
+    } else {
+        Err(InvalidHandleError::BadHandle(BadHandle {
+            kind: StaticText::new("EntryPoint"),
+            index,
+        }))
+    }
+}
+
+/// Whether the entry points are there that comments are on.
+fn validate_documented_entry_points(module: &Module) -> Result<(), InvalidHandleError>
+    ensures { ChecksEach (AnswersEntryPoint «module».now) (map (λ (c : ℕ × List (List ℕ)). c.0) «module».now.doc_comments.entry_points) result }
+{
+    try_each(
+        module.doc_comments.entry_points.as_slice(),
+        &|comment: &(usize, List<Text>)| validate_entry_point_index(module, comment.0),
+    )
+}
+
+/// What is wrong with a comment on a member that the type doesn't have.
+fn wrong_text(inner: &TypeInner) -> &'static str
+    ensures { result.now ≡ what_is_wrong inner.now }
+{
+    match inner {
+        TypeInner::Struct { .. } => "members length incorrect",
+        _ => "Unknown",
+    }
+}
+
+/// The name of a type of which a comment is on no member, or what is wrong with it.
+fn name_of(alloc: Global, ty: &Type) -> Result<Text, OutOfMemory>
+    ensures { IfOk result (λ name. name ≡ called ty.now) }
+{
+    match &ty.name {
+        Some(name) => name.try_clone(),
+        None => Ok(Text::from_string(String::from_str(alloc, wrong_text(&ty.inner))?)),
+    }
+}
+
+/// Whether a type is a struct with a member of this number.
+fn has_member(ty: &Type, index: usize) -> bool
+    ensures { IsTrue result ↔ HasMember ty.now index }
+{
+    match &ty.inner {
+        TypeInner::Struct { members, .. } => index < members.len(),
+        _ => false,
+    }
+}
+
+/// Whether the type is there that a comment is on, and is a struct that has the member.
+fn validate_documented_member(
+    alloc: Global,
+    module: &Module,
+    handle: Handle<TypeTag>,
+    index: usize,
+) -> Result<(), ValidationFault>
+    ensures { AnswersMember «module».now (handle, index) result }
+{
+    Scope::of_module(module).check(Reference::Type_(handle))?;
+    let ty = module.types.get(handle);
+    if has_member(ty, index) {
+        return Ok(());
+    }
+    match name_of(alloc, ty) {
+        Ok(name) => Err(ValidationFault::MissingMember { handle, name }),
+        Err(_) => Err(ValidationFault::OutOfMemory),
+    }
+}
+
+/// Whether the members are there that comments are on.
+fn validate_documented_members(alloc: Global, module: &Module) -> Result<(), ValidationFault>
+    ensures { ChecksEach (AnswersMember «module».now) (map (λ (c : (ℕ × ℕ) × List (List ℕ)). c.0) «module».now.doc_comments.struct_members) result }
+{
+    try_each(
+        module.doc_comments.struct_members.as_slice(),
+        &|comment: &((Handle<TypeTag>, usize), List<Text>)| {
+            validate_documented_member(alloc, module, comment.0.0, comment.0.1)
+        },
+    )
+}
+
+/// Whether all that items of a module but types and global expressions refer to is there and comes
+/// before them, and so all that comments are on.
+fn validate_other_handles(alloc: Global, module: &Module) -> Result<(), ValidationFault>
+    ensures accepted { OnOk result (OthersStand «module».now) }
+    ensures refused { IfErr result (IsRefusal «module».now) }
+{
+    validate_items(module)?;
+    validate_documented_entry_points(module)?;
+    validate_documented_members(alloc, module)
+}

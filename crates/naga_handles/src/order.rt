@@ -1,0 +1,122 @@
+//! The order in which types and global expressions can be visited.
+
+ghost use Rattle.std.specs.Prelude.{◌≡◌, ◌+◌, ◌<◌, ◌≤◌, List, [], ◌∷◌, ◌++◌, IfErr, IfOk, OnOk, length};
+ghost use Rattle.naga_arena.specs.Memory.{AnsweredOrRefused};
+ghost use Rattle.naga_ir.specs.ItemReferences.{global_lists};
+ghost use Rattle.naga_handles.specs.Order.{CanBeOrdered, IsOrder, NamesWalkFault, RanksFall};
+ghost use Rattle.naga_handles.specs.Visits.{IsNoOrder, Placed, PlacesUpTo, Reached};
+ghost use Rattle.naga_handles.specs.declared.order.Item.TheVariants as item;
+
+use crate::error::ValidationFault;
+use crate::walk::Walker;
+use naga_ir::handle::Handle;
+use naga_ir::ir::Module;
+use naga_ir::memory::OutOfMemory;
+use naga_ir::tags::{ExpressionTag, TypeTag};
+use std::alloc::Global;
+
+/// A type or a global expression.
+#[derive(Clone, Copy, Debug, PartialEq, Eq)]
+pub enum Item {
+    Type_(Handle<TypeTag>),
+    Expression(Handle<ExpressionTag>),
+}
+
+/// An order in which types and global expressions can be visited.
+#[derive(Debug, PartialEq, Drop)]
+pub struct Walk {
+    /// Each type and each global expression once, after all that it depends on.
+    pub order: Vec<Item>,
+    /// How many items were looked at for that.
+    pub looks: u64,
+}
+
+/// The types and global expressions of a module in an order in which each comes after all that it
+/// depends on: a type after its parts and after the expression that sizes it, an expression after its
+/// operands, its type, and what the constant or override begins with that it names.
+///
+/// Types come in their order, and so do expressions. Before each type come the expressions that its
+/// size needs and that weren't there yet; the others come last. Each item is looked at once.
+///
+/// `ValidationFault` names a fault of a type or global expression that is there, as
+/// `validate_module_handles` does; the other items need not be right. `OutOfMemory` is answered where a
+/// request was refused. The cost is linear in the module.
+pub fn visit_order(alloc: Global, module: &Module) -> Result<Walk, ValidationFault>
+    ensures answer { AnsweredOrRefused (λ fault. fault ≡ ValidationFault.OutOfMemory) result (λ _. CanBeOrdered «module».now)
+        (λ fault. NamesWalkFault «module».now fault × (CanBeOrdered «module».now → ⊥)) }
+    ensures order { IfOk result (λ walk. IsOrder (global_lists «module».now) walk.order.items) }
+    ensures falls { OnOk result (RanksFall (global_lists «module».now)) }
+    ensures looks { IfOk result (λ walk. walk.looks ≡ length «module».now.types + length «module».now.global_expressions) }
+{
+    order_of(alloc, module)
+}
+
+/// That order, or a fault.
+fn order_of(alloc: Global, module: &Module) -> Result<Walk, ValidationFault>
+    ensures accepted { OnOk result (CanBeOrdered «module».now) }
+    ensures order { IfOk result (λ walk. IsOrder (global_lists «module».now) walk.order.items) }
+    ensures looks { IfOk result (λ walk. walk.looks ≡ length «module».now.types + length «module».now.global_expressions) }
+    ensures refused { IfErr result (IsNoOrder «module».now) }
+{
+    let mut walker = Walker::new();
+    let mut order = Vec::new(alloc);
+    for index in 0..module.types.len() {
+        visit_in_order(&mut walker, module, &mut order, Handle::new(index as u32))?;
+    }
+    let before = walker.visited();
+    walker.visit_rest(module)?;
+    push_expressions(&mut order, before, walker.visited())?;
+    Ok(Walk {
+        order,
+        looks: walker.looks(),
+    })
+}
+
+/// Adds the global expressions from one place to another.
+fn push_expressions(order: &mut Vec<Item>, from: usize, to: usize) -> Result<(), OutOfMemory>
+    requires grows { from ≤ to }
+    requires few { to ≤ 4294967295 }
+    ensures { OnOk result (PlacesUpTo order.old.items order.new.items from to) }
+{
+    for index in from..to {
+        order.push(Item::Expression(Handle::new(index as u32)))?;
+    }
+    Ok(())
+}
+
+/// Adds the global expressions from one place to another, and a type.
+fn push_visited(
+    order: &mut Vec<Item>,
+    from: usize,
+    to: usize,
+    handle: Handle<TypeTag>,
+) -> Result<(), OutOfMemory>
+    requires grows { from ≤ to }
+    requires few { to ≤ 4294967295 }
+    ensures { OnOk result ((between : List Item) × PlacesUpTo order.old.items between from to × (order.new.items ≡ between ++ item.Type_ handle ∷ [])) }
+{
+    push_expressions(order, from, to)?;
+    order.push(Item::Type_(handle))?;
+    Ok(())
+}
+
+/// Visits a type, and adds to an order what was visited.
+fn visit_in_order(
+    walker: &mut Walker,
+    module: &Module,
+    order: &mut Vec<Item>,
+    handle: Handle<TypeTag>,
+) -> Result<(), ValidationFault>
+    requires few { handle < 4294967295 }
+    requires there { handle < length «module».now.types }
+    requires reached { Reached «module».now handle walker.old.visited walker.old.reader.looks }
+    requires placed { Placed (global_lists «module».now) order.old.items handle walker.old.visited }
+    ensures reached { OnOk result (Reached «module».now (handle + 1) walker.new.visited walker.new.reader.looks) }
+    ensures placed { OnOk result (Placed (global_lists «module».now) order.new.items (handle + 1) walker.new.visited) }
+    ensures refused { IfErr result (IsNoOrder «module».now) }
+{
+    let before = walker.visited();
+    walker.visit_type(module, handle)?;
+    push_visited(order, before, walker.visited(), handle)?;
+    Ok(())
+}
