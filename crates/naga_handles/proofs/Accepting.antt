@@ -18,7 +18,7 @@ use Rattle.naga_ir.specs.declared.reference.Reference.TheVariants as to
 use Rattle.naga_ir_types.specs.declared.types.«Type».{«Type»}
 use Rattle.naga_ir.proofs.Reached.{item_in, only, type_in, within_all}
 use Rattle.naga_handles.specs.Faults.{IsFault, IsHandleFault, IsWalkFault, PlainReference, VisitedReference, body_references, forward_in_module, in_entry_point, initialiser, invalid, item, local_references, missing_member, no_entry_point, not_back, not_gated, not_there, not_visited, of_constant, of_override, on_walk, other, plain_references, signature_references, size, type_}
-use Rattle.naga_handles.specs.Faults as plain
+use Rattle.naga_handles.specs.Faults as faults
 use Rattle.naga_handles.specs.declared.error.InvalidHandleError.{InvalidHandleError}
 use Rattle.naga_handles.specs.declared.error.ValidationFault.{ValidationFault}
 use Rattle.naga_handles.proofs.Alls.{all-flat, all-left, all-places, all-right, all-unflat, contains-map}
@@ -151,7 +151,7 @@ module _ (m : Module) (h : HandlesAccepted m) where
   plain-exists n r (of_constant _ among) = All-contains There (flat_map constant_references m.constants) r of_constants among
   plain-exists n r (of_override _ among) = All-contains There (flat_map override_references m.overrides) r of_overrides among
   plain-exists n r (other _ among) = All-contains There (other_references m) r h.exist.others among
-  plain-exists n r (plain.in_function f _ among stands free) =
+  plain-exists n r (faults.in_function f _ among stands free) =
       in_all f r (Contains-append_left m.functions (map (λ (p : EntryPoint). p.function) m.entry_points) f among) stands
   plain-exists n r (in_entry_point p _ among stands) =
       in_all p.function r (Contains-append_right m.functions (map (λ (q : EntryPoint). q.function) m.entry_points) p.function (contains-map (λ (q : EntryPoint). q.function) m.entry_points p among)) stands

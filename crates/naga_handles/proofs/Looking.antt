@@ -1,6 +1,6 @@
 -- Walks over the looks that items ask for.
 use Rattle.std.proofs.Common.{ℕ, ◌≡◌, ◌∙◌, List, [], ◌∷◌, ◌++◌, Option, Some, None, Bor, ap, map, refl, subst, sym}
-use Rattle.std.specs.Prelude.{Result, Ok, option_map}
+use Rattle.std.specs.Prelude.{Result, Ok, Err, option_map}
 use Rattle.std.specs.Fn.{FnReturnsAt, Shared}
 use Rattle.std.specs.List.{flat_map}
 use Rattle.std.proofs.lemmas.List.{map-append}
@@ -15,7 +15,7 @@ use Rattle.naga_ir_types.specs.Parts.{optional}
 use Rattle.naga_ir.specs.Walks.{ChecksEach}
 use Rattle.naga_ir.specs.declared.reference.Reference.{Reference}
 use Rattle.naga_ir.specs.declared.reference.Reference.TheVariants as to
-use Rattle.naga_ir.proofs.StatementLemmas.{checks-along, checks-none, checks-single}
+use Rattle.naga_ir.proofs.StatementLemmas.{checks-along, checks-before, checks-none, checks-single, checks-then}
 use Rattle.naga_handles.specs.ItemLooks.{Answers, AnswersOperand, Look, filter_looks, looks}
 use Rattle.naga_handles.specs.Looks.{Subjects, of_expression, of_filter}
 use Rattle.naga_handles.specs.declared.error.InvalidHandleError.{InvalidHandleError}
@@ -45,8 +45,20 @@ checks-looks n subjects each to_reference xs r means h =
     checks-along Answers _ _ r (looks-map n subjects to_reference xs) (checks-map each Answers (λ x. look n subjects (to_reference x)) xs r means h)
 
 -- looks at lists that are joined
-pub looks-append : (n : Counts) (subjects : Subjects) (xs ys : List Reference) → looks n subjects xs ++ looks n subjects ys ≡ looks n subjects (xs ++ ys)
+looks-append : (n : Counts) (subjects : Subjects) (xs ys : List Reference) → looks n subjects xs ++ looks n subjects ys ≡ looks n subjects (xs ++ ys)
 looks-append n subjects xs ys = sym (map-append (look n subjects) xs ys)
+
+-- the looks at the first of two lists are accepted, so the others decide
+pub looks-then : (n : Counts) (subjects : Subjects) (xs ys : List Reference) (r : Result (Unit {0}) InvalidHandleError)
+    → ChecksEach Answers (looks n subjects xs) (Ok tt) → ChecksEach Answers (looks n subjects ys) r → ChecksEach Answers (looks n subjects (xs ++ ys)) r
+looks-then n subjects xs ys r accepted h =
+    checks-along Answers _ _ r (looks-append n subjects xs ys) (checks-then Answers (looks n subjects xs) (looks n subjects ys) r accepted h)
+
+-- one of them is refused, so the others aren't taken
+pub looks-before : (n : Counts) (subjects : Subjects) (xs ys : List Reference) (error : InvalidHandleError)
+    → ChecksEach Answers (looks n subjects xs) (Err error) → ChecksEach Answers (looks n subjects (xs ++ ys)) (Err error)
+looks-before n subjects xs ys error h =
+    checks-along Answers _ _ (Err error) (looks-append n subjects xs ys) (checks-before Answers (looks n subjects xs) (looks n subjects ys) error h)
 
 -- a walk over operands is one over the looks at them
 pub checks-operands : (n : Counts) (e : ℕ) (xs : List ℕ) (r : Result (Unit {0}) InvalidHandleError)
@@ -115,10 +127,6 @@ three-present f (Some x) None (Some z) rest = refl
 three-present f (Some x) (Some y) None rest = refl
 three-present f (Some x) (Some y) (Some z) rest = refl
 
--- looks at three lists that are joined
-pub looks-append-three : (n : Counts) (subjects : Subjects) (xs ys zs : List Reference) → looks n subjects xs ++ (looks n subjects ys ++ looks n subjects zs) ≡ looks n subjects (xs ++ (ys ++ zs))
-looks-append-three n subjects xs ys zs = ap (λ ls. looks n subjects xs ++ ls) (looks-append n subjects ys zs) ∙ looks-append n subjects xs (ys ++ zs)
-
 -- a filter without one around it asks for no look
 pub filter-alone : (n : Counts) (d : ℕ) (node : DiagnosticFilterNode) → node.parent ≡ None → ChecksEach Answers (filter_looks n (d, node)) (Ok tt)
 filter-alone n d node e = checks-along Answers _ _ (Ok tt) (ap (λ (o : Option ℕ). looks n (of_filter d) (map to.DiagnosticFilterNode (optional o))) (sym e)) (checks-none Answers)
@@ -128,11 +136,6 @@ pub filter-around : (n : Counts) (d parent : ℕ) (node : DiagnosticFilterNode) 
     → Answers (look n (of_filter d) (to.DiagnosticFilterNode parent)) r → ChecksEach Answers (filter_looks n (d, node)) r
 filter-around n d parent node r e h =
     checks-along Answers _ _ r (ap (λ (o : Option ℕ). looks n (of_filter d) (map to.DiagnosticFilterNode (optional o))) (sym e)) (checks-single Answers (look n (of_filter d) (to.DiagnosticFilterNode parent)) r h)
-
--- looks at four lists that are joined
-pub looks-append-four : (n : Counts) (subjects : Subjects) (ws xs ys zs : List Reference)
-    → looks n subjects ws ++ (looks n subjects xs ++ (looks n subjects ys ++ looks n subjects zs)) ≡ looks n subjects (ws ++ (xs ++ (ys ++ zs)))
-looks-append-four n subjects ws xs ys zs = ap (λ ls. looks n subjects ws ++ ls) (looks-append-three n subjects xs ys zs) ∙ looks-append n subjects ws (xs ++ (ys ++ zs))
 
 -- what is there of some items, each as a reference
 pub flat-present : {A : Type 0} (f : A → Reference) (os : List (Option A)) → flat_map (λ o. map f (optional o)) os ≡ map f (flat_map optional os)

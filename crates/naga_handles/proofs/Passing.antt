@@ -31,7 +31,7 @@ module _ {B E : Type 0} (answers : B → Result (Unit {0}) E → Type 0) where
   }
 
   -- what is left decides
-  pub last : {items : List B} (left : List B) (r : Result (Unit {0}) E) → Passed answers items left → ChecksEach answers left r → ChecksEach answers items r
+  last : {items : List B} (left : List B) (r : Result (Unit {0}) E) → Passed answers items left → ChecksEach answers left r → ChecksEach answers items r
   last left r p h = checks-along answers _ _ r (sym p.at) (checks-then answers p.before left r (record { accepted = p.accepted; refused = tt }) h)
 
   -- the first of what is left is refused

@@ -4,7 +4,7 @@ use Rattle.std.specs.Prelude.{Result, Err, IfErr}
 use Rattle.std.specs.List.{enumerate_from, flat_map}
 use Rattle.std.proofs.lemmas.List.Elements.{All-append, All-cons, All-contains, All-contains_itself, All-map, All-nil, All-weaker, Contains-append_left, Contains-append_right}
 use Rattle.naga_ir.specs.Handles.{Counts, around, called, function_counts, in_function, module_counts, own_operand}
-use Rattle.naga_ir.specs.ItemReferences.{comment_references, constant_references, entry_point_references, function_references, global_variable_references, named_references, other_references, override_references, special_types}
+use Rattle.naga_ir.specs.ItemReferences.{all_functions, comment_references, constant_references, entry_point_references, function_references, global_variable_references, named_references, other_references, override_references, special_types}
 use Rattle.naga_ir.specs.References.{operands}
 use Rattle.naga_ir_types.specs.Parts.{optional}
 use Rattle.naga_ir.specs.declared.expression.Expression.{Expression}
@@ -18,8 +18,8 @@ use Rattle.naga_ir.specs.Walks.{ChecksEach}
 use Rattle.naga_ir.proofs.WalkLemmas.{error-from-checks}
 use Rattle.naga_handles.specs.Others.{IsRefusal}
 use Rattle.naga_handles.specs.declared.error.ValidationFault.{ValidationFault}
-use Rattle.naga_handles.specs.Faults.{IsHandleFault, PlainReference, IsFault, body_references, forward_in_module, in_entry_point, invalid, local_references, missing, missing_member, no_entry_point, not_there, of_constant, of_override, other, plain_references, signature_references}
-use Rattle.naga_handles.specs.Faults as plain
+use Rattle.naga_handles.specs.Faults.{IsFault, IsHandleFault, IsNoFunction, PlainReference, body_references, forward_in_module, in_entry_point, invalid, local_references, missing, missing_member, no_entry_point, not_there, of_constant, of_override, other, plain_references, signature_references}
+use Rattle.naga_handles.specs.Faults as faults
 use Rattle.naga_handles.specs.ItemLooks.{Answers, AnswersEntryPoint, AnswersMember, Look, NoMember, all_filter_looks, code_looks, documented_references, entry_point_looks, expression_looks, filter_looks, function_looks, looks, module_looks, numbered_looks, valued_references}
 use Rattle.naga_handles.specs.Looks.{of_expression, of_filter, of_function}
 use Rattle.naga_handles.specs.declared.error.InvalidHandleError.{InvalidHandleError}
@@ -32,17 +32,23 @@ use Rattle.naga_handles.proofs.Looking.{look}
 abbrev pub Refused : Module → Look → Type 0
 Refused m l = (e : InvalidHandleError) → Answers l (Err e) → IsHandleFault m e
 
+-- a look from outside the module's functions has no subject
+no-subject : (r : Reference) → of_function None r ≡ None
+no-subject (to.Type_ t) = refl
+no-subject (to.Constant c) = refl
+no-subject (to.Override o) = refl
+no-subject (to.GlobalVariable v) = refl
+no-subject (to.Expression x) = refl
+no-subject (to.LocalVariable v) = refl
+no-subject (to.Function f) = refl
+no-subject (to.DiagnosticFilterNode d) = refl
+no-subject (to.Emit range) = refl
+
 -- a reference that need only be there is rightly said to be missing
 refused-missing : (m : Module) (n : Counts) (r : Reference) → PlainReference m n r → Refused m (look n (of_function None) r)
-refused-missing m n (to.Type_ t) p = λ e h. subst (IsHandleFault m) (sym h.1) (not_there n (to.Type_ t) p h.0)
-refused-missing m n (to.Constant c) p = λ e h. subst (IsHandleFault m) (sym h.1) (not_there n (to.Constant c) p h.0)
-refused-missing m n (to.Override o) p = λ e h. subst (IsHandleFault m) (sym h.1) (not_there n (to.Override o) p h.0)
-refused-missing m n (to.GlobalVariable v) p = λ e h. subst (IsHandleFault m) (sym h.1) (not_there n (to.GlobalVariable v) p h.0)
-refused-missing m n (to.Expression x) p = λ e h. subst (IsHandleFault m) (sym h.1) (not_there n (to.Expression x) p h.0)
-refused-missing m n (to.LocalVariable v) p = λ e h. subst (IsHandleFault m) (sym h.1) (not_there n (to.LocalVariable v) p h.0)
-refused-missing m n (to.Function f) p = λ e h. subst (IsHandleFault m) (sym h.1) (not_there n (to.Function f) p h.0)
-refused-missing m n (to.DiagnosticFilterNode d) p = λ e h. subst (IsHandleFault m) (sym h.1) (not_there n (to.DiagnosticFilterNode d) p h.0)
-refused-missing m n (to.Emit range) p = λ e h. subst (IsHandleFault m) (sym h.1) (not_there n (to.Emit range) p h.0)
+refused-missing m n r p = λ e h.
+    let a = subst (λ s. Answers (record { there = n; subject = s; target = r }) (Err e)) (no-subject r) h in
+    subst (IsHandleFault m) (sym a.1) (not_there n r p a.0)
 
 -- what doesn't come before a number doesn't stand below it
 not-before : (a b : ℕ) → (a < b → ⊥) → b ≤ a
@@ -52,27 +58,40 @@ not-before a b h = omega (arith, h)
 plain-among : (f : Function) → All (Contains (function_references f)) (plain_references f)
 plain-among f = all-plain (Contains (function_references f)) f (All-contains_itself (function_references f))
 
+-- a function of the module names something else than a function that is missing
+refused-no_function : (m : Module) (f : Function) (r : Reference) → Contains m.functions f → Contains (plain_references f) r → IsNoFunction r
+    → Refused m (look (function_counts m f) (of_function None) r)
+refused-no_function m f r among h free = refused-missing m (function_counts m f) r (faults.in_function f r among h free)
+
 -- a function of the module names a function that doesn't come before it, or something that is missing
 refused-in_function : (m : Module) (i : ℕ) (f : Function) (r : Reference) → slice_get m.functions i ≡ Some f → Contains m.functions f
     → Contains (plain_references f) r → Refused m (look (function_counts m f) (of_function (Some i)) r)
 refused-in_function m i f (to.Function j) at among h =
     let stands = All-contains (Contains (function_references f)) (plain_references f) (to.Function j) (plain-among f) h in
     λ e a. subst (IsHandleFault m) (sym a.1) (forward_in_module (to.Function i) (to.Function j) (called i j f at stands) (not-before j i a.0))
-refused-in_function m i f (to.Type_ t) at among h = refused-missing m (function_counts m f) (to.Type_ t) (plain.in_function f (to.Type_ t) among h tt)
-refused-in_function m i f (to.Constant c) at among h = refused-missing m (function_counts m f) (to.Constant c) (plain.in_function f (to.Constant c) among h tt)
-refused-in_function m i f (to.Override o) at among h = refused-missing m (function_counts m f) (to.Override o) (plain.in_function f (to.Override o) among h tt)
-refused-in_function m i f (to.GlobalVariable v) at among h = refused-missing m (function_counts m f) (to.GlobalVariable v) (plain.in_function f (to.GlobalVariable v) among h tt)
-refused-in_function m i f (to.Expression x) at among h = refused-missing m (function_counts m f) (to.Expression x) (plain.in_function f (to.Expression x) among h tt)
-refused-in_function m i f (to.LocalVariable v) at among h = refused-missing m (function_counts m f) (to.LocalVariable v) (plain.in_function f (to.LocalVariable v) among h tt)
-refused-in_function m i f (to.DiagnosticFilterNode d) at among h = refused-missing m (function_counts m f) (to.DiagnosticFilterNode d) (plain.in_function f (to.DiagnosticFilterNode d) among h tt)
-refused-in_function m i f (to.Emit range) at among h = refused-missing m (function_counts m f) (to.Emit range) (plain.in_function f (to.Emit range) among h tt)
+refused-in_function m i f (to.Type_ t) at among h = refused-no_function m f (to.Type_ t) among h tt
+refused-in_function m i f (to.Constant c) at among h = refused-no_function m f (to.Constant c) among h tt
+refused-in_function m i f (to.Override o) at among h = refused-no_function m f (to.Override o) among h tt
+refused-in_function m i f (to.GlobalVariable v) at among h = refused-no_function m f (to.GlobalVariable v) among h tt
+refused-in_function m i f (to.Expression x) at among h = refused-no_function m f (to.Expression x) among h tt
+refused-in_function m i f (to.LocalVariable v) at among h = refused-no_function m f (to.LocalVariable v) among h tt
+refused-in_function m i f (to.DiagnosticFilterNode d) at among h = refused-no_function m f (to.DiagnosticFilterNode d) among h tt
+refused-in_function m i f (to.Emit range) at among h = refused-no_function m f (to.Emit range) among h tt
+
+-- an operand that doesn't come before its expression goes forward
+refused-operand : (m : Module) (n : Counts) (f : Function) → Contains (all_functions m) f → (e o : ℕ) (x : Expression) → slice_get f.expressions e ≡ Some x → Contains (operands x) o
+    → Refused m (look n (of_expression e) (to.Expression o))
+refused-operand m n f among e o x at h = λ error a.
+    subst (IsHandleFault m) (sym a.1)
+    (forward_in_module (to.Expression e) (to.Expression o) (in_function f (to.Expression e) (to.Expression o) among (own_operand e o x at h)) (not-before o e a.0))
 
 -- what holds of all looks at what need only be there, and at the operands of its expressions, holds of all looks at a function
 module _ (P : Look → Type 0) (n : Counts) (caller : Option ℕ) (f : Function) where
   abbrev Given : Reference → Type 0
   Given r = P (look n (of_function caller) r)
 
-  all-expression : (e : ℕ) (x : Expression) → All (λ o. P (look n (of_expression e) (to.Expression o))) (operands x) → All Given (named_references x) → All P (expression_looks n caller (e, x))
+  all-expression : (e : ℕ) (x : Expression) → All (λ o. P (look n (of_expression e) (to.Expression o))) (operands x) → All Given (named_references x)
+      → All P (expression_looks n caller (e, x))
   all-expression e x ordered named =
       All-append P (looks n (of_expression e) (map to.Expression (operands x))) (looks n (of_function caller) (named_references x))
       (All-map P (look n (of_expression e)) (map to.Expression (operands x)) (All-map (λ r. P (look n (of_expression e) r)) to.Expression (operands x) ordered))
@@ -172,12 +191,11 @@ entry_point-refused : (m : Module) (k : ℕ) (p : EntryPoint) → slice_get m.en
 entry_point-refused m k p at =
     let n = function_counts m p.function in
     let among = contains-at m.entry_points k p at in
-    let of_all = Contains-append_right m.functions (map (λ (q : EntryPoint). q.function) m.entry_points) p.function (contains-map (λ (q : EntryPoint). q.function) m.entry_points p among) in
+    let among_all = Contains-append_right m.functions (map (λ (q : EntryPoint). q.function) m.entry_points) p.function (contains-map (λ (q : EntryPoint). q.function) m.entry_points p among) in
     All-append (Refused m) (function_looks n None p.function) (looks (module_counts m) (of_function None) (entry_point_references p))
     (all-function (Refused m) n None p.function
     (all-of (Given (Refused m) n None p.function) (plain_references p.function) (λ r h. refused-missing m n r (in_entry_point p r among h)))
-    (λ e o x here h. λ error a. subst (IsHandleFault m) (sym a.1)
-    (forward_in_module (to.Expression e) (to.Expression o) (in_function p.function (to.Expression e) (to.Expression o) of_all (own_operand e o x here h)) (not-before o e a.0))))
+    (refused-operand m n p.function among_all))
     (other-refused m (entry_point_references p) (all-unflat (Other m) entry_point_references m.entry_points k p at (in_entry_points m)))
 
 -- at a function
@@ -185,11 +203,10 @@ function-refused : (m : Module) (i : ℕ) (f : Function) → slice_get m.functio
 function-refused m i f at =
     let n = function_counts m f in
     let among = contains-at m.functions i f at in
-    let of_all = Contains-append_left m.functions (map (λ (q : EntryPoint). q.function) m.entry_points) f among in
+    let among_all = Contains-append_left m.functions (map (λ (q : EntryPoint). q.function) m.entry_points) f among in
     all-function (Refused m) n (Some i) f
     (all-of (Given (Refused m) n (Some i) f) (plain_references f) (λ r h. refused-in_function m i f r at among h))
-    (λ e o x here h. λ error a. subst (IsHandleFault m) (sym a.1)
-    (forward_in_module (to.Expression e) (to.Expression o) (in_function f (to.Expression e) (to.Expression o) of_all (own_operand e o x here h)) (not-before o e a.0)))
+    (refused-operand m n f among_all)
 
 -- at a filter
 filter-refused : (m : Module) (d : ℕ) (node : DiagnosticFilterNode) (o : Option ℕ) → slice_get m.diagnostic_filters d ≡ Some node → node.parent ≡ o
@@ -241,7 +258,7 @@ member-refused m c among fault (inl (past, e)) =
     let t = to.Type_ c.0.0 in
     let named = All-contains (Other m) (members m) t (in_members m) (contains-map (λ (k : (ℕ × ℕ) × List (List ℕ)). to.Type_ k.0.0) m.doc_comments.struct_members c among) in
     inl (subst (IsFault m) (sym e) (invalid (missing t) (not_there (module_counts m) t (other t named) (λ within. omega (arith, within, past)))))
-member-refused m c among fault (inr (x, at, lacks, inl e)) = inr (e, (c.0.0, plain.called x, missing_member c.0.0 c.0.1 c.1 x among at lacks))
+member-refused m c among fault (inr (x, at, lacks, inl e)) = inr (e, (c.0.0, faults.called x, missing_member c.0.0 c.0.1 c.1 x among at lacks))
 member-refused m c among fault (inr (x, at, lacks, inr e)) = inl (subst (IsFault m) (sym e) (missing_member c.0.0 c.0.1 c.1 x among at lacks))
 
 -- so the walk over these comments refuses rightly

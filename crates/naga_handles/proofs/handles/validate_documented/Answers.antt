@@ -1,13 +1,10 @@
-use Rattle.std.proofs.Common.{rules, ℕ, ◌≡◌, List, ◌++◌, map, subst, sym}
+use Rattle.std.proofs.Common.{rules, ℕ, ◌≡◌, List, subst, sym}
 use Rattle.std.specs.Prelude.{Err}
 use Rattle.naga_ir.specs.Walks.{ChecksEach}
-use Rattle.naga_ir.specs.declared.reference.Reference.{Reference}
 use Rattle.naga_ir.specs.declared.reference.Reference.TheVariants as to
-use Rattle.naga_ir.proofs.StatementLemmas.{checks-along}
-use Rattle.naga_handles.specs.ItemLooks.{Answers, looks}
+use Rattle.naga_handles.specs.ItemLooks.{Answers}
 use Rattle.naga_handles.specs.Looks.{of_function}
-use Rattle.naga_handles.proofs.Looking.{checks-called-one, looks-append-four}
-use Rattle.naga_handles.proofs.Passing.{begin, last, more, stop}
+use Rattle.naga_handles.proofs.Looking.{checks-called-one, looks-before, looks-then}
 use Rattle.naga_handles.proofs.handles.validate_documented.Goals as goal
 
 pub returns-in_err-try_each : goal.returns-in_err-try_each
@@ -15,75 +12,37 @@ returns-in_err-try_each c =
     let n = c.args.scope.now.counts in
     let s = of_function c.args.scope.now.caller in
     let d = c.args.comments.now in
-    let types : List Reference = map (λ (p : ℕ × List (List ℕ)). to.Type_ p.0) d.types in
-    let functions : List Reference = map (λ (p : ℕ × List (List ℕ)). to.Function p.0) d.functions in
-    let constants : List Reference = map (λ (p : ℕ × List (List ℕ)). to.Constant p.0) d.constants in
-    let variables : List Reference = map (λ (p : ℕ × List (List ℕ)). to.GlobalVariable p.0) d.global_variables in
-    let same = looks-append-four n s types functions constants variables in
-    let p0 = begin Answers (looks n s types ++ (looks n s functions ++ (looks n s constants ++ looks n s variables))) in
     let is : c.from_residual.result ≡ Err c.in_err-try_each.field-0.0 = search rules in
     subst (ChecksEach Answers _) (sym is)
-    (checks-along Answers _ _ (Err _) same
-    (stop Answers (looks n s types) (looks n s functions ++ (looks n s constants ++ looks n s variables)) _ p0
-    (checks-called-one n s (λ (p : ℕ × List (List ℕ)). to.Type_ p.0) d.types c.as_slice.ensures (λ y t k. search rules) c.in_err-try_each.ensures)))
+    (looks-before n s _ _ _ (checks-called-one n s (λ (p : ℕ × List (List ℕ)). to.Type_ p.0) d.types c.as_slice.ensures (λ y t k. search rules) c.in_err-try_each.ensures))
 
 pub returns-in_err-try_each-2 : goal.returns-in_err-try_each-2
 returns-in_err-try_each-2 c =
     let n = c.args.scope.now.counts in
     let s = of_function c.args.scope.now.caller in
     let d = c.args.comments.now in
-    let types : List Reference = map (λ (p : ℕ × List (List ℕ)). to.Type_ p.0) d.types in
-    let functions : List Reference = map (λ (p : ℕ × List (List ℕ)). to.Function p.0) d.functions in
-    let constants : List Reference = map (λ (p : ℕ × List (List ℕ)). to.Constant p.0) d.constants in
-    let variables : List Reference = map (λ (p : ℕ × List (List ℕ)). to.GlobalVariable p.0) d.global_variables in
-    let same = looks-append-four n s types functions constants variables in
-    let p0 = begin Answers (looks n s types ++ (looks n s functions ++ (looks n s constants ++ looks n s variables))) in
-    let p1 = more Answers (looks n s types) (looks n s functions ++ (looks n s constants ++ looks n s variables)) p0
-    (checks-called-one n s (λ (p : ℕ × List (List ℕ)). to.Type_ p.0) d.types c.as_slice.ensures (λ y t k. search rules) c.in_ok-try_each.ensures) in
     let is : c.from_residual-in_err-try_each-2.result ≡ Err c.in_err-try_each-2.field-0.0 = search rules in
     subst (ChecksEach Answers _) (sym is)
-    (checks-along Answers _ _ (Err _) same
-    (stop Answers (looks n s functions) (looks n s constants ++ looks n s variables) _ p1
-    (checks-called-one n s (λ (p : ℕ × List (List ℕ)). to.Function p.0) d.functions c.as_slice-2.ensures (λ y t k. search rules) c.in_err-try_each-2.ensures)))
+    (looks-then n s _ _ (Err _) (checks-called-one n s (λ (p : ℕ × List (List ℕ)). to.Type_ p.0) d.types c.as_slice.ensures (λ y t k. search rules) c.in_ok-try_each.ensures)
+    (looks-before n s _ _ _ (checks-called-one n s (λ (p : ℕ × List (List ℕ)). to.Function p.0) d.functions c.as_slice-2.ensures (λ y t k. search rules) c.in_err-try_each-2.ensures)))
 
 pub returns-in_err-try_each-3 : goal.returns-in_err-try_each-3
 returns-in_err-try_each-3 c =
     let n = c.args.scope.now.counts in
     let s = of_function c.args.scope.now.caller in
     let d = c.args.comments.now in
-    let types : List Reference = map (λ (p : ℕ × List (List ℕ)). to.Type_ p.0) d.types in
-    let functions : List Reference = map (λ (p : ℕ × List (List ℕ)). to.Function p.0) d.functions in
-    let constants : List Reference = map (λ (p : ℕ × List (List ℕ)). to.Constant p.0) d.constants in
-    let variables : List Reference = map (λ (p : ℕ × List (List ℕ)). to.GlobalVariable p.0) d.global_variables in
-    let same = looks-append-four n s types functions constants variables in
-    let p0 = begin Answers (looks n s types ++ (looks n s functions ++ (looks n s constants ++ looks n s variables))) in
-    let p1 = more Answers (looks n s types) (looks n s functions ++ (looks n s constants ++ looks n s variables)) p0
-    (checks-called-one n s (λ (p : ℕ × List (List ℕ)). to.Type_ p.0) d.types c.as_slice.ensures (λ y t k. search rules) c.in_ok-try_each.ensures) in
-    let p2 = more Answers (looks n s functions) (looks n s constants ++ looks n s variables) p1
-    (checks-called-one n s (λ (p : ℕ × List (List ℕ)). to.Function p.0) d.functions c.as_slice-2.ensures (λ y t k. search rules) c.in_ok-try_each-2.ensures) in
     let is : c.from_residual-in_err-try_each-3.result ≡ Err c.in_err-try_each-3.field-0.0 = search rules in
     subst (ChecksEach Answers _) (sym is)
-    (checks-along Answers _ _ (Err _) same
-    (stop Answers (looks n s constants) (looks n s variables) _ p2
-    (checks-called-one n s (λ (p : ℕ × List (List ℕ)). to.Constant p.0) d.constants c.as_slice-3.ensures (λ y t k. search rules) c.in_err-try_each-3.ensures)))
+    (looks-then n s _ _ (Err _) (checks-called-one n s (λ (p : ℕ × List (List ℕ)). to.Type_ p.0) d.types c.as_slice.ensures (λ y t k. search rules) c.in_ok-try_each.ensures)
+    (looks-then n s _ _ (Err _) (checks-called-one n s (λ (p : ℕ × List (List ℕ)). to.Function p.0) d.functions c.as_slice-2.ensures (λ y t k. search rules) c.in_ok-try_each-2.ensures)
+    (looks-before n s _ _ _ (checks-called-one n s (λ (p : ℕ × List (List ℕ)). to.Constant p.0) d.constants c.as_slice-3.ensures (λ y t k. search rules) c.in_err-try_each-3.ensures))))
 
 pub returns : goal.returns
 returns c =
     let n = c.args.scope.now.counts in
     let s = of_function c.args.scope.now.caller in
     let d = c.args.comments.now in
-    let types : List Reference = map (λ (p : ℕ × List (List ℕ)). to.Type_ p.0) d.types in
-    let functions : List Reference = map (λ (p : ℕ × List (List ℕ)). to.Function p.0) d.functions in
-    let constants : List Reference = map (λ (p : ℕ × List (List ℕ)). to.Constant p.0) d.constants in
-    let variables : List Reference = map (λ (p : ℕ × List (List ℕ)). to.GlobalVariable p.0) d.global_variables in
-    let same = looks-append-four n s types functions constants variables in
-    let p0 = begin Answers (looks n s types ++ (looks n s functions ++ (looks n s constants ++ looks n s variables))) in
-    let p1 = more Answers (looks n s types) (looks n s functions ++ (looks n s constants ++ looks n s variables)) p0
-    (checks-called-one n s (λ (p : ℕ × List (List ℕ)). to.Type_ p.0) d.types c.as_slice.ensures (λ y t k. search rules) c.in_ok-try_each.ensures) in
-    let p2 = more Answers (looks n s functions) (looks n s constants ++ looks n s variables) p1
-    (checks-called-one n s (λ (p : ℕ × List (List ℕ)). to.Function p.0) d.functions c.as_slice-2.ensures (λ y t k. search rules) c.in_ok-try_each-2.ensures) in
-    let p3 = more Answers (looks n s constants) (looks n s variables) p2
-    (checks-called-one n s (λ (p : ℕ × List (List ℕ)). to.Constant p.0) d.constants c.as_slice-3.ensures (λ y t k. search rules) c.in_ok-try_each-3.ensures) in
-    checks-along Answers _ _ _ same
-    (last Answers (looks n s variables) _ p3
-    (checks-called-one n s (λ (p : ℕ × List (List ℕ)). to.GlobalVariable p.0) d.global_variables c.as_slice-4.ensures (λ y t k. search rules) c.try_each-4.ensures))
+    looks-then n s _ _ _ (checks-called-one n s (λ (p : ℕ × List (List ℕ)). to.Type_ p.0) d.types c.as_slice.ensures (λ y t k. search rules) c.in_ok-try_each.ensures)
+    (looks-then n s _ _ _ (checks-called-one n s (λ (p : ℕ × List (List ℕ)). to.Function p.0) d.functions c.as_slice-2.ensures (λ y t k. search rules) c.in_ok-try_each-2.ensures)
+    (looks-then n s _ _ _ (checks-called-one n s (λ (p : ℕ × List (List ℕ)). to.Constant p.0) d.constants c.as_slice-3.ensures (λ y t k. search rules) c.in_ok-try_each-3.ensures)
+    (checks-called-one n s (λ (p : ℕ × List (List ℕ)). to.GlobalVariable p.0) d.global_variables c.as_slice-4.ensures (λ y t k. search rules) c.try_each-4.ensures)))
