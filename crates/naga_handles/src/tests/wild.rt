@@ -1,4 +1,4 @@
-//! Wild handles: each place of a module where one may stand is looked at.
+//! Wild handles in the items of a module, statements aside: what they name isn't there, and that is told.
 
 use super::{add, add_type, bad_handle, with_module};
 use crate::handles::validate_module_handles;
