@@ -16,6 +16,8 @@ mod handles;
 mod refused_memory;
 mod walk;
 mod wild;
+mod wild_blocks;
+mod wild_functions;
 
 /// What `judge` makes of a module, which is empty at first. No other function here owns a module, since
 /// each exit of a function drops what it owns, and the proof goes through each.

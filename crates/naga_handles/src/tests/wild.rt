@@ -1,30 +1,31 @@
-//! Wild handles in the items of a module, statements aside: what they name isn't there, and that is told.
+//! Wild handles in the items of a module, functions aside: what they name isn't there, and that is told.
 
-use super::{add, add_type, bad_handle, with_module};
+use super::{add, add_type, bad_handle, forward, with_module};
+use crate::error::ValidationFault;
 use crate::handles::validate_module_handles;
 use naga_ir::expression::Expression;
 use naga_ir::handle::{Handle, Kind};
 use naga_ir::ir::{
-    Constant, EntryPoint, Function, FunctionArgument, FunctionResult, GlobalVariable,
-    LocalVariable, MeshStageInfo, Module, Override,
+    Constant, DiagnosticFilterNode, EntryPoint, Function, GlobalVariable, MeshStageInfo, Module,
+    Override,
 };
 use naga_ir::list::List;
 use naga_ir::memory::OutOfMemory;
 use naga_ir::span::Span;
-use naga_ir::tags::{ExpressionTag, TypeTag};
+use naga_ir::tags::{DiagnosticFilterNodeTag, ExpressionTag, GlobalVariableTag, TypeTag};
 use naga_ir::text::Text;
-use naga_ir::types::{AddressSpace, Scalar, TypeInner};
+use naga_ir::types::{AddressSpace, ArraySize, Scalar, StructMember, TypeInner};
 use std::alloc::Global;
 use std::process::Abort;
 use std::test::Fail;
 
 /// A handle that no arena of these modules has.
-fn wild<K: Kind>() -> Handle<K> {
+pub(super) fn wild<K: Kind>() -> Handle<K> {
     Handle::new(4294967294)
 }
 
 /// The handle of the only item of an arena.
-fn only<K: Kind>() -> Handle<K> {
+pub(super) fn only<K: Kind>() -> Handle<K> {
     Handle::new(0)
 }
 
@@ -55,7 +56,7 @@ fn variable(ty: Handle<TypeTag>, init: Handle<ExpressionTag>) -> GlobalVariable 
 }
 
 /// Adds a type, a global expression and a variable, which are right.
-fn begin(rt: &impl Abort, module: &mut Module) -> Result<(), OutOfMemory> {
+pub(super) fn begin(rt: &impl Abort, module: &mut Module) -> Result<(), OutOfMemory> {
     add_type(rt, module, TypeInner::Scalar(Scalar::U32))?;
     add(rt, module, Expression::ZeroValue(only()))?;
     add_variable(rt, module, variable(only(), only()))
@@ -71,9 +72,19 @@ fn add_variable(
     Ok(())
 }
 
-/// Whether a module is refused for a wild handle of this kind.
+/// The fault of a wild handle of this kind that has to be there.
+pub(super) fn missing(kind: &'static str) -> ValidationFault {
+    bad_handle(kind, 4294967294)
+}
+
+/// The fault of a wild handle in an item that depends on earlier ones of its kind.
+pub(super) fn ahead<K: Kind>(item: u8) -> ValidationFault {
+    forward::<K>(Handle::new(u32::from(item)), wild())
+}
+
+/// Whether a module is refused for a wild handle of this kind, which has to be there.
 fn is_told(alloc: Global, module: &Module, kind: &'static str) -> bool {
-    validate_module_handles(alloc, module) == Err(bad_handle(kind, 4294967294))
+    validate_module_handles(alloc, module) == Err(missing(kind))
 }
 
 /// The same of a module with a constant.
@@ -132,6 +143,131 @@ fn wild_values_are_told(rt: HostRuntime) -> Result<(), Fail> {
     Ok(())
 }
 
+/// Whether a module with one more type is refused with this fault.
+fn is_type_told(
+    rt: &impl Abort,
+    alloc: Global,
+    inner: TypeInner,
+    fault: ValidationFault,
+) -> Result<bool, OutOfMemory> {
+    with_module(alloc, |module| {
+        begin(rt, module)?;
+        add_type(rt, module, inner)?;
+        Ok(validate_module_handles(alloc, module) == Err(fault))
+    })
+}
+
+#[test]
+fn wild_parts_of_types_are_told(rt: HostRuntime) -> Result<(), Fail> {
+    let alloc = rt.alloc();
+    let base = wild();
+    let space = AddressSpace::Private;
+    let size = ArraySize::Dynamic;
+    for inner in [
+        TypeInner::Pointer { base, space },
+        TypeInner::Array {
+            base,
+            size,
+            stride: 4,
+        },
+        TypeInner::BindingArray { base, size },
+    ] {
+        assert!(rt; is_type_told(&rt, alloc, inner, ahead::<TypeTag>(1))?);
+    }
+    let mut members = List::new(alloc);
+    for ty in [only(), wild()] {
+        members.push(StructMember {
+            name: None,
+            ty,
+            binding: None,
+            offset: 0,
+        })?;
+    }
+    let inner = TypeInner::Struct { members, span: 4 };
+    assert!(rt; is_type_told(&rt, alloc, inner, ahead::<TypeTag>(1))?);
+    Ok(())
+}
+
+#[test]
+fn wild_sizes_of_types_are_told(rt: HostRuntime) -> Result<(), Fail> {
+    let alloc = rt.alloc();
+    let base = only();
+    let size = ArraySize::Pending(wild());
+    for inner in [
+        TypeInner::Array {
+            base,
+            size,
+            stride: 4,
+        },
+        TypeInner::BindingArray { base, size },
+    ] {
+        assert!(rt; is_type_told(&rt, alloc, inner, missing("Override"))?);
+    }
+    Ok(())
+}
+
+/// Whether a module with one more global expression is refused with this fault.
+fn is_expression_told(
+    rt: &impl Abort,
+    alloc: Global,
+    expression: Expression,
+    fault: ValidationFault,
+) -> Result<bool, OutOfMemory> {
+    with_module(alloc, |module| {
+        begin(rt, module)?;
+        add(rt, module, expression)?;
+        Ok(validate_module_handles(alloc, module) == Err(fault))
+    })
+}
+
+#[test]
+fn wild_global_expressions_are_told(rt: HostRuntime) -> Result<(), Fail> {
+    let alloc = rt.alloc();
+    for (expression, kind) in [
+        (Expression::ZeroValue(wild()), "Type"),
+        (Expression::Constant(wild()), "Constant"),
+        (Expression::Override(wild()), "Override"),
+        (Expression::GlobalVariable(wild()), "GlobalVariable"),
+        (Expression::LocalVariable(wild()), "LocalVariable"),
+        (Expression::CallResult(wild()), "Function"),
+    ] {
+        assert!(rt;
+            is_expression_told(&rt, alloc, expression, missing(kind))?,
+            "{kind}"
+        );
+    }
+    let expression = Expression::ArrayLength(wild());
+    assert!(rt; is_expression_told(&rt, alloc, expression, ahead::<ExpressionTag>(1))?);
+    Ok(())
+}
+
+/// Whether a module with one filter is refused with this fault.
+fn is_filter_told(
+    rt: &impl Abort,
+    alloc: Global,
+    node: DiagnosticFilterNode,
+    fault: ValidationFault,
+) -> Result<bool, OutOfMemory> {
+    with_module(alloc, |module| {
+        assert!(rt; module.diagnostic_filters.len() < 100);
+        module.diagnostic_filters.append(node, Span::default())?;
+        Ok(validate_module_handles(alloc, module) == Err(fault))
+    })
+}
+
+#[test]
+fn wild_filters_are_told(rt: HostRuntime) -> Result<(), Fail> {
+    let alloc = rt.alloc();
+    let parent = Some(wild());
+    let fault = ahead::<DiagnosticFilterNodeTag>(0);
+    assert!(rt; is_filter_told(&rt, alloc, DiagnosticFilterNode { parent }, fault)?);
+    with_module(alloc, |module| {
+        module.diagnostic_filter_leaf = Some(wild());
+        assert!(rt; is_told(alloc, module, "DiagnosticFilterNode"));
+        Ok(())
+    })
+}
+
 #[test]
 fn wild_special_types_are_told(rt: HostRuntime) -> Result<(), Fail> {
     let alloc = rt.alloc();
@@ -182,128 +318,23 @@ fn wild_comments_are_told(rt: HostRuntime) -> Result<(), Fail> {
     })
 }
 
-/// Whether a module with a function is refused for a wild handle of this kind.
-fn is_function_told(
-    rt: &impl Abort,
-    alloc: Global,
-    function: Function,
-    kind: &'static str,
-) -> Result<bool, OutOfMemory> {
-    with_module(alloc, |module| {
-        begin(rt, module)?;
-        assert!(rt; module.functions.len() < 100);
-        module.functions.append(function, Span::default())?;
-        Ok(is_told(alloc, module, kind))
-    })
-}
-
-/// A function with an argument, an answer and an expression with a name.
-fn signed(
-    alloc: Global,
-    argument: Handle<TypeTag>,
-    answer: Handle<TypeTag>,
-    named: Handle<ExpressionTag>,
-) -> Result<Function, OutOfMemory> {
-    let mut function = Function::new(alloc);
-    function.arguments.push(FunctionArgument {
-        name: None,
-        ty: argument,
-        binding: None,
-    })?;
-    function.result = Some(FunctionResult {
-        ty: answer,
-        binding: None,
-    });
-    function.named_expressions.push((named, Text::new(alloc)))?;
-    Ok(function)
-}
-
-/// A function with a variable and an expression.
-fn filled(
-    rt: &impl Abort,
-    alloc: Global,
-    variable: LocalVariable,
-    expression: Expression,
-) -> Result<Function, OutOfMemory> {
-    let mut function = Function::new(alloc);
-    assert!(rt; function.local_variables.len() < 100);
-    function.local_variables.append(variable, Span::default())?;
-    assert!(rt; function.expressions.len() < 100);
-    function.expressions.append(expression, Span::default())?;
-    Ok(function)
-}
-
-fn local(ty: Handle<TypeTag>, init: Handle<ExpressionTag>) -> LocalVariable {
-    LocalVariable {
-        name: None,
-        ty,
-        init: Some(init),
-    }
-}
-
-#[test]
-fn wild_signatures_are_told(rt: HostRuntime) -> Result<(), Fail> {
-    let alloc = rt.alloc();
-    let function = signed(alloc, wild(), only(), only())?;
-    assert!(rt; is_function_told(&rt, alloc, function, "Type")?);
-    let function = signed(alloc, only(), wild(), only())?;
-    assert!(rt; is_function_told(&rt, alloc, function, "Type")?);
-    let function = signed(alloc, only(), only(), wild())?;
-    assert!(rt; is_function_told(&rt, alloc, function, "Expression")?);
-    let mut function = Function::new(alloc);
-    function.diagnostic_filter_leaf = Some(wild());
-    assert!(rt; is_function_told(&rt, alloc, function, "DiagnosticFilterNode")?);
-    Ok(())
-}
-
-#[test]
-fn wild_variables_of_functions_are_told(rt: HostRuntime) -> Result<(), Fail> {
-    let alloc = rt.alloc();
-    let right = Expression::ZeroValue(only());
-    let function = filled(&rt, alloc, local(wild(), only()), right)?;
-    assert!(rt; is_function_told(&rt, alloc, function, "Type")?);
-    let right = Expression::ZeroValue(only());
-    let function = filled(&rt, alloc, local(only(), wild()), right)?;
-    assert!(rt; is_function_told(&rt, alloc, function, "Expression")?);
-    Ok(())
-}
-
-#[test]
-fn wild_expressions_are_told(rt: HostRuntime) -> Result<(), Fail> {
-    let alloc = rt.alloc();
-    for (expression, kind) in [
-        (Expression::ZeroValue(wild()), "Type"),
-        (Expression::Constant(wild()), "Constant"),
-        (Expression::Override(wild()), "Override"),
-        (Expression::GlobalVariable(wild()), "GlobalVariable"),
-        (Expression::LocalVariable(wild()), "LocalVariable"),
-        (Expression::SubgroupOperationResult { ty: wild() }, "Type"),
-        (
-            Expression::WorkGroupUniformLoadResult { ty: wild() },
-            "Type",
-        ),
-    ] {
-        let function = filled(&rt, alloc, local(only(), only()), expression)?;
-        assert!(rt; is_function_told(&rt, alloc, function, kind)?, "{kind}");
-    }
-    Ok(())
-}
-
 /// Whether a module with an entry point is refused for a wild handle of this kind.
 fn is_entry_point_told(
     rt: &impl Abort,
     alloc: Global,
-    workgroup_size: Option<Handle<ExpressionTag>>,
+    workgroup_sizes: [Option<Handle<ExpressionTag>>; 3],
     mesh_info: MeshStageInfo,
+    task_payload: Option<Handle<GlobalVariableTag>>,
     kind: &'static str,
 ) -> Result<bool, OutOfMemory> {
+    let [first, second, third] = workgroup_sizes;
     with_module(alloc, |module| {
         begin(rt, module)?;
         module.entry_points.push(EntryPoint {
             name: Text::new(alloc),
-            workgroup_size_overrides: Some([None, None, workgroup_size]),
+            workgroup_size_overrides: Some([first, second, third]),
             function: Function::new(alloc),
-            task_payload: Some(mesh_info.output_variable),
+            task_payload,
             mesh_info: Some(mesh_info),
         })?;
         Ok(is_told(alloc, module, kind))
@@ -322,9 +353,23 @@ fn mesh() -> MeshStageInfo {
 }
 
 #[test]
-fn wild_entry_points_are_told(rt: HostRuntime) -> Result<(), Fail> {
+fn wild_workgroup_sizes_and_payloads_are_told(rt: HostRuntime) -> Result<(), Fail> {
     let alloc = rt.alloc();
-    assert!(rt; is_entry_point_told(&rt, alloc, Some(wild()), mesh(), "Expression")?);
+    for sizes in [
+        [Some(wild()), None, None],
+        [None, Some(wild()), None],
+        [Some(only()), None, Some(wild())],
+    ] {
+        assert!(rt; is_entry_point_told(&rt, alloc, sizes, mesh(), None, "Expression")?);
+    }
+    let sizes = [None, None, None];
+    assert!(rt; is_entry_point_told(&rt, alloc, sizes, mesh(), Some(wild()), "GlobalVariable")?);
+    Ok(())
+}
+
+#[test]
+fn wild_mesh_outputs_are_told(rt: HostRuntime) -> Result<(), Fail> {
+    let alloc = rt.alloc();
     let mut output = mesh();
     output.output_variable = wild();
     let mut vertex = mesh();
@@ -342,7 +387,7 @@ fn wild_entry_points_are_told(rt: HostRuntime) -> Result<(), Fail> {
         (vertices, "Expression"),
         (primitives, "Expression"),
     ] {
-        assert!(rt; is_entry_point_told(&rt, alloc, None, mesh, kind)?);
+        assert!(rt; is_entry_point_told(&rt, alloc, [None, None, None], mesh, None, kind)?);
     }
     Ok(())
 }
