@@ -1,10 +1,3 @@
-pub mod LineLaws
-pub mod Lists
-pub mod Modules
-pub mod Parts
-pub mod PlainTexts
 pub mod Reports
 pub mod Runs
-pub mod Tellings
-pub mod TextLaws
 pub mod Writes

@@ -6,18 +6,18 @@ use Rattle.naga_types.specs.declared.error.Disalignment.TheVariants.{ArrayStride
 use Rattle.naga_handles.specs.declared.error.InvalidHandleError.{InvalidHandleError}
 use Rattle.naga_handles.specs.declared.error.InvalidHandleError.TheVariants.{BadHandle, ForwardDependency, BadRange}
 use Rattle.naga_types.specs.declared.error.TypeError.{TypeError}
-use Rattle.naga_types.specs.declared.error.TypeError.TheVariants.{InvalidData, MatrixElementNotFloat, WidthError}
+use Rattle.naga_types.specs.declared.error.TypeError.TheVariants.{MissingCapability, InvalidAtomicWidth, InvalidPointerBase, InvalidPointerToUnsized, InvalidData, InvalidArrayBaseType, MatrixElementNotFloat, UnsupportedSpecializedArrayLength, UnsupportedImageType, InvalidArrayStride, InvalidDynamicArray, BindingArrayBaseTypeNotStruct, BindingArrayBaseExternalTextures, MemberOverlap, MemberOutOfBounds, EmptyStruct, InvalidBlendSrc, WidthError, UnresolvedOverride, InvalidArraySize, OutOfMemory as TypeOutOfMemory}
 use Rattle.naga_types.specs.declared.info.TypeInfo.{TypeInfo}
 use Rattle.naga_typing.specs.declared.layouter.LayoutErrorInner.{LayoutErrorInner}
 use Rattle.naga_typing.specs.declared.layouter.LayoutErrorInner.TheVariants.{TooLarge, NonPowerOfTwoWidth, OutOfMemory}
 use Rattle.naga_valid.specs.Accepted.{IsAccepted, IsRefusal, Settings}
 use Rattle.naga_valid.specs.declared.error.ValidationError.{ValidationError}
 use Rattle.naga_valid.specs.declared.error.ValidationError.TheVariants.{InvalidHandle, Layouter, Type_, OutOfMemory as NoMemory}
-use Rattle.naga_check.specs.Text.{IsFirstUnreadable, IsText}
-use Rattle.naga_check.specs.Words.{lines_of}
+use Rattle.naga_text.specs.Text.{IsFirstUnreadable, IsText}
+use Rattle.naga_text.specs.Words.{lines_of}
 use Rattle.naga_check.specs.declared.report.Outcome.{Outcome}
 use Rattle.naga_check.specs.declared.report.Outcome.TheVariants.{Accepted, Refused, Unreadable}
-use Rattle.naga_check.specs.declared.text.Contents.{Contents}
+use Rattle.naga_text.specs.declared.text.Contents.{Contents}
 
 -- two lower case hexadecimal digits of a byte
 abbrev pub hex_byte : ℕ → List ℕ
@@ -65,9 +65,27 @@ layout_error_name OutOfMemory = codes "OutOfMemory"
 
 -- the name of the rule that a type breaks
 abbrev pub type_error_name : TypeError → List ℕ
+type_error_name (MissingCapability capability) = codes "MissingCapability"
+type_error_name (InvalidAtomicWidth kind width) = codes "InvalidAtomicWidth"
+type_error_name (InvalidPointerBase base) = codes "InvalidPointerBase"
+type_error_name (InvalidPointerToUnsized base space) = codes "InvalidPointerToUnsized"
 type_error_name (InvalidData handle) = codes "InvalidData"
+type_error_name (InvalidArrayBaseType base) = codes "InvalidArrayBaseType"
 type_error_name MatrixElementNotFloat = codes "MatrixElementNotFloat"
+type_error_name (UnsupportedSpecializedArrayLength constant) = codes "UnsupportedSpecializedArrayLength"
+type_error_name (UnsupportedImageType dim arrayed class) = codes "UnsupportedImageType"
+type_error_name (InvalidArrayStride stride expected) = codes "InvalidArrayStride"
+type_error_name (InvalidDynamicArray name ty) = codes "InvalidDynamicArray"
+type_error_name (BindingArrayBaseTypeNotStruct base) = codes "BindingArrayBaseTypeNotStruct"
+type_error_name BindingArrayBaseExternalTextures = codes "BindingArrayBaseExternalTextures"
+type_error_name (MemberOverlap index offset) = codes "MemberOverlap"
+type_error_name (MemberOutOfBounds index offset size span) = codes "MemberOutOfBounds"
+type_error_name EmptyStruct = codes "EmptyStruct"
+type_error_name (InvalidBlendSrc source) = codes "InvalidBlendSrc"
 type_error_name (WidthError source) = codes "WidthError"
+type_error_name (UnresolvedOverride handle) = codes "UnresolvedOverride"
+type_error_name (InvalidArraySize handle) = codes "InvalidArraySize"
+type_error_name TypeOutOfMemory = codes "OutOfMemory"
 
 -- the line of what is refused: its kind and number, and the name of the refusal
 abbrev pub refused_line : List ℕ → ℕ → List ℕ → List ℕ

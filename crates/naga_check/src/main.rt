@@ -3,14 +3,10 @@
 #![tactic(auto)]
 
 mod counted;
-mod line;
-mod number;
-mod pieces;
 #[cfg(test)]
 mod refused_memory;
 mod report;
 mod run;
-mod text;
 
 use counted::Counted;
 use run::{run, status};

@@ -53,7 +53,7 @@ fn is_refused_in_run(
 
 /// Runs over a text whose module is accepted.
 fn is_refused_in_accepted_run(rt: &(impl AllocGlobal + Abort)) -> bool {
-    let text = "type scalar float 4\ntype vector 4 float 4\ntype matrix 2 3 float 4\n";
+    let text = "type scalar float 4\ntype vector 4 float 4\ntype struct 16 1:0\n";
     let report = "T0 ff 4 4\nT1 ff 16 16\nT2 f7 16 16\nok\n";
     is_refused_in_run(rt, text, Outcome::Accepted, report)
 }
@@ -153,7 +153,6 @@ fn is_of_memory(rt: &impl Abort, error: &WithSpan<ValidationError>) -> bool {
 /// Validates a filled module, and answers whether memory was refused.
 fn is_refused_in_call(rt: &impl Abort, validator: &mut Validator, module: &Module) -> bool {
     assert!(rt; module.has_only_documented_types());
-    assert!(rt; module.types.are_plain());
     let answer = validator.validate(module);
     assert_eq!(rt; validator.type_count(), 0);
     let error = answer.expect_err(rt, "a Boolean has one byte");

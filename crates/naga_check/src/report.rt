@@ -1,14 +1,17 @@
 //! The report on a text.
 
-ghost use Rattle.naga_ir.specs.Scope.{HasOnlyPlainTypes};
+ghost use Rattle.naga_arena.specs.Memory.{AnsweredOrRefused};
+ghost use Rattle.naga_arena.specs.Span.{inner_of};
+ghost use Rattle.naga_valid.specs.Accepted.{AcceptsWith, HasNoValues, IsRefusal, settings_of};
+ghost use Rattle.naga_valid.specs.declared.error.ValidationError.TheVariants as error;
 ghost use Rattle.naga_check.specs.Report.{IsReport, IsReportOn, accepted_text, disalignment_name, handle_error_name, hex_byte, layout_error_name, layout_text, refused_text, type_error_name, type_line};
 ghost use Rattle.std.specs.Prelude.{◌≡◌, ◌++◌, IfOk, OnOk, codes, decimal, length, string_bytes};
 
-use crate::text::{Contents, TextError, read_text};
 use bitflags::Flags;
+use naga_text::text::{Contents, TextError, read_text};
 use naga_valid::{
     Disalignment, Handle, InvalidHandleError, LayoutCompatibility, LayoutErrorInner, Module,
-    TypeError, TypeFlags, TypeInfo, TypeTag, ValidationError, Validator,
+    ModuleInfo, TypeError, TypeFlags, TypeInfo, TypeTag, ValidationError, Validator, WithSpan,
 };
 use std::alloc::{AllocError, Global};
 
@@ -71,9 +74,27 @@ fn type_error_name(error: &TypeError) -> &'static str
     ensures { result.now ≡ type_error_name error.now }
 {
     match error {
+        TypeError::MissingCapability(_) => "MissingCapability",
+        TypeError::InvalidAtomicWidth(..) => "InvalidAtomicWidth",
+        TypeError::InvalidPointerBase(_) => "InvalidPointerBase",
+        TypeError::InvalidPointerToUnsized { .. } => "InvalidPointerToUnsized",
         TypeError::InvalidData(_) => "InvalidData",
+        TypeError::InvalidArrayBaseType(_) => "InvalidArrayBaseType",
         TypeError::MatrixElementNotFloat => "MatrixElementNotFloat",
+        TypeError::UnsupportedSpecializedArrayLength(_) => "UnsupportedSpecializedArrayLength",
+        TypeError::UnsupportedImageType { .. } => "UnsupportedImageType",
+        TypeError::InvalidArrayStride { .. } => "InvalidArrayStride",
+        TypeError::InvalidDynamicArray(..) => "InvalidDynamicArray",
+        TypeError::BindingArrayBaseTypeNotStruct(_) => "BindingArrayBaseTypeNotStruct",
+        TypeError::BindingArrayBaseExternalTextures => "BindingArrayBaseExternalTextures",
+        TypeError::MemberOverlap { .. } => "MemberOverlap",
+        TypeError::MemberOutOfBounds { .. } => "MemberOutOfBounds",
+        TypeError::EmptyStruct => "EmptyStruct",
+        TypeError::InvalidBlendSrc(_) => "InvalidBlendSrc",
         TypeError::WidthError(_) => "WidthError",
+        TypeError::UnresolvedOverride(_) => "UnresolvedOverride",
+        TypeError::InvalidArraySize(_) => "InvalidArraySize",
+        TypeError::OutOfMemory => "OutOfMemory",
     }
 }
 
@@ -147,18 +168,29 @@ fn refused(alloc: Global, error: &ValidationError) -> Result<String, AllocError>
     }
 }
 
-/// The report on what a text says.
-fn report_on(alloc: Global, contents: &Contents) -> Result<Report, AllocError>
-    requires { HasOnlyPlainTypes contents.now.«module» }
-    ensures { IfOk result (λ report. IsReportOn contents.now (string_bytes report.text) report.outcome) }
+/// What the rules say of what a text says.
+fn judge(
+    validator: &mut Validator,
+    contents: &Contents,
+) -> Result<ModuleInfo, WithSpan<ValidationError>>
+    requires { HasNoValues contents.now.«module» }
+    ensures { AnsweredOrRefused (λ e. inner_of e ≡ error.OutOfMemory) result (AcceptsWith contents.now.«module» (settings_of validator.old contents.now.resolved) validator.new.infos)
+        (λ e. IsRefusal contents.now.«module» (settings_of validator.old contents.now.resolved) (inner_of e)) }
 {
-    let mut validator = Validator::new(alloc, contents.flags, contents.capabilities);
-    let result = if contents.resolved {
+    if contents.resolved {
         validator.validate_resolved_overrides(&contents.module)
     } else {
         validator.validate(&contents.module)
-    };
-    match result {
+    }
+}
+
+/// The report on what a text says.
+fn report_on(alloc: Global, contents: &Contents) -> Result<Report, AllocError>
+    requires { HasNoValues contents.now.«module» }
+    ensures { IfOk result (λ report. IsReportOn contents.now (string_bytes report.text) report.outcome) }
+{
+    let mut validator = Validator::new(alloc, contents.flags, contents.capabilities);
+    match judge(&mut validator, contents) {
         Ok(_) => Ok(Report {
             text: accepted(alloc, &contents.module, &validator)?,
             outcome: Outcome::Accepted,

@@ -1,1 +1,5 @@
-pub mod PlainAlignment
+mod Composing
+mod Members
+mod Parts
+mod Sameness
+mod TypesAlone

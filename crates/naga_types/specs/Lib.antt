@@ -1,2 +1,10 @@
+pub mod Answers
+pub mod Composing
 pub mod Infos
+pub mod Judging
+pub mod Known
+pub mod Layouts
+pub mod Sameness
+pub mod StructRule
+pub mod Surroundings
 pub mod TypeRule

@@ -1,8 +1,12 @@
 //! The rule of one type: what it may be used for, and how hosts and devices may share it.
 #![tactic(auto)]
 
+mod arrays;
+pub mod compose;
 pub mod error;
 pub mod info;
+mod same_types;
+mod structs;
 #[cfg(test)]
 mod tests;
 pub mod validate;

@@ -1,6 +1,13 @@
 //! Answers that the rules give, by hand.
 
-ghost use Rattle.naga_ir.specs.Scope.{HasOnlyPlainTypes};
+ghost use Rattle.std.specs.Prelude.{◌≡◌, ◌<◌, ℕ, Contains, IsTrue, None, Some, slice_get};
+ghost use Rattle.naga_ir.specs.Handles.{GlobalReferencesOk};
+ghost use Rattle.naga_ir.specs.ItemReferences.{global_lists};
+ghost use Rattle.naga_ir_types.specs.Parts as of;
+ghost use Rattle.naga_ir_types.specs.Parts.{parts};
+ghost use Rattle.naga_ir_types.specs.declared.types.«Type» as declared;
+
+mod rules;
 
 use crate::error::{Disalignment, TypeError};
 use crate::info::{TypeContext, TypeInfo, TypeInfos};
@@ -11,55 +18,124 @@ use naga_flags::width::{ImmediateError, WidthError};
 use naga_ir::alignment::Alignment;
 use naga_ir::handle::Handle;
 use naga_ir::ir::Module;
+use naga_ir::memory::OutOfMemory;
 use naga_ir::span::Span;
+use naga_ir::tags::TypeTag;
 use naga_ir::text::StaticText;
 use naga_ir::types::{Scalar, ScalarKind, Type, TypeInner, VectorSize};
+use naga_ir::unique_arena::UniqueArena;
 use naga_typing::context::to_ctx;
 use naga_typing::layouter::Layouter;
 use std::alloc::Global;
 use std::process::Abort;
 use std::test::Fail;
 
-/// Makes sure that a module is of the kind that is judged so far.
-fn assert_plain(rt: &impl Abort, module: &Module)
-    ensures { HasOnlyPlainTypes «module».now }
+/// What `judge` makes of a module, which is empty at first. No other function here owns a module, since
+/// each exit of a function drops what it owns, and the proof goes through each.
+pub(crate) fn with_module<R, F: FnOnce(&mut Module) -> R>(alloc: Global, judge: F) -> R
+    requires { F.IsAlwaysCallable judge }
 {
-    assert!(rt; module.has_only_documented_types());
-    assert!(rt; module.types.are_plain());
+    let mut module = Module::new(alloc);
+    judge(&mut module)
 }
 
-/// What is said of a module's first type, where all widths are powers of two.
-fn judged(
+/// Adds a type without a name.
+pub(crate) fn add_type(
+    rt: &impl Abort,
+    module: &mut Module,
+    inner: TypeInner,
+) -> Result<Handle<TypeTag>, OutOfMemory> {
+    assert!(rt; module.types.len() < 100);
+    module
+        .types
+        .insert(Type { name: None, inner }, Span::default())
+}
+
+/// Whether a module holds types alone, each after its parts.
+pub(crate) fn holds_types_alone(module: &Module) -> bool
+    ensures { IsTrue result → GlobalReferencesOk (global_lists «module».now) }
+{
+    if !module.constants.is_empty() {
+        return false;
+    }
+    if !module.overrides.is_empty() {
+        return false;
+    }
+    if !module.global_expressions.is_empty() {
+        return false;
+    }
+    types_go_back(&module.types)
+}
+
+/// Whether each type comes after its parts, and no override sizes it.
+fn types_go_back(types: &UniqueArena) -> bool
+    ensures { IsTrue result → (t : ℕ) (x : declared.«Type») → slice_get types.now t ≡ Some x
+        → ((p : ℕ) → Contains (parts x.inner) p → p < t) × (of.size_override x.inner ≡ None) }
+{
+    for (handle, ty) in types.iter() {
+        if ty.inner.size_override().is_some() {
+            return false;
+        }
+        if !parts_below(&ty.inner, handle.index()) {
+            return false;
+        }
+    }
+    true
+}
+
+/// Whether the parts of a type come before this place.
+pub(crate) fn parts_below(inner: &TypeInner, place: usize) -> bool
+    ensures { IsTrue result → (p : ℕ) → Contains (parts inner.now) p → p < place }
+{
+    for part in inner.parts() {
+        if part.index() >= place {
+            return false;
+        }
+    }
+    true
+}
+
+/// What is known of the last type of a module, where all its types are judged one after another, or
+/// why the first that is refused is.
+pub(crate) fn judged(
     rt: &impl Abort,
     alloc: Global,
     capabilities: Capabilities,
     module: &Module,
 ) -> Result<Result<TypeInfo, TypeError>, Fail> {
-    assert_plain(rt, module);
-    assert!(rt; !module.types.is_empty());
+    assert!(rt; holds_types_alone(module));
     let mut layouter = Layouter::new(alloc);
     layouter.update(to_ctx(module))?;
-    let infos = TypeInfos::with_room(alloc, 0)?;
-    let ctx = TypeContext {
-        capabilities,
-        overrides_resolved: false,
-        infos: &infos,
-        layouter: &layouter,
-    };
-    Ok(validate_type(ctx, Handle::new(0), to_ctx(module)))
+    let mut infos = TypeInfos::with_room(alloc, 0)?;
+    for index in 0..module.types.len() {
+        assert!(rt; index <= infos.len());
+        let ctx = TypeContext {
+            capabilities,
+            overrides_resolved: false,
+            infos: &infos,
+            layouter: &layouter,
+        };
+        match validate_type(alloc, ctx, Handle::new(index as u32), to_ctx(module)) {
+            Ok(info) => infos.push(info)?,
+            Err(error) => return Ok(Err(error)),
+        }
+    }
+    let last = module.types.len().saturating_sub(1);
+    assert!(rt; last < infos.len() && last < 4294967295);
+    Ok(Ok(infos.get(Handle::new(last as u32))))
 }
 
 /// What is said of a module's only type, whose width is a power of two.
-fn said_of(
+pub(crate) fn said_of(
     rt: &impl Abort,
     alloc: Global,
     capabilities: Capabilities,
     inner: TypeInner,
 ) -> Result<Result<TypeInfo, TypeError>, Fail> {
-    let mut module = Module::new(alloc);
-    let ty = Type { name: None, inner };
-    module.types.insert(ty, Span::default())?;
-    judged(rt, alloc, capabilities, &module)
+    with_module(alloc, |module| {
+        add_type(rt, module, inner)?;
+        judged(rt, alloc, capabilities, module)
+    })
 }
 
 fn scalar_of(kind: ScalarKind, width: u8) -> Scalar {

@@ -16,7 +16,7 @@ use naga_ir::tags::OverrideTag;
 use naga_ir::types::{ArraySize, TypeInner};
 
 /// The count that an override gives by its initialiser, where that is an index constant above 0.
-pub(crate) fn override_count(override_: Handle<OverrideTag>, gctx: GlobalCtx<'_>) -> Option<u32>
+pub fn override_count(override_: Handle<OverrideTag>, gctx: GlobalCtx<'_>) -> Option<u32>
     requires there { override_ < length gctx.overrides.now }
     requires references { GlobalReferencesOk (lists_of gctx) }
     ensures { result ≡ constants.override_count (lists_of gctx.entry) override_ }

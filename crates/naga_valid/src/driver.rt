@@ -1,16 +1,15 @@
 //! The driver: the rules in their order.
 
-ghost use Rattle.std.specs.Prelude.{◌≡◌, ◌<◌, ◌⊎◌, [], length, IfOk, OnErr, OnOk, Some, slice_get, false, true, unwrap_or};
+ghost use Rattle.std.specs.Prelude.{◌≡◌, ◌<◌, ◌≤◌, ◌⊎◌, ◌↔◌, [], length, IfOk, IfSome, IsTrue, OnErr, OnOk, Some, slice_get, false, true, unwrap_or};
 ghost use Rattle.naga_arena.specs.Memory.{AnsweredOrRefused};
-ghost use Rattle.naga_arena.specs.Results.{AllAccepted};
 ghost use Rattle.naga_ir.specs.Handles.{HandlesAccepted};
 ghost use Rattle.naga_ir.specs.ItemReferences.{global_lists};
 ghost use Rattle.naga_arena.specs.Span.{inner_of};
-ghost use Rattle.naga_ir.specs.Scope.{HasOnlyPlainTypes};
-ghost use Rattle.naga_ir_types.specs.Plain.{ArePlain};
-ghost use Rattle.naga_types.specs.TypeRule.{type_results};
+ghost use Rattle.naga_types.specs.Answers.{Answers};
+ghost use Rattle.naga_types.specs.Known.{AreInfos, rule_at};
+ghost use Rattle.naga_types.specs.declared.error.TypeError.TheVariants as TypeError;
 ghost use Rattle.naga_typing.specs.Layout.{AreLayouts};
-ghost use Rattle.naga_valid.specs.Accepted.{AcceptsWith, IsRefusal, Settings, flags_of, settings_of};
+ghost use Rattle.naga_valid.specs.Accepted.{AcceptsWith, HasNoValues, IsRefusal, Settings, around, flags_of, settings_of};
 
 use crate::error::ValidationError;
 use naga_exprs::module_info::ModuleInfo;
@@ -74,15 +73,15 @@ impl Validator {
         self.layouter.clear();
     }
 
-    /// Whether a module keeps all rules, and what is known of it then. So far the module holds nothing
-    /// but types and comments, and the types are scalars, vectors and matrices.
+    /// Whether a module keeps all rules, and what is known of it then. So far the module has no
+    /// constants, overrides and global expressions, and of functions only the handles are judged.
     ///
     /// The error is a refusal: of a handle or range that isn't right, `ValidationError::InvalidHandle`,
     /// or of a comment on a missing member, `Type_` with `InvalidData`; else the first of a type
     /// without layout, `Layouter`; else the first of a type that breaks its rule, `Type_`. The last two
     /// have the span of the type. After an error, want of memory too, the validator is as after `reset`.
     pub fn validate(&mut self, module: &Module) -> Result<ModuleInfo, WithSpan<ValidationError>>
-        requires { HasOnlyPlainTypes «module».now }
+        requires { HasNoValues «module».now }
         ensures answer { AnsweredOrRefused (λ e. inner_of e ≡ ValidationError.OutOfMemory) result (AcceptsWith «module».now (settings_of self.old false) self.new.infos)
             (λ e. IsRefusal «module».now (settings_of self.old false) (inner_of e)) }
         ensures cleared { OnErr result (self.new.infos ≡ []) }
@@ -96,7 +95,7 @@ impl Validator {
         &mut self,
         module: &Module,
     ) -> Result<ModuleInfo, WithSpan<ValidationError>>
-        requires { HasOnlyPlainTypes «module».now }
+        requires { HasNoValues «module».now }
         ensures answer { AnsweredOrRefused (λ e. inner_of e ≡ ValidationError.OutOfMemory) result (AcceptsWith «module».now (settings_of self.old true) self.new.infos)
             (λ e. IsRefusal «module».now (settings_of self.old true) (inner_of e)) }
         ensures cleared { OnErr result (self.new.infos ≡ []) }
@@ -110,7 +109,7 @@ impl Validator {
         module: &Module,
         overrides_resolved: bool,
     ) -> Result<ModuleInfo, WithSpan<ValidationError>>
-        requires { HasOnlyPlainTypes «module».now }
+        requires { HasNoValues «module».now }
         ensures answer { AnsweredOrRefused (λ e. inner_of e ≡ ValidationError.OutOfMemory) result (AcceptsWith «module».now (settings_of self.old overrides_resolved) self.new.infos)
             (λ e. IsRefusal «module».now (settings_of self.old overrides_resolved) (inner_of e)) }
         ensures cleared { OnErr result (self.new.infos ≡ []) }
@@ -136,7 +135,7 @@ impl Validator {
         overrides_resolved: bool,
     ) -> Result<ModuleInfo, ValidationError>
         requires handles { HandlesAccepted «module».now }
-        requires plain { HasOnlyPlainTypes «module».now }
+        requires empty { HasNoValues «module».now }
         ensures answer { AnsweredOrRefused (λ e. e ≡ ValidationError.OutOfMemory) result (AcceptsWith «module».now (settings_of self.old overrides_resolved) self.new.infos)
             (IsRefusal «module».now (settings_of self.old overrides_resolved)) }
         ensures settings { self.new ≡ record self.old { infos = self.new.infos } }
@@ -208,16 +207,16 @@ fn validate_types(
     infos: &mut TypeInfos,
 ) -> Result<ModuleInfo, ValidationError>
     requires handles { HandlesAccepted «module».now }
-    requires plain { ArePlain «module».now.types }
     requires laid_out { AreLayouts (global_lists «module».now) layouter.now }
     ensures { AnsweredOrRefused (λ e. e ≡ ValidationError.OutOfMemory) result
-        (λ info. AllAccepted (type_results capabilities.0 «module».now.types) infos.new.infos × (info.type_flags ≡ flags_of infos.new.infos))
-        (λ e. (settings : Settings) → settings.capabilities ≡ capabilities → IsRefusal «module».now settings e) }
+        (λ info. AreInfos (around «module».now capabilities overrides_resolved layouter.now infos.new.infos) × (info.type_flags ≡ flags_of infos.new.infos))
+        (λ e. (settings : Settings) → settings.capabilities ≡ capabilities → settings.resolved ≡ overrides_resolved → IsRefusal «module».now settings e) }
 {
     let mut mod_info = ModuleInfo::new(alloc);
     make_room(alloc, module.types.len(), infos, &mut mod_info)?;
     for (handle, ty) in module.types.iter() {
         match type_info_of(
+            alloc,
             capabilities,
             overrides_resolved,
             infos,
@@ -230,6 +229,9 @@ fn validate_types(
                 infos.push(info)?;
             }
             Err(source) => {
+                if is_out_of_memory(&source) {
+                    return Err(ValidationError::OutOfMemory);
+                }
                 let name = name_of(alloc, ty)?;
                 return Err(ValidationError::Type_ {
                     handle,
@@ -242,8 +244,16 @@ fn validate_types(
     Ok(mod_info)
 }
 
+/// Whether a type was not judged to the end, since a request for memory was refused.
+fn is_out_of_memory(error: &TypeError) -> bool
+    ensures { IsTrue result ↔ (error.now ≡ TypeError.OutOfMemory) }
+{
+    matches!(error, TypeError::OutOfMemory)
+}
+
 /// The rule of one type, where the infos of the types before are there.
 fn type_info_of(
+    alloc: Global,
     capabilities: Capabilities,
     overrides_resolved: bool,
     infos: &TypeInfos,
@@ -252,9 +262,10 @@ fn type_info_of(
     module: &Module,
 ) -> Result<TypeInfo, TypeError>
     requires exists { handle < length «module».now.types }
-    requires plain { ArePlain «module».now.types }
+    requires judged { handle ≤ length infos.now.infos }
+    requires handles { HandlesAccepted «module».now }
     requires laid_out { AreLayouts (global_lists «module».now) layouter.now }
-    ensures { slice_get (type_results capabilities.0 «module».now.types) handle ≡ Some result }
+    ensures { IfSome (rule_at (around «module».now capabilities overrides_resolved layouter.now infos.now.infos) handle) (λ rule. Answers rule result) }
 {
     let ctx = TypeContext {
         capabilities,
@@ -262,7 +273,7 @@ fn type_info_of(
         infos,
         layouter,
     };
-    validate_type(ctx, handle, to_ctx(module))
+    validate_type(alloc, ctx, handle, to_ctx(module))
 }
 
 /// Forgets all infos, and makes room for those of `types` types.

@@ -1,6 +1,6 @@
 //! Modules built by hand, and what the rules say of them.
 
-ghost use Rattle.naga_ir.specs.Scope.{HasOnlyPlainTypes};
+ghost use Rattle.naga_valid.specs.Accepted.{HasNoValues};
 
 use crate::{
     Alignment, BadHandle, BadRangeError, Capabilities, FunctionTag, FwdDepError, Handle,
@@ -46,11 +46,10 @@ fn add(
 }
 
 /// Makes sure that a module is of the kind that is judged so far.
-fn assert_plain(rt: &impl Abort, module: &Module)
-    ensures { HasOnlyPlainTypes «module».now }
+fn assert_valueless(rt: &impl Abort, module: &Module)
+    ensures { HasNoValues «module».now }
 {
     assert!(rt; module.has_only_documented_types());
-    assert!(rt; module.types.are_plain());
 }
 
 /// Adds scalar types, of floating-point numbers of these widths in bytes.
@@ -87,7 +86,7 @@ fn refusal_of(
     alloc: Global,
     module: &Module,
 ) -> Result<WithSpan<ValidationError>, Fail> {
-    assert_plain(rt, module);
+    assert_valueless(rt, module);
     let mut validator = validator_under(alloc, Capabilities::default());
     let error = validator.validate(module).err();
     let resolved = validator.validate_resolved_overrides(module).err();
@@ -104,7 +103,7 @@ fn an_empty_module_is_accepted(rt: HostRuntime) -> Result<(), Fail> {
 
 /// Makes sure that an empty module is accepted, and that nothing is known of it.
 fn is_accepted_empty(rt: &impl Abort, alloc: Global, module: &Module) -> Result<(), Fail> {
-    assert_plain(rt, module);
+    assert_valueless(rt, module);
     let mut validator = validator_under(alloc, Capabilities::default());
     assert_eq!(rt; validator.type_count(), 0);
     let info = validator.validate(module)?;
@@ -155,7 +154,7 @@ fn are_accepted_as_f32(rt: &impl Abort, alloc: Global, module: &Module) -> Resul
         | TypeFlags::ARGUMENT
         | TypeFlags::CONSTRUCTIBLE;
     let number_flags = matrix_flags | TypeFlags::IO_SHAREABLE;
-    assert_plain(rt, module);
+    assert_valueless(rt, module);
     let mut validator = validator_under(alloc, Capabilities::default());
     let info = validator.validate(module)?;
     assert_eq!(rt; validator.type_count(), 3);
@@ -213,7 +212,7 @@ fn a_given_capability_lets_the_type_in(rt: HostRuntime) -> Result<(), Fail> {
 
 /// Makes sure that both calls accept a module of one type where it may have two bytes.
 fn is_accepted_with_halves(rt: &impl Abort, alloc: Global, module: &Module) -> Result<(), Fail> {
-    assert_plain(rt, module);
+    assert_valueless(rt, module);
     let mut validator = validator_under(alloc, Capabilities::SHADER_FLOAT16);
     validator.validate(module)?;
     assert_eq!(rt; validator.type_count(), 1);
@@ -367,8 +366,8 @@ fn are_judged_in_turn(
     good: &Module,
     refused: &Module,
 ) -> Result<(), Fail> {
-    assert_plain(rt, good);
-    assert_plain(rt, refused);
+    assert_valueless(rt, good);
+    assert_valueless(rt, refused);
     let mut validator = validator_under(alloc, Capabilities::default());
     validator.validate(good)?;
     assert_eq!(rt; validator.type_count(), 1);
@@ -404,8 +403,8 @@ fn settings_outlast_a_reset(
     half: &Module,
     double: &Module,
 ) -> Result<(), Fail> {
-    assert_plain(rt, half);
-    assert_plain(rt, double);
+    assert_valueless(rt, half);
+    assert_valueless(rt, double);
     let mut validator = validator_under(alloc, Capabilities::SHADER_FLOAT16);
     validator.validate(half)?;
     validator.reset();

@@ -1,12 +1,11 @@
 use Rattle.std.proofs.Common.{◌≡◌, ◌⊎◌, ℕ, inl, inr, refl, subst}
 use Rattle.std.proofs.lemmas.Result.{IfOk-weaker}
 use Rattle.naga_check.specs.Report.{readable, unreadable}
-use Rattle.naga_check.specs.Results.{NamesLine}
-use Rattle.naga_check.specs.Text.{IsFirstUnreadable}
-use Rattle.naga_check.specs.Words.{lines_of}
-use Rattle.naga_check.specs.declared.text.TextError.{TextError}
-use Rattle.naga_check.specs.declared.text.TextError.TheVariants.{Line, OutOfMemory}
-use Rattle.naga_check.proofs.PlainTexts.{plain_text}
+use Rattle.naga_text.specs.Results.{NamesLine}
+use Rattle.naga_text.specs.Text.{IsFirstUnreadable}
+use Rattle.naga_text.specs.Words.{lines_of}
+use Rattle.naga_text.specs.declared.text.TextError.{TextError}
+use Rattle.naga_text.specs.declared.text.TextError.TheVariants.{Line, OutOfMemory}
 use Rattle.naga_check.proofs.report.respond.Goals as goal
 
 -- an error that is a line names it
@@ -15,7 +14,9 @@ named e n P is (inl none) = cc
 named e n P is (inr names) = subst (λ e. NamesLine e P) is names
 
 pub report_on-requires : goal.report_on-requires
-report_on-requires c = plain_text (lines_of c.args.input.now) c.in-Ok.contents c.in-Ok.ensures.answer
+report_on-requires c =
+    let empty = c.in-Ok.ensures.answer.together.nothing_else.documented_types in
+    record { constants = empty.constants; overrides = empty.overrides; global_expressions = empty.global_expressions }
 
 pub returns-in-Ok : goal.returns-in-Ok
 returns-in-Ok c = IfOk-weaker c.report_on.result _ _ (λ a h. readable c.in-Ok.contents c.in-Ok.ensures.answer h) c.report_on.ensures

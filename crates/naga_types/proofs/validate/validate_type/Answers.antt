@@ -1,25 +1,35 @@
-use Rattle.std.proofs.Common.{Result, Some, ap, sym, ◌∙◌}
-use Rattle.std.specs.Option.{option_map}
-use Rattle.std.proofs.lemmas.Option.{slice_get-map}
-use Rattle.naga_arena.proofs.Elements.{all_at}
-use Rattle.naga_ir_types.specs.Plain.{IsPlain}
-use Rattle.naga_ir_types.specs.declared.types.«Type».{«Type»}
+use Rattle.std.proofs.Common.{◌≡◌, ◌<◌, ◌≤◌, ℕ, All, length, subst, sym, arith}
+use Rattle.naga_ir_types.proofs.PartLemmas.{base_is, members_are}
+use Rattle.naga_ir_types.specs.declared.types.StructMember.{StructMember}
+use Rattle.naga_typing.proofs.Named.{array_override_is_there, references_exist}
 use Rattle.naga_typing.specs.Context.{lists_of}
-use Rattle.naga_types.proofs.PlainAlignment.{plain_alignment}
-use Rattle.naga_types.specs.TypeRule.{type_rule}
-use Rattle.naga_types.specs.declared.error.TypeError.{TypeError}
-use Rattle.naga_types.specs.declared.info.TypeInfo.{TypeInfo}
+use Rattle.naga_types.proofs.Parts.{before, binding_array_base_before, pointer_base_before}
 use Rattle.naga_types.proofs.validate.validate_type.Goals as goal
 
-pub validate_inner-requires : goal.validate_inner-requires
-validate_inner-requires c =
-    let types = c.args.gctx.types.now in
-    let plain : «Type» → Type 0 = λ (t : «Type»). IsPlain t.inner in record {
-      plain = all_at plain types c.args.handle _ c.requires.plain c.index-2.ensures;
-      aligned = plain_alignment (lists_of c.args.gctx) _ _ _ _ c.requires.laid_out c.index-2.ensures c.index.ensures (all_at plain types c.args.handle _ c.requires.plain c.index-2.ensures);
-    }
+pub get-requires : goal.get-requires
+get-requires c =
+    let stands = pointer_base_before (lists_of c.args.gctx) c.requires.references _ _ c.index-2.ensures _ _ c.in-Pointer.is in
+    omega (arith, stands, c.requires.judged)
 
-pub returns : goal.returns
-returns c =
-    let rule : «Type» → Result TypeInfo TypeError = λ (t : «Type»). type_rule c.args.ctx.capabilities.0 t.inner in
-    slice_get-map rule c.args.gctx.types.now c.args.handle ∙ ap (option_map rule) c.index-2.ensures ∙ ap Some (sym c.validate_inner.ensures)
+pub validate_array-requires-clause-before : goal.validate_array-requires-clause-before
+validate_array-requires-clause-before c =
+    base_is (λ (p : ℕ). p < c.args.handle) _ _ _ _ (before (lists_of c.args.gctx) c.requires.references _ _ c.index-2.ensures) c.in-Array.is
+
+pub validate_array-requires-clause-there : goal.validate_array-requires-clause-there
+validate_array-requires-clause-there c =
+    array_override_is_there (lists_of c.args.gctx) _ _ _ _ (references_exist (lists_of c.args.gctx) c.requires.references _ _ c.index-2.ensures) c.in-Array.is
+
+pub validate_struct-requires-clause-members : goal.validate_struct-requires-clause-members
+validate_struct-requires-clause-members c =
+    subst (All (λ (m : StructMember). m.ty < c.args.handle)) (sym c.as_slice.ensures)
+    (members_are (λ (p : ℕ). p < c.args.handle) _ _ _ (before (lists_of c.args.gctx) c.requires.references _ _ c.index-2.ensures) c.in-Struct.is)
+
+pub validate_binding_array-requires-clause-judged : goal.validate_binding_array-requires-clause-judged
+validate_binding_array-requires-clause-judged c =
+    let stands = binding_array_base_before (lists_of c.args.gctx) c.requires.references _ _ c.index-2.ensures _ _ c.in-BindingArray.is in
+    omega (arith, stands, c.requires.judged)
+
+pub validate_binding_array-requires-clause-there : goal.validate_binding_array-requires-clause-there
+validate_binding_array-requires-clause-there c =
+    let stands = binding_array_base_before (lists_of c.args.gctx) c.requires.references _ _ c.index-2.ensures _ _ c.in-BindingArray.is in
+    omega (arith, stands, c.requires.exists)

@@ -1,9 +1,8 @@
-use Rattle.std.proofs.Common.{◌≡◌, ap, subst, sym, inl, inr, ⊎_elim}
+use Rattle.std.proofs.Common.{◌≡◌, Bool, ap, subst, sym, refl, inl, inr, ⊎_elim}
 use Rattle.std.proofs.lemmas.Result.{MatchResult-weaker, err_from_is_err_and}
 use Rattle.naga_flags.specs.declared.flags.Capabilities.{Capabilities}
-use Rattle.naga_arena.specs.Results.{AllAccepted}
-use Rattle.naga_types.specs.TypeRule.{type_results}
-use Rattle.naga_valid.specs.Accepted.{IsRefusal, Settings, settings_of}
+use Rattle.naga_types.specs.Known.{AreInfos}
+use Rattle.naga_valid.specs.Accepted.{IsRefusal, Settings, around, settings_of}
 use Rattle.naga_valid.specs.State.{State}
 use Rattle.naga_valid.specs.declared.error.ValidationError.TheVariants.{OutOfMemory}
 use Rattle.naga_valid.proofs.driver.Validator.validate_steps.Goals as goal
@@ -17,17 +16,20 @@ returns-in_err-lay_out-clause-answer c =
 
 pub returns-clause-answer : goal.returns-clause-answer
 returns-clause-answer c =
-    let types = c.args.module.now.types in
-    let settings = settings_of c.args.self.now c.args.overrides_resolved in
+    let m = c.args.module.now in
+    let resolved = c.args.overrides_resolved in
+    let settings = settings_of c.args.self.now resolved in
+    let layouts = c.lay_out.new.layouter in
     let same : c.self.inside.capabilities ≡ c.args.self.now.capabilities = ap (λ (s : State). s.capabilities) c.self.view_is in
     MatchResult-weaker c.validate_types.result c.validate_types.ensures
     (λ info h. (
       record {
         handles = c.requires.handles;
-        layouts = c.in_ok-lay_out.ensures.accepted;
-        types = subst (λ (k : Capabilities). AllAccepted (type_results k.0 types) c.validate_types.new.infos.infos) same h.0;
+        layouts = layouts;
+        laid_out = c.in_ok-lay_out.ensures;
+        types = subst (λ (k : Capabilities). AreInfos (around m k resolved layouts c.validate_types.new.infos.infos)) same h.0;
       },
       h.1,
     ))
     (λ e h. ⊎_elim (λ (o : e ≡ OutOfMemory). inl o)
-    (λ (r : (settings : Settings) → settings.capabilities ≡ c.self.inside.capabilities → IsRefusal c.args.module.now settings e). inr (r settings (sym same))) h)
+    (λ (r : (settings : Settings) → settings.capabilities ≡ c.self.inside.capabilities → settings.resolved ≡ resolved → IsRefusal m settings e). inr (r settings (sym same) refl)) h)

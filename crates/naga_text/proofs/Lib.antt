@@ -1,0 +1,10 @@
+pub mod Chosen
+pub mod LineLaws
+pub mod Lists
+pub mod MemberLaws
+pub mod Modules
+pub mod NamingLaws
+pub mod Parts
+pub mod Tellings
+pub mod TextLaws
+pub mod TypeLaws

@@ -1,0 +1,10 @@
+//! The reader of the text that describes a module and how it is validated.
+#![tactic(auto)]
+
+mod line;
+mod members;
+mod number;
+mod pieces;
+pub mod text;
+mod types;
+mod words;

@@ -1,0 +1,215 @@
+//! The forms of types.
+
+ghost use Rattle.naga_text.specs.Reading.{acceleration_structure_of, array_of, atomic_of, binding_array_of, cooperative_matrix_of, image_of, matrix_of, memberless_of, pointer_of, ray_query_of, sampler_of, scalar_of, scalar_type_of, struct_of, type_of, value_pointer_of, vector_of};
+ghost use Rattle.std.specs.Prelude.{◌≡◌, IfOk, map};
+
+use crate::members::members;
+use crate::number::{handle, number, number_up_to};
+use crate::words::{
+    array_size, class, cooperative_size, dimension, is, kind, pointed_size, role, size, space,
+    truth,
+};
+use naga_ir::OutOfMemory;
+use naga_ir::types::{Scalar, TypeInner};
+use std::alloc::Global;
+
+fn scalar(kind_word: &[u8], width_word: &[u8]) -> Option<Scalar>
+    ensures { result ≡ scalar_of kind_word.now width_word.now }
+{
+    Some(Scalar {
+        kind: kind(kind_word)?,
+        width: number_up_to(width_word, 255)? as u8,
+    })
+}
+
+fn scalar_type(words: &[&[u8]]) -> Option<TypeInner>
+    ensures { result ≡ scalar_type_of (map (λ w. w.now) words.now) }
+{
+    let [kind, width] = words else { return None };
+    Some(TypeInner::Scalar(scalar(kind, width)?))
+}
+
+fn vector_type(words: &[&[u8]]) -> Option<TypeInner>
+    ensures { result ≡ vector_of (map (λ w. w.now) words.now) }
+{
+    let [components, kind, width] = words else {
+        return None
+    };
+    Some(TypeInner::Vector {
+        size: size(components)?,
+        scalar: scalar(kind, width)?,
+    })
+}
+
+fn matrix_type(words: &[&[u8]]) -> Option<TypeInner>
+    ensures { result ≡ matrix_of (map (λ w. w.now) words.now) }
+{
+    let [columns, rows, kind, width] = words else {
+        return None
+    };
+    Some(TypeInner::Matrix {
+        columns: size(columns)?,
+        rows: size(rows)?,
+        scalar: scalar(kind, width)?,
+    })
+}
+
+fn cooperative_matrix_type(words: &[&[u8]]) -> Option<TypeInner>
+    ensures { result ≡ cooperative_matrix_of (map (λ w. w.now) words.now) }
+{
+    let [columns, rows, kind, width, role_word] = words else {
+        return None
+    };
+    Some(TypeInner::CooperativeMatrix {
+        columns: cooperative_size(columns)?,
+        rows: cooperative_size(rows)?,
+        scalar: scalar(kind, width)?,
+        role: role(role_word)?,
+    })
+}
+
+fn atomic_type(words: &[&[u8]]) -> Option<TypeInner>
+    ensures { result ≡ atomic_of (map (λ w. w.now) words.now) }
+{
+    let [kind, width] = words else { return None };
+    Some(TypeInner::Atomic(scalar(kind, width)?))
+}
+
+fn pointer_type(words: &[&[u8]]) -> Option<TypeInner>
+    ensures { result ≡ pointer_of (map (λ w. w.now) words.now) }
+{
+    let [base, space_word] = words else {
+        return None
+    };
+    Some(TypeInner::Pointer {
+        base: handle(base)?,
+        space: space(space_word)?,
+    })
+}
+
+fn value_pointer_type(words: &[&[u8]]) -> Option<TypeInner>
+    ensures { result ≡ value_pointer_of (map (λ w. w.now) words.now) }
+{
+    let [components, kind, width, space_word] = words else {
+        return None
+    };
+    Some(TypeInner::ValuePointer {
+        size: pointed_size(components)?,
+        scalar: scalar(kind, width)?,
+        space: space(space_word)?,
+    })
+}
+
+fn array_type(words: &[&[u8]]) -> Option<TypeInner>
+    ensures { result ≡ array_of (map (λ w. w.now) words.now) }
+{
+    let [base, size, stride] = words else {
+        return None
+    };
+    Some(TypeInner::Array {
+        base: handle(base)?,
+        size: array_size(size)?,
+        stride: number(stride)?,
+    })
+}
+
+fn binding_array_type(words: &[&[u8]]) -> Option<TypeInner>
+    ensures { result ≡ binding_array_of (map (λ w. w.now) words.now) }
+{
+    let [base, size] = words else { return None };
+    Some(TypeInner::BindingArray {
+        base: handle(base)?,
+        size: array_size(size)?,
+    })
+}
+
+fn image_type(words: &[&[u8]]) -> Option<TypeInner>
+    ensures { result ≡ image_of (map (λ w. w.now) words.now) }
+{
+    let [dim, arrayed, class_word] = words else {
+        return None
+    };
+    Some(TypeInner::Image {
+        dim: dimension(dim)?,
+        arrayed: truth(arrayed)?,
+        class: class(class_word)?,
+    })
+}
+
+fn sampler_type(words: &[&[u8]]) -> Option<TypeInner>
+    ensures { result ≡ sampler_of (map (λ w. w.now) words.now) }
+{
+    let [comparison] = words else { return None };
+    Some(TypeInner::Sampler {
+        comparison: truth(comparison)?,
+    })
+}
+
+fn acceleration_structure_type(words: &[&[u8]]) -> Option<TypeInner>
+    ensures { result ≡ acceleration_structure_of (map (λ w. w.now) words.now) }
+{
+    let [vertex_return] = words else { return None };
+    Some(TypeInner::AccelerationStructure {
+        vertex_return: truth(vertex_return)?,
+    })
+}
+
+fn ray_query_type(words: &[&[u8]]) -> Option<TypeInner>
+    ensures { result ≡ ray_query_of (map (λ w. w.now) words.now) }
+{
+    let [vertex_return] = words else { return None };
+    Some(TypeInner::RayQuery {
+        vertex_return: truth(vertex_return)?,
+    })
+}
+
+fn struct_type(alloc: Global, words: &[&[u8]]) -> Result<Option<TypeInner>, OutOfMemory>
+    ensures { IfOk result (λ read. read ≡ struct_of (map (λ w. w.now) words.now)) }
+{
+    let Some((span, rest)) = words.split_first() else {
+        return Ok(None);
+    };
+    let Some(span) = number(span) else {
+        return Ok(None);
+    };
+    match members(alloc, rest)? {
+        Some(members) => Ok(Some(TypeInner::Struct { members, span })),
+        None => Ok(None),
+    }
+}
+
+/// Reads by the form, any but `struct`.
+fn memberless_type(form: &[u8], words: &[&[u8]]) -> Option<TypeInner>
+    ensures { result ≡ memberless_of form.now (map (λ w. w.now) words.now) }
+{
+    match form {
+        _ if is(form, b"scalar") => scalar_type(words),
+        _ if is(form, b"vector") => vector_type(words),
+        _ if is(form, b"matrix") => matrix_type(words),
+        _ if is(form, b"coop") => cooperative_matrix_type(words),
+        _ if is(form, b"atomic") => atomic_type(words),
+        _ if is(form, b"pointer") => pointer_type(words),
+        _ if is(form, b"valuepointer") => value_pointer_type(words),
+        _ if is(form, b"array") => array_type(words),
+        _ if is(form, b"bindingarray") => binding_array_type(words),
+        _ if is(form, b"image") => image_type(words),
+        _ if is(form, b"sampler") => sampler_type(words),
+        _ if is(form, b"accel") => acceleration_structure_type(words),
+        _ if is(form, b"rayquery") => ray_query_type(words),
+        _ => None,
+    }
+}
+
+/// The type of the words after `type`. Only a struct takes memory.
+pub fn type_inner(alloc: Global, words: &[&[u8]]) -> Result<Option<TypeInner>, OutOfMemory>
+    ensures { IfOk result (λ read. read ≡ type_of (map (λ w. w.now) words.now)) }
+{
+    let Some((form, rest)) = words.split_first() else {
+        return Ok(None);
+    };
+    if is(form, b"struct") {
+        struct_type(alloc, rest)
+    } else {
+        Ok(memberless_type(form, rest))
+    }
+}

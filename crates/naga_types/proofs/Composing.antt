@@ -1,0 +1,106 @@
+-- Components, looked at one after another.
+use Rattle.std.proofs.Common.{◌≡◌, ◌==◌, ◌+◌, ◌<◌, ◌≤◌, ℕ, Bool, true, false, min, List, ◌∷◌, Option, Some, None, All, drop, get_or, length, map, option_map, slice_get, take, refl, sym, ap, ◌∙◌, arith}
+use Rattle.std.specs.List.{enumerate_from}
+use Rattle.std.proofs.lemmas.Bool.Decides.{Decides-eqb, Decides-like, same_from_decides}
+use Rattle.std.proofs.lemmas.List.{at_drop_all, at_drop_more}
+use Rattle.std.proofs.lemmas.List.Sums.{sum_by_more}
+use Rattle.std.proofs.lemmas.Option.{get_or_from_slice_get, same_Some, slice_get-get_or, slice_get-map, slice_get_within}
+use Rattle.naga_arena.proofs.Elements.{all_at}
+use Rattle.naga_ir_types.proofs.PartLemmas.{base_is, members_are}
+use Rattle.naga_ir_types.specs.Sizes.{components}
+use Rattle.naga_ir_types.specs.declared.types.«Type».{«Type»}
+use Rattle.naga_ir_types.specs.declared.types.ArraySize.{ArraySize}
+use Rattle.naga_ir_types.specs.declared.types.StructMember.{StructMember}
+use Rattle.naga_ir_types.specs.declared.types.TypeInner.TheVariants.{Array, Struct}
+use Rattle.naga_ir_types.specs.declared.types.VectorSize.{VectorSize}
+use Rattle.naga_ir_types.specs.declared.types.VectorSize.TheVariants.{Bi, Tri, Quad}
+use Rattle.naga_types.specs.Composing.{ComponentsExist, all_parts, first_misfit, misfit, miscount, parts_in, resolution_in, resolutions_at, resolutions_of}
+use Rattle.naga_types.specs.Judging.{first, or_else, unless}
+use Rattle.naga_types.specs.Layouts.{told}
+use Rattle.naga_types.specs.declared.compose.Components.{Components}
+use Rattle.naga_types.specs.declared.compose.Components.TheVariants.{Given, At}
+use Rattle.naga_types.specs.declared.error.ComposeError.{ComposeError}
+use Rattle.naga_types.specs.declared.error.ComposeError.TheVariants.{ComponentCount, ComponentType}
+use Rattle.naga_typing.specs.Resolutions.{AllPartsExist, PartsExist, ResolutionExists, inner_in}
+use Rattle.naga_typing.specs.declared.typifier.TypeResolution.{TypeResolution}
+
+-- the resolution at a place that is itself found at a place
+pub found_at_place : (places : List ℕ) (resolutions : List TypeResolution) (i e : ℕ) (r : TypeResolution) → slice_get places i ≡ Some e → slice_get resolutions e ≡ Some r → slice_get (resolutions_at places resolutions) i ≡ Some r
+found_at_place places resolutions i e r at found =
+    slice_get-map (λ e. resolution_in (slice_get resolutions e)) places i
+    ∙ ap (option_map (λ e. resolution_in (slice_get resolutions e))) at
+    ∙ ap (λ o. Some (resolution_in o)) found
+
+-- what a component names is there
+pub component_exists : (types : List «Type») (c : Components) (i : ℕ) (r : TypeResolution) → ComponentsExist types c → slice_get (resolutions_of c) i ≡ Some r → ResolutionExists types r
+component_exists types (Given resolutions) i r exist at = all_at (ResolutionExists types) resolutions.now i r exist at
+component_exists types (At places resolutions) i r exist at = by_place (slice_get places.now i) refl
+  where
+    by_place : (place : Option ℕ) → slice_get places.now i ≡ place → ResolutionExists types r
+    by_place None e =
+        let none : None ≡ Some r = sym (slice_get-map (λ e. resolution_in (slice_get resolutions.now e)) places.now i ∙ ap (option_map (λ e. resolution_in (slice_get resolutions.now e))) e) ∙ at in
+        cc
+    by_place (Some e) is =
+        let within : e < length resolutions.now = all_at (λ e. e < length resolutions.now) places.now i e exist.0 is in
+        let found : slice_get resolutions.now e ≡ Some (get_or resolutions.now e r) = slice_get-get_or resolutions.now e r within in
+        let same : get_or resolutions.now e r ≡ r = same_Some _ r (sym (found_at_place places.now resolutions.now i e _ is found) ∙ at) in
+        all_at (ResolutionExists types) resolutions.now e r exist.1 (found ∙ ap Some same)
+
+-- what is left from a place on begins with what stands there
+drop_at : {X : Type 0} (xs : List X) (i : ℕ) (x : X) → slice_get xs i ≡ Some x → drop i xs ≡ x ∷ drop (i + 1) xs
+drop_at xs i x at =
+    at_drop_more (λ l. l) xs i x (slice_get_within xs i x at) ∙ ap (λ y. y ∷ drop (i + 1) xs) (get_or_from_slice_get xs i x x at)
+
+module _ (fits : ℕ × TypeResolution → Bool) (given : List TypeResolution) where
+  abbrev misfit_from : ℕ → List TypeResolution → Option ComposeError
+  misfit_from i left = first (map (misfit fits) (enumerate_from i left))
+
+  -- all before a place fit
+  abbrev pub FitSoFar : ℕ → Type 0
+  FitSoFar i = misfit_from i (drop i given) ≡ first_misfit fits given
+
+  module _ (i : ℕ) (r : TypeResolution) (at : slice_get given i ≡ Some r) (so_far : FitSoFar i) where
+    from_here : misfit_from i (r ∷ drop (i + 1) given) ≡ first_misfit fits given
+    from_here = sym (ap (misfit_from i) (drop_at given i r at)) ∙ so_far
+
+    pub one_fits : fits (i, r) ≡ true → FitSoFar (i + 1)
+    one_fits e = sym (ap (λ b. or_else (unless b (ComponentType (told i))) (misfit_from (i + 1) (drop (i + 1) given))) e) ∙ from_here
+
+    pub one_misfits : fits (i, r) ≡ false → first_misfit fits given ≡ Some (ComponentType (told i))
+    one_misfits e = sym from_here ∙ ap (λ b. or_else (unless b (ComponentType (told i))) (misfit_from (i + 1) (drop (i + 1) given))) e
+
+  pub all_fit : (i : ℕ) → length given ≤ i → FitSoFar i → first_misfit fits given ≡ None
+  all_fit i past so_far = sym so_far ∙ at_drop_all (misfit_from i) given i past
+
+-- with one more component there are as many parts more as it has
+pub parts_more : (types : List «Type») (given : List TypeResolution) (i total : ℕ) (r : TypeResolution) → slice_get given i ≡ Some r → total ≡ told (all_parts types (take i given))
+    → min (total + parts_in (inner_in types r)) 4294967295 ≡ told (all_parts types (take (i + 1) given))
+parts_more types given i total r at so_far =
+    let f : TypeResolution → ℕ = λ r. parts_in (inner_in types r) in
+    let more : all_parts types (take (i + 1) given) ≡ all_parts types (take i given) + f (get_or given i r) = sum_by_more f given i r (slice_get_within given i r at) in
+    let here : f (get_or given i r) ≡ f r = ap f (get_or_from_slice_get given i r r at) in
+    capped (all_parts types (take i given)) (f r) total _ so_far (more ∙ ap (λ n. all_parts types (take i given) + n) here)
+  where
+    capped : (sum n total all : ℕ) → total ≡ told sum → all ≡ sum + n → min (total + n) 4294967295 ≡ told all
+    capped sum n total all e f = omega arith
+
+-- a number that can be told is counted as what it was
+told_count : (n expected : ℕ) → expected < 4294967295 → miscount (told n) expected ≡ miscount n expected
+told_count n expected small =
+    let equal : (told n == expected) ≡ (n == expected) =
+    same_from_decides (told n == expected) (n == expected) (Decides-eqb (told n) expected)
+    (Decides-like (n == expected) (λ (e : n ≡ expected). omega arith) (λ (e : told n ≡ expected). omega arith) (Decides-eqb n expected)) in
+    let again : told (told n) ≡ told n = omega arith in
+    ap (λ b. unless b (ComponentCount (told (told n)) (told expected))) equal ∙ ap (λ m. unless (n == expected) (ComponentCount m (told expected))) again
+
+pub told_parts : (n : ℕ) (size : VectorSize) → miscount (told n) (components size) ≡ miscount n (components size)
+told_parts n Bi = told_count n 2 (omega arith)
+told_parts n Tri = told_count n 3 (omega arith)
+told_parts n Quad = told_count n 4 (omega arith)
+
+-- the types that a type of the module names are there
+pub base_exists : (types : List «Type») (t : ℕ) (x : «Type») (base : ℕ) (size : ArraySize) (stride : ℕ) → AllPartsExist types → slice_get types t ≡ Some x → x.inner ≡ Array base size stride → base < length types
+base_exists types t x base size stride all at is = base_is (λ p. p < length types) x.inner base size stride (all_at (λ (y : «Type»). PartsExist types y.inner) types t x all at) is
+
+pub members_exist : (types : List «Type») (t : ℕ) (x : «Type») (members : List StructMember) (span : ℕ) → AllPartsExist types → slice_get types t ≡ Some x → x.inner ≡ Struct members span → All (λ (m : StructMember). m.ty < length types) members
+members_exist types t x members span all at is = members_are (λ p. p < length types) x.inner members span (all_at (λ (y : «Type»). PartsExist types y.inner) types t x all at) is

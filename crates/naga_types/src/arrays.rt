@@ -1,0 +1,146 @@
+//! The rules of arrays and of binding arrays.
+
+ghost use Rattle.std.specs.Prelude.{◌≡◌, ◌<◌, ◌≤◌, IfSome, bit_and, length};
+ghost use Rattle.naga_ir.specs.Handles.{GlobalReferencesOk};
+ghost use Rattle.naga_ir_types.specs.Parts.{pending};
+ghost use Rattle.naga_types.specs.Judging.{judged};
+ghost use Rattle.naga_types.specs.Surroundings.{KnownBefore, flags_at, shared, surroundings};
+ghost use Rattle.naga_types.specs.TypeRule as rule;
+ghost use Rattle.naga_typing.specs.Context.{lists_of};
+
+use crate::error::{Disalignment, TypeError};
+use crate::info::{LayoutCompatibility, TypeContext, TypeInfo};
+use bitflags::Flags;
+use naga_flags::flags::TypeFlags;
+use naga_ir::alignment::Alignment;
+use naga_ir::handle::Handle;
+use naga_ir::tags::TypeTag;
+use naga_ir::types::{ArraySize, ImageClass, TypeInner};
+use naga_typing::context::GlobalCtx;
+use naga_typing::type_methods::override_count;
+
+/// What an array may be used for at most.
+fn array_flags(size: ArraySize) -> TypeFlags
+    ensures { result ≡ record { 0 = rule.array_flags size } }
+{
+    let shared = TypeFlags::DATA
+        .union(TypeFlags::COPY)
+        .union(TypeFlags::HOST_SHAREABLE);
+    let sized = shared.union(TypeFlags::SIZED).union(TypeFlags::ARGUMENT);
+    match size {
+        ArraySize::Constant(_) => sized
+            .union(TypeFlags::CREATION_RESOLVED)
+            .union(TypeFlags::CONSTRUCTIBLE),
+        ArraySize::Pending(_) => sized,
+        ArraySize::Dynamic => shared.union(TypeFlags::CREATION_RESOLVED),
+    }
+}
+
+/// What a binding array may be used for at most.
+fn binding_array_flags(size: ArraySize) -> TypeFlags
+    ensures { result ≡ record { 0 = rule.binding_array_flags size } }
+{
+    match size {
+        ArraySize::Constant(_) => TypeFlags::SIZED
+            .union(TypeFlags::HOST_SHAREABLE)
+            .union(TypeFlags::CREATION_RESOLVED),
+        ArraySize::Pending(_) => TypeFlags::SIZED.union(TypeFlags::HOST_SHAREABLE),
+        ArraySize::Dynamic => TypeFlags::HOST_SHAREABLE.union(TypeFlags::CREATION_RESOLVED),
+    }
+}
+
+/// The layout of an array in an address space, from that of its elements there. Its alignment is at
+/// least `least`.
+fn array_layout(
+    handle: Handle<TypeTag>,
+    least: Alignment,
+    stride: u32,
+    base: LayoutCompatibility,
+) -> LayoutCompatibility
+    ensures { result ≡ rule.array_layout handle least stride base }
+{
+    let alignment = base?.max(least);
+    if alignment.is_aligned(stride) {
+        Ok(alignment)
+    } else {
+        Err((handle, Disalignment::ArrayStride { stride, alignment }))
+    }
+}
+
+/// Whether a size is a count, where overrides have to have their values.
+fn has_count(size: ArraySize, gctx: GlobalCtx<'_>) -> bool
+    requires there { IfSome (pending size) (λ o. o < length gctx.overrides.now) }
+    requires references { GlobalReferencesOk (lists_of gctx) }
+    ensures { result ≡ rule.has_count (lists_of gctx.entry) size }
+{
+    match size {
+        ArraySize::Pending(over) => override_count(over, gctx).is_some(),
+        _ => true,
+    }
+}
+
+/// What is known of an array, or why it is refused.
+pub(crate) fn validate_array<'a>(
+    ctx: TypeContext<'a>,
+    handle: Handle<TypeTag>,
+    gctx: GlobalCtx<'a>,
+    base: Handle<TypeTag>,
+    size: &ArraySize,
+    stride: u32,
+) -> Result<TypeInfo, TypeError>
+    requires known { KnownBefore (surroundings ctx gctx) handle }
+    requires before { base < handle }
+    requires there { IfSome (pending size.now) (λ o. o < length gctx.overrides.now) }
+    requires references { GlobalReferencesOk (lists_of gctx) }
+    ensures { result ≡ judged (rule.array_conditions (surroundings ctx.entry gctx.entry) handle base size.now) (rule.array_info (surroundings ctx.entry gctx.entry) handle base size.now stride) }
+{
+    let elements = TypeFlags::DATA
+        .union(TypeFlags::SIZED)
+        .union(TypeFlags::CREATION_RESOLVED);
+    let info = ctx.infos.get(base);
+    if !info.flags.contains(elements) {
+        return Err(TypeError::InvalidArrayBaseType(base));
+    }
+    let has_count = has_count(*size, gctx);
+    if ctx.overrides_resolved && !has_count {
+        return Err(TypeError::InvalidArraySize(handle));
+    }
+    let alignment = ctx.layouter[base].alignment;
+    let in_uniform = alignment.max(Alignment::MIN_UNIFORM);
+    Ok(TypeInfo {
+        flags: info.flags.intersection(array_flags(*size)),
+        uniform_layout: array_layout(handle, in_uniform, stride, info.uniform_layout),
+        storage_layout: array_layout(handle, alignment, stride, info.storage_layout),
+        immediates_compatibility: info.immediates_compatibility,
+    })
+}
+
+/// What is known of a binding array, or why it is refused.
+pub(crate) fn validate_binding_array<'a>(
+    ctx: TypeContext<'a>,
+    gctx: GlobalCtx<'a>,
+    base: Handle<TypeTag>,
+    size: ArraySize,
+) -> Result<TypeInfo, TypeError>
+    requires judged { base < length ctx.infos.now.infos }
+    requires there { base < length gctx.types.now }
+    ensures { result ≡ judged (rule.binding_array_conditions (surroundings ctx.entry gctx.entry) base) (shared (bit_and (flags_at (surroundings ctx.entry gctx.entry) base) (rule.binding_array_flags size)) 1) }
+{
+    let flags = ctx.infos.get(base).flags;
+    let inner = &gctx.types[base].inner;
+    if flags.contains(TypeFlags::DATA) && !matches!(inner, TypeInner::Struct { .. }) {
+        return Err(TypeError::BindingArrayBaseTypeNotStruct(base));
+    }
+    if let TypeInner::Image {
+        class: ImageClass::External,
+        ..
+    } = inner
+    {
+        return Err(TypeError::BindingArrayBaseExternalTextures);
+    }
+    if !flags.contains(TypeFlags::CREATION_RESOLVED) {
+        return Err(TypeError::InvalidData(base));
+    }
+    let flags = flags.intersection(binding_array_flags(size));
+    Ok(TypeInfo::new(flags, Alignment::ONE))
+}

@@ -1,0 +1,531 @@
+//! The rule of structs.
+
+ghost use Rattle.std.specs.Prelude.{◌≡◌, ◌<◌, All, OnOk, Some, length, slice_get};
+ghost use Rattle.std.specs.List.{enumerate_from, list_any};
+ghost use Rattle.naga_ir.specs.Handles.{GlobalReferencesOk};
+ghost use Rattle.naga_ir_types.specs.declared.types.StructMember as member;
+ghost use Rattle.naga_types.specs.Answers.{Answers};
+ghost use Rattle.naga_types.specs.Judging.{granted, judged};
+ghost use Rattle.naga_types.specs.Layouts as layouts;
+ghost use Rattle.naga_types.specs.StructRule as rule;
+ghost use Rattle.naga_types.specs.StructRule.{MembersKnown, around, sources_of};
+ghost use Rattle.naga_types.specs.Surroundings.{KnownBefore, info_at, surroundings};
+ghost use Rattle.naga_typing.specs.Context.{lists_of};
+
+use crate::error::{Disalignment, TypeError, VaryingError, told};
+use crate::info::{LayoutCompatibility, TypeContext, TypeInfo};
+use crate::same_types::are_same;
+use crate::validate::{require_type_capability, unshared_flags};
+use bitflags::Flags;
+use naga_flags::flags::{Capabilities, TypeFlags};
+use naga_flags::width::ImmediateCompatibility;
+use naga_ir::alignment::Alignment;
+use naga_ir::handle::Handle;
+use naga_ir::memory::OutOfMemory;
+use naga_ir::tags::TypeTag;
+use naga_ir::text::Text;
+use naga_ir::types::{Binding, StructMember, TypeInner};
+use naga_typing::context::GlobalCtx;
+use naga_typing::typifier::TypeResolution;
+use std::alloc::Global;
+
+/// The address spaces in which hosts share memory.
+#[derive(Clone, Copy)]
+enum SharedSpace {
+    Uniform,
+    Storage,
+}
+
+impl SharedSpace {
+    /// The layout of a type in this space.
+    fn layout(self, info: TypeInfo) -> LayoutCompatibility
+        ensures { result ≡ layouts.layout_in self info }
+    {
+        match self {
+            Self::Uniform => info.uniform_layout,
+            Self::Storage => info.storage_layout,
+        }
+    }
+}
+
+/// The types of the two sources of blending among members.
+#[derive(Clone, Copy)]
+struct Sources {
+    first: Option<Handle<TypeTag>>,
+    second: Option<Handle<TypeTag>>,
+}
+
+impl Sources {
+    /// Notes a source of blending, where a member is one.
+    fn note(&mut self, capabilities: Capabilities, member: &StructMember) -> Result<(), TypeError>
+        ensures judged { result ≡ judged (rule.source_conditions capabilities.0 self.old (rule.source_of member.now.binding)) tt }
+        ensures noted { OnOk result (self.new ≡ rule.with_member self.old member.now) }
+    {
+        let Some(
+            Binding::Location {
+                location,
+                blend_src: Some(blend_src),
+            },
+        ) = member.binding
+        else {
+            return Ok(());
+        };
+        require_type_capability(capabilities, Capabilities::DUAL_SOURCE_BLENDING)?;
+        if location != 0 || blend_src > 1 {
+            return Err(TypeError::InvalidBlendSrc(VaryingError::InvalidBlendSrcIndex {
+                location,
+                blend_src,
+            }));
+        }
+        let before = if blend_src == 0 {
+            self.first.replace(member.ty)
+        } else {
+            self.second.replace(member.ty)
+        };
+        if before.is_some() {
+            return Err(TypeError::InvalidBlendSrc(VaryingError::BindingCollisionBlendSrc {
+                blend_src,
+            }));
+        }
+        Ok(())
+    }
+}
+
+/// A struct among the other types.
+#[derive(Clone, Copy)]
+struct StructType<'a> {
+    ctx: TypeContext<'a>,
+    gctx: GlobalCtx<'a>,
+    handle: Handle<TypeTag>,
+    members: &'a [StructMember],
+    span: u32,
+}
+
+impl StructType<'_> {
+    /// What is known of the type of a member.
+    fn info(&self, member: &StructMember) -> TypeInfo
+        requires known { MembersKnown self.now }
+        requires before { member.now.ty < self.now.handle }
+        ensures { result ≡ info_at (around self.now) member.now.ty }
+    {
+        self.ctx.infos.get(member.ty)
+    }
+
+    /// The first byte after a member.
+    fn end_of(&self, member: &StructMember) -> u64
+        requires known { MembersKnown self.now }
+        requires before { member.now.ty < self.now.handle }
+        ensures { result ≡ rule.end_in (around self.now) (Some member.now) }
+    {
+        u64::from(member.offset) + u64::from(self.ctx.layouter[member.ty].size)
+    }
+
+    /// The first byte after the member before the one at a place.
+    fn end_before(&self, index: usize) -> u64
+        requires known { MembersKnown self.now }
+        requires member { index < length self.now.members.now }
+        ensures { result ≡ rule.end_in (around self.now) (layouts.before self.now.members.now index) }
+    {
+        if index == 0 {
+            0
+        } else {
+            self.end_of(&self.members[index - 1])
+        }
+    }
+
+    /// Whether a member begins after the one before it or at 0, and ends within the struct.
+    fn check_place(&self, index: usize, member: &StructMember) -> Result<(), TypeError>
+        requires known { MembersKnown self.now }
+        requires member { slice_get self.now.members.now index ≡ Some member.now }
+        ensures { result ≡ judged (rule.place_conditions (around self.now) self.now.members.now self.now.span index member.now) tt }
+    {
+        let offset = member.offset;
+        if offset != 0 && u64::from(offset) < self.end_before(index) {
+            return Err(TypeError::MemberOverlap {
+                index: told(index as u64),
+                offset,
+            });
+        }
+        if self.end_of(member) > u64::from(self.span) {
+            return Err(TypeError::MemberOutOfBounds {
+                index: told(index as u64),
+                offset,
+                size: self.ctx.layouter[member.ty].size,
+                span: self.span,
+            });
+        }
+        Ok(())
+    }
+
+    /// Whether a member has a fixed size, or is an array at the end.
+    fn check_size(
+        &self,
+        alloc: Global,
+        index: usize,
+        member: &StructMember,
+    ) -> Result<(), TypeError>
+        requires known { MembersKnown self.now }
+        requires member { slice_get self.now.members.now index ≡ Some member.now }
+        ensures { Answers (granted (rule.unsized_member (around self.now) self.now.members.now index member.now) tt) result }
+    {
+        let is_array = matches!(self.gctx.types[member.ty].inner, TypeInner::Array { .. });
+        let is_last = index + 1 == self.members.len();
+        if self.info(member).flags.contains(TypeFlags::SIZED) || is_array && is_last {
+            return Ok(());
+        }
+        let name = match &member.name {
+            Some(name) => name.try_clone()?,
+            None => Text::new(alloc),
+        };
+        Err(TypeError::InvalidDynamicArray(name, member.ty))
+    }
+
+    /// Whether a member may stand where it does. Its source of blending is noted.
+    fn check_member(
+        &self,
+        alloc: Global,
+        index: usize,
+        member: &StructMember,
+        sources: &mut Sources,
+    ) -> Result<(), TypeError>
+        requires known { MembersKnown self.now }
+        requires member { slice_get self.now.members.now index ≡ Some member.now }
+        ensures judged { Answers (judged (rule.member_conditions (around self.now) self.now.members.now self.now.span sources.old (index, member.now)) tt) result }
+        ensures noted { OnOk result (sources.new ≡ rule.with_member sources.old member.now) }
+    {
+        let data = TypeFlags::DATA.union(TypeFlags::CREATION_RESOLVED);
+        if !self.info(member).flags.contains(data) {
+            return Err(TypeError::InvalidData(member.ty));
+        }
+        sources.note(self.ctx.capabilities, member)?;
+        self.check_place(index, member)?;
+        self.check_size(alloc, index, member)
+    }
+
+    /// The sources of blending, where all members may stand where they do.
+    fn check_members(&self, alloc: Global) -> Result<Sources, TypeError>
+        requires { MembersKnown self.now }
+        ensures { Answers (judged (rule.member_refusals (around self.now) self.now.members.now self.now.span) (sources_of self.now.members.now)) result }
+    {
+        let mut sources = Sources {
+            first: None,
+            second: None,
+        };
+        for index in 0..self.members.len() {
+            self.check_member(alloc, index, &self.members[index], &mut sources)?;
+        }
+        Ok(sources)
+    }
+
+    /// The last location of a member that is no source of blending.
+    fn other_location(&self) -> Option<u32>
+        ensures { result ≡ rule.other_location self.now.members.now }
+    {
+        let mut last = None;
+        for member in self.members {
+            if let Some(
+                Binding::Location {
+                    location,
+                    blend_src: None,
+                },
+            ) = member.binding
+            {
+                last = Some(location);
+            }
+        }
+        last
+    }
+
+    /// Whether the two sources of blending may stand beside each other.
+    fn check_pair(
+        &self,
+        first: Handle<TypeTag>,
+        second: Handle<TypeTag>,
+    ) -> Result<(), VaryingError>
+        requires known { MembersKnown self.now }
+        requires first { first < self.now.handle }
+        requires second { second < self.now.handle }
+        requires references { GlobalReferencesOk (around self.now).lists }
+        ensures { result ≡ judged (rule.pair_conditions (around self.now) self.now.members.now (Some first) (Some second)) tt }
+    {
+        if let Some(location) = self.other_location() {
+            return Err(VaryingError::InvalidBlendSrcWithOtherBindings { location });
+        }
+        let left = TypeResolution::Handle(first);
+        let right = TypeResolution::Handle(second);
+        if !are_same(&left, &right, self.gctx.types) {
+            return Err(VaryingError::BlendSrcOutputTypeMismatch {
+                blend_src_0_type: first,
+                blend_src_1_type: second,
+            });
+        }
+        let flags = self.ctx.infos.get(first).flags;
+        if !flags.contains(TypeFlags::IO_SHAREABLE) {
+            return Err(VaryingError::NotIOShareableType(first));
+        }
+        Ok(())
+    }
+
+    /// Whether there are both sources of blending, which may stand beside each other, or none.
+    fn check_sources(&self, sources: &Sources) -> Result<(), VaryingError>
+        requires known { MembersKnown self.now }
+        requires sources { sources.now ≡ sources_of self.now.members.now }
+        requires references { GlobalReferencesOk (around self.now).lists }
+        ensures { result ≡ judged (rule.pair_conditions (around self.now) self.now.members.now sources.now.first sources.now.second) tt }
+    {
+        match (sources.first, sources.second) {
+            (None, None) => Ok(()),
+            (Some(_), None) => Err(VaryingError::IncompleteBlendSrcUsage {
+                present_blend_src: 0,
+            }),
+            (None, Some(_)) => Err(VaryingError::IncompleteBlendSrcUsage {
+                present_blend_src: 1,
+            }),
+            (Some(first), Some(second)) => self.check_pair(first, second),
+        }
+    }
+
+    /// What all members may be used for.
+    fn common_flags(&self) -> TypeFlags
+        requires { MembersKnown self.now }
+        ensures { result ≡ record { 0 = rule.common_flags (around self.now) self.now.members.now } }
+    {
+        let mut flags = unshared_flags();
+        for member in self.members {
+            flags = flags.intersection(self.info(member).flags);
+        }
+        flags
+    }
+
+    /// Whether a member begins at 0, below the end of the one before it.
+    fn goes_back(&self) -> bool
+        requires { MembersKnown self.now }
+        ensures { result ≡ list_any (rule.goes_back (around self.now) self.now.members.now) (enumerate_from 0 self.now.members.now) }
+    {
+        for index in 0..self.members.len() {
+            if self.members[index].offset == 0 && self.end_before(index) > 0 {
+                return true;
+            }
+        }
+        false
+    }
+
+    /// What the struct may be used for.
+    fn flags(&self, sources: &Sources) -> TypeFlags
+        requires known { MembersKnown self.now }
+        requires sources { sources.now ≡ sources_of self.now.members.now }
+        ensures { result ≡ record { 0 = rule.struct_flags (around self.now) self.now.members.now } }
+    {
+        let mut flags = self.common_flags();
+        if self.goes_back() {
+            flags.remove(TypeFlags::HOST_SHAREABLE);
+        }
+        if sources.first.is_some() && sources.second.is_some() {
+            flags.insert(TypeFlags::IO_SHAREABLE);
+        }
+        flags
+    }
+
+    /// Whether immediates may hold the struct.
+    fn immediates_compatibility(&self) -> ImmediateCompatibility
+        requires { MembersKnown self.now }
+        ensures { result ≡ rule.struct_immediates (around self.now) self.now.members.now }
+    {
+        let mut compatibility = Ok(());
+        for member in self.members {
+            let immediates = self.info(member).immediates_compatibility;
+            if immediates.is_err() {
+                compatibility = immediates;
+            }
+        }
+        compatibility
+    }
+
+    /// Whether a member is shared by hosts, and stands at a multiple of its alignment.
+    fn check_layout(
+        &self,
+        space: SharedSpace,
+        index: usize,
+        member: &StructMember,
+    ) -> Result<(), (Handle<TypeTag>, Disalignment)>
+        requires known { MembersKnown self.now }
+        requires before { member.now.ty < self.now.handle }
+        ensures { result ≡ granted (layouts.member_failure (around self.now) space self.now.handle (index, member.now)) tt }
+    {
+        let info = self.info(member);
+        if !info.flags.contains(TypeFlags::HOST_SHAREABLE) {
+            return Err((member.ty, Disalignment::NonHostShareable));
+        }
+        let alignment = space.layout(info)?;
+        if alignment.is_aligned(member.offset) {
+            return Ok(());
+        }
+        Err((
+            self.handle,
+            Disalignment::MemberOffset {
+                index: told(index as u64),
+                offset: member.offset,
+                alignment,
+            },
+        ))
+    }
+
+    /// Whether so it is with all members.
+    fn check_layouts(&self, space: SharedSpace) -> Result<(), (Handle<TypeTag>, Disalignment)>
+        requires { MembersKnown self.now }
+        ensures { result ≡ judged (layouts.member_failures (around self.now) space self.now.handle self.now.members.now) tt }
+    {
+        for index in 0..self.members.len() {
+            self.check_layout(space, index, &self.members[index])?;
+        }
+        Ok(())
+    }
+
+    /// The greatest alignment of the members.
+    fn greatest_alignment(&self, space: SharedSpace) -> Alignment
+        requires { MembersKnown self.now }
+        ensures { result ≡ layouts.greatest_alignment (around self.now) space self.now.members.now }
+    {
+        let mut greatest = Alignment::ONE;
+        for member in self.members {
+            greatest = greatest.max(space.layout(self.info(member)).unwrap_or(Alignment::ONE));
+        }
+        greatest
+    }
+
+    /// Whether the span is a multiple of the struct's alignment.
+    fn check_span(&self) -> Result<(), (Handle<TypeTag>, Disalignment)>
+        requires { MembersKnown self.now }
+        ensures { result ≡ granted (layouts.span_failure (around self.now) self.now.handle self.now.span) tt }
+    {
+        let alignment = self.ctx.layouter[self.handle].alignment;
+        if alignment.is_aligned(self.span) {
+            return Ok(());
+        }
+        Err((
+            self.handle,
+            Disalignment::StructSpan {
+                span: self.span,
+                alignment,
+            },
+        ))
+    }
+
+    /// The layout in a storage buffer.
+    fn storage_layout(&self) -> LayoutCompatibility
+        requires { MembersKnown self.now }
+        ensures { result ≡ layouts.storage_layout_of (around self.now) self.now.handle self.now.members.now self.now.span }
+    {
+        self.check_span()?;
+        self.check_layouts(SharedSpace::Storage)?;
+        Ok(self.greatest_alignment(SharedSpace::Storage))
+    }
+
+    /// The first byte that may follow the member before the one at a place, where that is a struct.
+    fn room_before(&self, index: usize) -> u64
+        requires known { MembersKnown self.now }
+        requires member { index < length self.now.members.now }
+        ensures { result ≡ layouts.room_before (around self.now) self.now.members.now index }
+    {
+        if index == 0 {
+            return 0;
+        }
+        let before = &self.members[index - 1];
+        match self.gctx.types[before.ty].inner {
+            TypeInner::Struct { span, .. } => {
+                u64::from(before.offset) + Alignment::MIN_UNIFORM.round_up(span)
+            }
+            _ => 0,
+        }
+    }
+
+    /// The last member that stands in the room of the struct before it.
+    fn last_in_room(&self) -> Option<(Handle<TypeTag>, Disalignment)>
+        requires { MembersKnown self.now }
+        ensures { result ≡ layouts.last_room_failure (around self.now) self.now.handle self.now.members.now }
+    {
+        let mut last = None;
+        for index in 0..self.members.len() {
+            let offset = self.members[index].offset;
+            let room = self.room_before(index);
+            if u64::from(offset) < room {
+                last = Some((
+                    self.handle,
+                    Disalignment::MemberOffsetAfterStruct {
+                        index: told(index as u64),
+                        offset,
+                        expected: told(room),
+                    },
+                ));
+            }
+        }
+        last
+    }
+
+    /// Whether all members have fixed sizes.
+    fn check_sizes(&self) -> Result<(), (Handle<TypeTag>, Disalignment)>
+        requires { MembersKnown self.now }
+        ensures { result ≡ judged (layouts.size_failures (around self.now) self.now.handle self.now.members.now) tt }
+    {
+        for index in 0..self.members.len() {
+            let info = self.info(&self.members[index]);
+            if !info.flags.contains(TypeFlags::SIZED) {
+                let index = told(index as u64);
+                return Err((self.handle, Disalignment::UnsizedMember { index }));
+            }
+        }
+        Ok(())
+    }
+
+    /// The layout in a uniform buffer.
+    fn uniform_layout(&self) -> LayoutCompatibility
+        requires { MembersKnown self.now }
+        ensures { result ≡ layouts.uniform_layout_of (around self.now) self.now.handle self.now.members.now self.now.span }
+    {
+        self.check_span()?;
+        if let Some(error) = self.last_in_room() {
+            return Err(error);
+        }
+        self.check_layouts(SharedSpace::Uniform)?;
+        self.check_sizes()?;
+        Ok(
+            self.greatest_alignment(SharedSpace::Uniform)
+                .max(Alignment::MIN_UNIFORM),
+        )
+    }
+}
+
+/// What is known of a struct, or why it is refused.
+pub(crate) fn validate_struct<'a>(
+    alloc: Global,
+    ctx: TypeContext<'a>,
+    handle: Handle<TypeTag>,
+    gctx: GlobalCtx<'a>,
+    members: &'a [StructMember],
+    span: u32,
+) -> Result<TypeInfo, TypeError>
+    requires known { KnownBefore (surroundings ctx gctx) handle }
+    requires members { All (λ (m : member.StructMember). m.ty < handle) members.now }
+    requires references { GlobalReferencesOk (lists_of gctx) }
+    ensures { Answers (rule.struct_rule (surroundings ctx.entry gctx.entry) handle members.now span) result }
+{
+    if members.is_empty() {
+        return Err(TypeError::EmptyStruct);
+    }
+    let it = StructType {
+        ctx,
+        gctx,
+        handle,
+        members,
+        span,
+    };
+    let sources = it.check_members(alloc)?;
+    it.check_sources(&sources)
+        .map_err(TypeError::InvalidBlendSrc)?;
+    Ok(TypeInfo {
+        flags: it.flags(&sources),
+        uniform_layout: it.uniform_layout(),
+        storage_layout: it.storage_layout(),
+        immediates_compatibility: it.immediates_compatibility(),
+    })
+}
