@@ -152,7 +152,9 @@ fn is_of_memory(rt: &impl Abort, error: &WithSpan<ValidationError>) -> bool {
 
 /// Validates a filled module, and answers whether memory was refused.
 fn is_refused_in_call(rt: &impl Abort, validator: &mut Validator, module: &Module) -> bool {
-    assert!(rt; module.has_only_documented_types());
+    assert!(rt; module.constants.is_empty());
+    assert!(rt; module.overrides.is_empty());
+    assert!(rt; module.global_expressions.is_empty());
     let answer = validator.validate(module);
     assert_eq!(rt; validator.type_count(), 0);
     let error = answer.expect_err(rt, "a Boolean has one byte");

@@ -1,5 +1,4 @@
 pub mod Handles
-pub mod PlainReferences
 pub mod Reached
 pub mod StatementLemmas
 pub mod WalkLemmas

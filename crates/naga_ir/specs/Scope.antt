@@ -1,6 +1,5 @@
 -- Modules of which only a part is used.
 use Rattle.std.specs.Prelude.{◌≡◌, [], None}
-use Rattle.naga_ir_types.specs.Plain.{ArePlain}
 use Rattle.naga_ir.specs.declared.ir.Module.{Module}
 use Rattle.naga_ir.specs.declared.ir.SpecialTypes.{SpecialTypes}
 use Rattle.naga_ir.specs.declared.ir.DocComments.{DocComments}
@@ -22,8 +21,8 @@ pub record HasNoComments (d : DocComments) : Type 0 where
   pub constants : d.constants ≡ []
   pub global_variables : d.global_variables ≡ []
 
--- all but the types and the comments is empty
-pub record HasOnlyDocumentedTypes (m : Module) : Type 0 where
+-- all but the types is empty
+pub record HasOnlyTypes (m : Module) : Type 0 where
   pub special_types : HasNoSpecialTypes m.special_types
   pub constants : m.constants ≡ []
   pub overrides : m.overrides ≡ []
@@ -33,13 +32,4 @@ pub record HasOnlyDocumentedTypes (m : Module) : Type 0 where
   pub entry_points : m.entry_points ≡ []
   pub diagnostic_filters : m.diagnostic_filters ≡ []
   pub diagnostic_filter_leaf : m.diagnostic_filter_leaf ≡ None
-
--- all but the types is empty
-pub record HasOnlyTypes (m : Module) : Type 0 where
-  pub documented_types : HasOnlyDocumentedTypes m
   pub doc_comments : HasNoComments m.doc_comments
-
--- all but the types and the comments is empty, and the types are scalars, vectors and matrices
-pub record HasOnlyPlainTypes (m : Module) : Type 0 where
-  pub only_types : HasOnlyDocumentedTypes m
-  pub plain : ArePlain m.types

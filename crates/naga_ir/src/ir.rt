@@ -1,7 +1,7 @@
 //! A shader module and what it holds beside types, expressions and statements.
 
 ghost use Rattle.std.specs.Prelude.{◌≡◌, ◌↔◌, [], IsTrue, None};
-ghost use Rattle.naga_ir.specs.Scope.{HasNoComments, HasNoSpecialTypes, HasOnlyDocumentedTypes, HasOnlyTypes};
+ghost use Rattle.naga_ir.specs.Scope.{HasNoComments, HasNoSpecialTypes, HasOnlyTypes};
 
 use crate::expression::Expression;
 use crate::statement::Block;
@@ -267,20 +267,5 @@ impl Module {
             diagnostic_filter_leaf: None,
             doc_comments: DocComments::new(alloc),
         }
-    }
-
-    /// Whether all but the types and the comments is empty.
-    pub fn has_only_documented_types(&self) -> bool
-        ensures { IsTrue result ↔ HasOnlyDocumentedTypes self.now }
-    {
-        self.special_types.is_empty()
-            && self.constants.is_empty()
-            && self.overrides.is_empty()
-            && self.global_variables.is_empty()
-            && self.global_expressions.is_empty()
-            && self.functions.is_empty()
-            && self.entry_points.is_empty()
-            && self.diagnostic_filters.is_empty()
-            && self.diagnostic_filter_leaf.is_none()
     }
 }

@@ -1,7 +1,6 @@
 //! Types of a module.
 
-ghost use Rattle.std.specs.Prelude.{◌≡◌, ◌↔◌, IfOk, IsOk, IsTrue};
-ghost use Rattle.naga_ir_types.specs.Plain.{IsPlain};
+ghost use Rattle.std.specs.Prelude.{◌≡◌, IfOk, IsOk};
 ghost use Rattle.naga_ir_types.specs.Sizes.{components, cooperative_components, is_numeric};
 ghost use Rattle.naga_ir_types.specs.TypeWords.{IsNoStruct, is_mipmapped, is_multisampled, pointer_base, scalar_of};
 
@@ -418,16 +417,6 @@ impl TypeInner {
         ensures no_struct { IsNoStruct self.now → IsOk result }
     {
         Ok(self.clone()?)
-    }
-
-    /// Whether it is a scalar, a vector or a matrix.
-    pub fn is_plain(&self) -> bool
-        ensures { IsTrue result ↔ IsPlain self.now }
-    {
-        match self {
-            TypeInner::Scalar(_) | TypeInner::Vector { .. } | TypeInner::Matrix { .. } => true,
-            _ => false,
-        }
     }
 
     /// The type of the components of a scalar, a vector or a matrix, of either kind of matrix. Other

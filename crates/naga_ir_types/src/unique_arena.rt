@@ -1,10 +1,9 @@
 //! The arena of types, in which each type stands once.
 
-ghost use Rattle.std.specs.Prelude.{◌≡◌, ◌==◌, ℕ, ◌<◌, ◌≤◌, [], ◌∷◌, ◌++◌, length, IsOk, IsTrue, IfOk, OnOk, OnErr, IfSome, IsSome, Contains, ◌↔◌, Some, slice_get, codes, IfErr};
+ghost use Rattle.std.specs.Prelude.{◌≡◌, ◌==◌, ℕ, ◌<◌, ◌≤◌, [], ◌∷◌, ◌++◌, length, IsOk, IfOk, OnOk, OnErr, IfSome, IsSome, Contains, ◌↔◌, Some, slice_get, codes, IfErr};
 ghost use Rattle.naga_arena.specs.Existence.{IsGoodRange};
 ghost use Rattle.std.specs.List.{enumerate_from};
 ghost use Rattle.naga_ir_types.specs.Distinct.{AllDistinct};
-ghost use Rattle.naga_ir_types.specs.Plain.{ArePlain};
 
 use crate::types::Type;
 use indexmap::IndexSet;
@@ -64,18 +63,6 @@ impl UniqueArena {
         ensures { result ≡ (length self.now == 0) }
     {
         self.set.is_empty()
-    }
-
-    /// Whether all types are scalars, vectors and matrices.
-    pub fn are_plain(&self) -> bool
-        ensures { IsTrue result ↔ ArePlain self.now }
-    {
-        for ty in self.as_slice() {
-            if !ty.inner.is_plain() {
-                return false;
-            }
-        }
-        true
     }
 
     /// All types, in the order of their handles. No two are equal.

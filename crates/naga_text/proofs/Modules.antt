@@ -27,18 +27,16 @@ comments_same a b h k = λ j. record {
 -- two modules of the same types and nothing else are one
 pub module_same : (a b : Module) → HasOnlyTypes a → HasOnlyTypes b → a.types ≡ b.types → a ≡ b
 module_same a b h k types =
-    let d = h.documented_types in
-    let e = k.documented_types in
     λ j. record {
       types = types j;
-      special_types = special_types_same a.special_types b.special_types d.special_types e.special_types j;
-      constants = (d.constants ∙ sym e.constants) j;
-      overrides = (d.overrides ∙ sym e.overrides) j;
-      global_variables = (d.global_variables ∙ sym e.global_variables) j;
-      global_expressions = (d.global_expressions ∙ sym e.global_expressions) j;
-      functions = (d.functions ∙ sym e.functions) j;
-      entry_points = (d.entry_points ∙ sym e.entry_points) j;
-      diagnostic_filters = (d.diagnostic_filters ∙ sym e.diagnostic_filters) j;
-      diagnostic_filter_leaf = (d.diagnostic_filter_leaf ∙ sym e.diagnostic_filter_leaf) j;
+      special_types = special_types_same a.special_types b.special_types h.special_types k.special_types j;
+      constants = (h.constants ∙ sym k.constants) j;
+      overrides = (h.overrides ∙ sym k.overrides) j;
+      global_variables = (h.global_variables ∙ sym k.global_variables) j;
+      global_expressions = (h.global_expressions ∙ sym k.global_expressions) j;
+      functions = (h.functions ∙ sym k.functions) j;
+      entry_points = (h.entry_points ∙ sym k.entry_points) j;
+      diagnostic_filters = (h.diagnostic_filters ∙ sym k.diagnostic_filters) j;
+      diagnostic_filter_leaf = (h.diagnostic_filter_leaf ∙ sym k.diagnostic_filter_leaf) j;
       doc_comments = comments_same a.doc_comments b.doc_comments h.doc_comments k.doc_comments j;
     }

@@ -80,21 +80,18 @@ resolved_added told new given h said t = given_cases _ _ told.resolved true new 
 
 -- a module of types alone stays so where its types change
 still_only_types : (m : Module) (types : List «Type») → HasOnlyTypes m → HasOnlyTypes (record m { types = types })
-still_only_types m types h =
-    let d = h.documented_types in record {
-      documented_types = record {
-        special_types = d.special_types;
-        constants = d.constants;
-        overrides = d.overrides;
-        global_variables = d.global_variables;
-        global_expressions = d.global_expressions;
-        functions = d.functions;
-        entry_points = d.entry_points;
-        diagnostic_filters = d.diagnostic_filters;
-        diagnostic_filter_leaf = d.diagnostic_filter_leaf;
-      };
-      doc_comments = h.doc_comments;
-    }
+still_only_types m types h = record {
+  special_types = h.special_types;
+  constants = h.constants;
+  overrides = h.overrides;
+  global_variables = h.global_variables;
+  global_expressions = h.global_expressions;
+  functions = h.functions;
+  entry_points = h.entry_points;
+  diagnostic_filters = h.diagnostic_filters;
+  diagnostic_filter_leaf = h.diagnostic_filter_leaf;
+  doc_comments = h.doc_comments;
+}
 
 -- a line of a type adds it, or may not stand here
 pub type_added : (told : Told) (inner : TypeInner) (new : List «Type») (added : Bool) → IsNewType told.«module».types inner new added → IsAdded told (Type_ inner) (record told { «module» = record told.«module» { types = new } }) added

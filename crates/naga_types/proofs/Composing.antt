@@ -1,8 +1,8 @@
 -- Components, looked at one after another.
-use Rattle.std.proofs.Common.{◌≡◌, ◌==◌, ◌+◌, ◌<◌, ◌≤◌, ℕ, Bool, true, false, min, List, ◌∷◌, Option, Some, None, All, drop, get_or, length, map, option_map, slice_get, take, refl, sym, ap, ◌∙◌, arith}
+use Rattle.std.proofs.Common.{◌≡◌, ◌==◌, ◌+◌, ◌<◌, ◌≤◌, ℕ, Bool, true, false, min, List, Option, Some, None, All, drop, get_or, length, map, option_map, slice_get, take, refl, sym, ap, ◌∙◌, arith}
 use Rattle.std.specs.List.{enumerate_from}
 use Rattle.std.proofs.lemmas.Bool.Decides.{Decides-eqb, Decides-like, same_from_decides}
-use Rattle.std.proofs.lemmas.List.{at_drop_all, at_drop_more}
+use Rattle.std.proofs.lemmas.List.{at_drop_all}
 use Rattle.std.proofs.lemmas.List.Sums.{sum_by_more}
 use Rattle.std.proofs.lemmas.Option.{get_or_from_slice_get, same_Some, slice_get-get_or, slice_get-map, slice_get_within}
 use Rattle.naga_arena.proofs.Elements.{all_at}
@@ -14,8 +14,9 @@ use Rattle.naga_ir_types.specs.declared.types.StructMember.{StructMember}
 use Rattle.naga_ir_types.specs.declared.types.TypeInner.TheVariants.{Array, Struct}
 use Rattle.naga_ir_types.specs.declared.types.VectorSize.{VectorSize}
 use Rattle.naga_ir_types.specs.declared.types.VectorSize.TheVariants.{Bi, Tri, Quad}
+use Rattle.naga_types.proofs.Firsts.{passed, refused}
 use Rattle.naga_types.specs.Composing.{ComponentsExist, all_parts, first_misfit, misfit, miscount, parts_in, resolution_in, resolutions_at, resolutions_of}
-use Rattle.naga_types.specs.Judging.{first, or_else, unless}
+use Rattle.naga_types.specs.Judging.{first, unless}
 use Rattle.naga_types.specs.Layouts.{told}
 use Rattle.naga_types.specs.declared.compose.Components.{Components}
 use Rattle.naga_types.specs.declared.compose.Components.TheVariants.{Given, At}
@@ -46,11 +47,6 @@ component_exists types (At places resolutions) i r exist at = by_place (slice_ge
         let same : get_or resolutions.now e r ≡ r = same_Some _ r (sym (found_at_place places.now resolutions.now i e _ is found) ∙ at) in
         all_at (ResolutionExists types) resolutions.now e r exist.1 (found ∙ ap Some same)
 
--- what is left from a place on begins with what stands there
-drop_at : {X : Type 0} (xs : List X) (i : ℕ) (x : X) → slice_get xs i ≡ Some x → drop i xs ≡ x ∷ drop (i + 1) xs
-drop_at xs i x at =
-    at_drop_more (λ l. l) xs i x (slice_get_within xs i x at) ∙ ap (λ y. y ∷ drop (i + 1) xs) (get_or_from_slice_get xs i x x at)
-
 module _ (fits : ℕ × TypeResolution → Bool) (given : List TypeResolution) where
   abbrev misfit_from : ℕ → List TypeResolution → Option ComposeError
   misfit_from i left = first (map (misfit fits) (enumerate_from i left))
@@ -60,14 +56,17 @@ module _ (fits : ℕ × TypeResolution → Bool) (given : List TypeResolution) w
   FitSoFar i = misfit_from i (drop i given) ≡ first_misfit fits given
 
   module _ (i : ℕ) (r : TypeResolution) (at : slice_get given i ≡ Some r) (so_far : FitSoFar i) where
-    from_here : misfit_from i (r ∷ drop (i + 1) given) ≡ first_misfit fits given
-    from_here = sym (ap (misfit_from i) (drop_at given i r at)) ∙ so_far
+    within : i < length given
+    within = slice_get_within given i r at
+
+    here : r ≡ get_or given i r
+    here = sym (get_or_from_slice_get given i r r at)
 
     pub one_fits : fits (i, r) ≡ true → FitSoFar (i + 1)
-    one_fits e = sym (ap (λ b. or_else (unless b (ComponentType (told i))) (misfit_from (i + 1) (drop (i + 1) given))) e) ∙ from_here
+    one_fits e = passed (misfit fits) given i r within here so_far (ap (λ b. unless b (ComponentType (told i))) e)
 
     pub one_misfits : fits (i, r) ≡ false → first_misfit fits given ≡ Some (ComponentType (told i))
-    one_misfits e = sym from_here ∙ ap (λ b. or_else (unless b (ComponentType (told i))) (misfit_from (i + 1) (drop (i + 1) given))) e
+    one_misfits e = refused (misfit fits) given i r within here so_far (ComponentType (told i)) (ap (λ b. unless b (ComponentType (told i))) e)
 
   pub all_fit : (i : ℕ) → length given ≤ i → FitSoFar i → first_misfit fits given ≡ None
   all_fit i past so_far = sym so_far ∙ at_drop_all (misfit_from i) given i past

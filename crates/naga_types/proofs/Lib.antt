@@ -1,5 +1,5 @@
 mod Composing
+mod Firsts
 mod Members
 mod Parts
-mod Sameness
 mod TypesAlone

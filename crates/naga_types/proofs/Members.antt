@@ -1,13 +1,12 @@
 -- Members, one after another: which is refused first, and which sources of blending there are.
-use Rattle.std.proofs.Common.{◌≡◌, ◌==◌, ℕ, ◌+◌, ◌<◌, zero, suc, ◌⊎◌, inl, inr, ⊎_elim, All, Bool, true, false, List, [], ◌∷◌, ◌++◌, Option, Some, None, map, length, take, drop, get_or, refl, sym, ap, subst, ◌∙◌, arith}
-use Rattle.std.specs.Prelude.{Result, Ok, Err}
-use Rattle.std.specs.List.{enumerate_from}
-use Rattle.std.proofs.lemmas.List.{drop_more, take_more}
+use Rattle.std.proofs.Common.{◌≡◌, ◌==◌, ℕ, ◌+◌, ◌<◌, inl, inr, All, Bool, true, false, List, [], ◌∷◌, ◌++◌, Option, Some, None, length, take, get_or, refl, sym, ap, subst, ◌∙◌, arith}
+use Rattle.std.specs.Prelude.{Ok, Err}
+use Rattle.std.proofs.lemmas.List.{take_more}
 use Rattle.std.proofs.lemmas.List.Elements.{All-tail}
 use Rattle.naga_ir_types.specs.declared.types.StructMember.{StructMember}
 use Rattle.naga_types.specs.Answers.{Answers, CarriesText}
 use Rattle.naga_types.specs.Judging.{first, granted, only_if, or_else}
-use Rattle.naga_types.specs.StructRule.{noted, source_conditions, source_of, source_type, sources_of, type_of_source, with_member}
+use Rattle.naga_types.specs.StructRule.{source_of, source_type, sources_of, type_of_source, with_member}
 use Rattle.naga_types.specs.declared.error.TypeError.{TypeError}
 use Rattle.naga_types.specs.declared.error.TypeError.TheVariants.{InvalidDynamicArray, OutOfMemory}
 use Rattle.naga_types.specs.declared.structs.Sources.{Sources}
@@ -30,25 +29,9 @@ alone (Some e) = refl
 pub fourth : {E : Type 0} (a b c d : Option E) → a ≡ None → b ≡ None → c ≡ None → first (a ∷ b ∷ c ∷ d ∷ []) ≡ d
 fourth a b c d p q r = ap (λ o. first (o ∷ b ∷ c ∷ d ∷ [])) p ∙ ap (λ o. first (o ∷ c ∷ d ∷ [])) q ∙ ap (λ o. first (o ∷ d ∷ [])) r ∙ alone d
 
--- what is left begins with the member at its place
-next : {X : Type 0} (xs : List X) (i : ℕ) (x : X) → i < length xs → x ≡ get_or xs i x → drop i xs ≡ x ∷ drop (i + 1) xs
-next xs i x h e = drop_more xs i x h ∙ ap (λ y. y ∷ drop (i + 1) xs) (sym e)
-
-module _ {X E : Type 0} (g : ℕ × X → Option E) (xs : List X) (i : ℕ) (x : X) (h : i < length xs) (e : x ≡ get_or xs i x) (so_far : first (map g (enumerate_from i (drop i xs))) ≡ first (map g (enumerate_from 0 xs))) where
-  here : first (map g (enumerate_from i (drop i xs))) ≡ or_else (g (i, x)) (first (map g (enumerate_from (i + 1) (drop (i + 1) xs))))
-  here = ap (λ ys. first (map g (enumerate_from i ys))) (next xs i x h e)
-
-  -- a member that isn't refused is passed
-  pub passed : g (i, x) ≡ None → first (map g (enumerate_from (i + 1) (drop (i + 1) xs))) ≡ first (map g (enumerate_from 0 xs))
-  passed none = sym (here ∙ ap (λ o. or_else o (first (map g (enumerate_from (i + 1) (drop (i + 1) xs))))) none) ∙ so_far
-
-  -- a member that is refused is the first
-  pub refused : (error : E) → g (i, x) ≡ Some error → first (map g (enumerate_from 0 xs)) ≡ Some error
-  refused error some = sym so_far ∙ here ∙ ap (λ o. or_else o (first (map g (enumerate_from (i + 1) (drop (i + 1) xs))))) some
-
 -- a refusal carries a text whatever is granted otherwise
 text_stays : (A B : Type 0) (x : TypeError) → CarriesText {A = A} (Err x) → CarriesText {A = B} (Err x)
-text_stays A B (InvalidDynamicArray name ty) h = tt
+text_stays A B (InvalidDynamicArray (c ∷ name) ty) h = tt
 text_stays A B _ h = absurd h
 
 -- what is answered of one refusal is answered of all, where it is the first

@@ -7,7 +7,6 @@ use Rattle.naga_ir_types.specs.Parts.{parts}
 use Rattle.naga_ir_types.specs.declared.types.«Type».{«Type»}
 use Rattle.naga_ir_types.specs.declared.types.AddressSpace.{AddressSpace}
 use Rattle.naga_ir_types.specs.declared.types.ArraySize.{ArraySize}
-use Rattle.naga_ir_types.specs.declared.types.TypeInner.{TypeInner}
 use Rattle.naga_ir_types.specs.declared.types.TypeInner.TheVariants.{BindingArray, Pointer}
 
 part_of_pointer : (base : ℕ) (space : AddressSpace) → Contains (parts (Pointer base space)) base

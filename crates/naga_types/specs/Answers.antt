@@ -1,11 +1,11 @@
 -- What a call answers where a rule says something.
-use Rattle.std.specs.Prelude.{◌≡◌, ◌⊎◌, ⊤, Result, Ok, Err}
+use Rattle.std.specs.Prelude.{◌≡◌, ◌⊎◌, ◌∷◌, ⊤, Result, Err}
 use Rattle.naga_types.specs.declared.error.TypeError.{TypeError}
 use Rattle.naga_types.specs.declared.error.TypeError.TheVariants.{InvalidDynamicArray, OutOfMemory}
 
--- a refusal carries a text, for which memory is asked
+-- a refusal carries a text that is not empty, for which memory is asked
 abbrev pub CarriesText : {A : Type 0} → Result A TypeError → Type 0
-CarriesText (Err (InvalidDynamicArray name ty)) = ⊤
+CarriesText (Err (InvalidDynamicArray (c ∷ name) ty)) = ⊤
 CarriesText _ = ⊥
 
 -- a call answers what the rule says, or that memory was refused where the rule's refusal carries a text

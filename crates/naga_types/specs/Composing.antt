@@ -12,11 +12,11 @@ use Rattle.naga_ir_types.specs.declared.types.TypeInner.{TypeInner}
 use Rattle.naga_ir_types.specs.declared.types.TypeInner.TheVariants.{Scalar, Vector, Matrix, Array, Struct}
 use Rattle.naga_ir_types.specs.declared.types.VectorSize.{VectorSize}
 use Rattle.naga_typing.specs.Resolutions.{ResolutionExists, inner_in}
+use Rattle.naga_typing.specs.Sameness.{are_same}
 use Rattle.naga_typing.specs.declared.typifier.TypeResolution.{TypeResolution}
 use Rattle.naga_typing.specs.declared.typifier.TypeResolution.TheVariants.{Handle}
 use Rattle.naga_types.specs.Judging.{first, judged, unless}
 use Rattle.naga_types.specs.Layouts.{told}
-use Rattle.naga_types.specs.Sameness.{are_same}
 use Rattle.naga_types.specs.declared.compose.Components.{Components}
 use Rattle.naga_types.specs.declared.compose.Components.TheVariants.{Given, At}
 use Rattle.naga_types.specs.declared.compose.Wanted.{Wanted}

@@ -1,10 +1,11 @@
 pub mod Answers
 pub mod Composing
+pub mod Exchange
 pub mod Infos
 pub mod Judging
 pub mod Known
 pub mod Layouts
-pub mod Sameness
 pub mod StructRule
 pub mod Surroundings
+pub mod TypeMethods
 pub mod TypeRule

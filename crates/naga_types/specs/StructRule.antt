@@ -1,5 +1,5 @@
 -- The rule of structs.
-use Rattle.std.specs.Prelude.{◌<◌, All, ◌==◌, ◌+◌, ◌^◌, ◌&&◌, ◌||◌, not, leb, ltb, ℕ, zero, suc, Bool as Truth, true, false, List, [], ◌∷◌, Option, Some, None, Result, Ok, Err, bit_and, bit_or, fold, is_some, length, map, slice_get, take, unwrap_or, if◌then◌else◌}
+use Rattle.std.specs.Prelude.{◌<◌, All, ◌==◌, ◌+◌, ◌^◌, ◌&&◌, ◌||◌, not, leb, ltb, ℕ, zero, suc, Bool as Truth, true, false, List, [], ◌∷◌, Option, Some, None, Result, Ok, Err, bit_and, bit_or, fold, is_some, length, map, take, unwrap_or, if◌then◌else◌}
 use Rattle.std.specs.List.{enumerate_from, list_any}
 use Rattle.naga_flags.specs.Flags.{has}
 use Rattle.naga_flags.specs.declared.width.ImmediateError.{ImmediateError}
@@ -9,8 +9,8 @@ use Rattle.naga_ir_types.specs.declared.types.StructMember.{StructMember}
 use Rattle.naga_ir_types.specs.declared.types.TypeInner.{TypeInner}
 use Rattle.naga_ir_types.specs.declared.types.TypeInner.TheVariants as form
 use Rattle.naga_typing.specs.declared.typifier.TypeResolution.TheVariants.{Handle}
+use Rattle.naga_typing.specs.Sameness.{are_same}
 use Rattle.naga_types.specs.Judging.{first, granted, judged, last, only_if, or_else, unless}
-use Rattle.naga_types.specs.Sameness.{are_same}
 use Rattle.naga_types.specs.Layouts.{before, storage_layout_of, told, uniform_layout_of}
 use Rattle.naga_types.specs.Surroundings.{KnownBefore, Surroundings, flags_at, form_at, info_at, size_at, surroundings}
 use Rattle.naga_types.specs.declared.error.TypeError.{TypeError}

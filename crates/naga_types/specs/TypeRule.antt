@@ -1,5 +1,5 @@
 -- The rule of one type, by its form.
-use Rattle.std.specs.Prelude.{◌==◌, ◌^◌, ◌&&◌, ◌||◌, not, max, ℕ, ◌%◌, Bool as Truth, true, false, List, [], ◌∷◌, Option, Some, None, Result, Ok, Err, bit_and, is_some, map, slice_get, if◌then◌else◌}
+use Rattle.std.specs.Prelude.{◌==◌, ◌^◌, ◌&&◌, ◌||◌, not, max, ℕ, ◌%◌, Bool as Truth, true, false, List, [], ◌∷◌, Option, Some, None, Result, Ok, Err, bit_and, is_some, if◌then◌else◌}
 use Rattle.naga_flags.specs.Flags.{has}
 use Rattle.naga_flags.specs.Width.{immediates_of, is_good_width, width_refusal}
 use Rattle.naga_ir.specs.ItemReferences.{GlobalLists}
@@ -11,7 +11,7 @@ use Rattle.naga_ir_types.specs.declared.types.ArraySize.TheVariants.{Constant, P
 use Rattle.naga_ir_types.specs.declared.types.ImageClass.{ImageClass}
 use Rattle.naga_ir_types.specs.declared.types.ImageClass.TheVariants.{External}
 use Rattle.naga_ir_types.specs.declared.types.ImageDimension.{ImageDimension}
-use Rattle.naga_ir_types.specs.declared.types.ImageDimension.TheVariants.{D1, D2, D3, Cube}
+use Rattle.naga_ir_types.specs.declared.types.ImageDimension.TheVariants.{D2, D3, Cube}
 use Rattle.naga_ir_types.specs.declared.types.Scalar.{Scalar}
 use Rattle.naga_ir_types.specs.declared.types.ScalarKind.{ScalarKind}
 use Rattle.naga_ir_types.specs.declared.types.ScalarKind.TheVariants.{Sint, Uint, Float}

@@ -11,13 +11,12 @@ ghost use Rattle.naga_typing.specs.Context.{lists_of};
 ghost use Rattle.naga_typing.specs.Resolutions.{AllPartsExist, ResolutionExists};
 
 use crate::error::{ComposeError, told};
-use crate::same_types::are_same;
 use naga_ir::handle::Handle;
 use naga_ir::tags::{ExpressionTag, TypeTag};
 use naga_ir::types::{ArraySize, Scalar, StructMember, TypeInner, VectorSize};
 use naga_ir::unique_arena::UniqueArena;
 use naga_typing::context::GlobalCtx;
-use naga_typing::typifier::TypeResolution;
+use naga_typing::typifier::{TypeResolution, compare_types};
 
 #[cfg(test)]
 mod tests;
@@ -160,7 +159,7 @@ fn is_of(ty: Handle<TypeTag>, component: &TypeResolution, types: &UniqueArena) -
     requires parts { AllPartsExist types.now }
     ensures { result ≡ rule.is_of types.now ty component.now }
 {
-    are_same(&TypeResolution::Handle(ty), component, types)
+    compare_types(&TypeResolution::Handle(ty), component, types)
 }
 
 /// How many components of a vector a form is.

@@ -4,9 +4,10 @@
 mod arrays;
 pub mod compose;
 pub mod error;
+pub mod exchange;
 pub mod info;
-mod same_types;
 mod structs;
 #[cfg(test)]
 mod tests;
+pub mod type_methods;
 pub mod validate;

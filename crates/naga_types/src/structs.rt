@@ -14,7 +14,6 @@ ghost use Rattle.naga_typing.specs.Context.{lists_of};
 
 use crate::error::{Disalignment, TypeError, VaryingError, told};
 use crate::info::{LayoutCompatibility, TypeContext, TypeInfo};
-use crate::same_types::are_same;
 use crate::validate::{require_type_capability, unshared_flags};
 use bitflags::Flags;
 use naga_flags::flags::{Capabilities, TypeFlags};
@@ -26,7 +25,7 @@ use naga_ir::tags::TypeTag;
 use naga_ir::text::Text;
 use naga_ir::types::{Binding, StructMember, TypeInner};
 use naga_typing::context::GlobalCtx;
-use naga_typing::typifier::TypeResolution;
+use naga_typing::typifier::{TypeResolution, compare_types};
 use std::alloc::Global;
 
 /// The address spaces in which hosts share memory.
@@ -174,8 +173,8 @@ impl StructType<'_> {
             return Ok(());
         }
         let name = match &member.name {
-            Some(name) => name.try_clone()?,
-            None => Text::new(alloc),
+            Some(name) if !name.as_str().is_empty() => name.try_clone()?,
+            _ => Text::new(alloc),
         };
         Err(TypeError::InvalidDynamicArray(name, member.ty))
     }
@@ -253,7 +252,7 @@ impl StructType<'_> {
         }
         let left = TypeResolution::Handle(first);
         let right = TypeResolution::Handle(second);
-        if !are_same(&left, &right, self.gctx.types) {
+        if !compare_types(&left, &right, self.gctx.types) {
             return Err(VaryingError::BlendSrcOutputTypeMismatch {
                 blend_src_0_type: first,
                 blend_src_1_type: second,

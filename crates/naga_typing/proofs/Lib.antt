@@ -10,5 +10,6 @@ pub mod Pointers
 pub mod Powers
 pub mod Resolutions
 pub mod Resolving
+mod Sameness
 pub mod WorkedOut
 pub mod Working

@@ -6,6 +6,7 @@ pub mod Layout
 pub mod PlainLaws
 pub mod PlainTyping
 pub mod Resolutions
+pub mod Sameness
 pub mod tests
 pub mod Typings
 pub mod WorkedOut

@@ -4,6 +4,7 @@ ghost use Rattle.std.specs.Prelude.{◌≡◌, ◌↔◌, IfOk, IsFalse, IsOk, I
 ghost use Rattle.naga_ir_types.specs.TypeWords.{IsNoStruct, IsStruct};
 ghost use Rattle.naga_typing.specs.Resolutions as spec;
 ghost use Rattle.naga_typing.specs.Resolutions.{AllPartsExist, AreSameTypes, IsProperResolution, PartsExist, ResolutionExists, inner_in};
+ghost use Rattle.naga_typing.specs.Sameness.{are_same};
 
 use naga_ir::handle::Handle;
 use naga_ir::memory::OutOfMemory;
@@ -85,6 +86,17 @@ impl From<OutOfMemory> for ResolveError {
 /// forms are, a pointer to a scalar or to a vector being written as a value pointer. The rule is
 /// naga's.
 pub fn compare_types(lhs: &TypeResolution, rhs: &TypeResolution, types: &UniqueArena) -> bool
+    requires lhs_exists { ResolutionExists types.now lhs.now }
+    requires rhs_exists { ResolutionExists types.now rhs.now }
+    requires parts_exist { AllPartsExist types.now }
+    ensures relation { IsTrue result ↔ AreSameTypes types.now lhs.now rhs.now }
+    ensures decision { result ≡ are_same types.now lhs.now rhs.now }
+{
+    are_one(lhs, rhs, types)
+}
+
+/// Whether two types are one, structs by their handles and other forms as they are compared.
+fn are_one(lhs: &TypeResolution, rhs: &TypeResolution, types: &UniqueArena) -> bool
     requires lhs_exists { ResolutionExists types.now lhs.now }
     requires rhs_exists { ResolutionExists types.now rhs.now }
     requires parts_exist { AllPartsExist types.now }

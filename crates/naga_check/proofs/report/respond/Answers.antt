@@ -15,7 +15,7 @@ named e n P is (inr names) = subst (λ e. NamesLine e P) is names
 
 pub report_on-requires : goal.report_on-requires
 report_on-requires c =
-    let empty = c.in-Ok.ensures.answer.together.nothing_else.documented_types in
+    let empty = c.in-Ok.ensures.answer.together.nothing_else in
     record { constants = empty.constants; overrides = empty.overrides; global_expressions = empty.global_expressions }
 
 pub returns-in-Ok : goal.returns-in-Ok

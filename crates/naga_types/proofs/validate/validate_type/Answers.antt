@@ -1,4 +1,4 @@
-use Rattle.std.proofs.Common.{◌≡◌, ◌<◌, ◌≤◌, ℕ, All, length, subst, sym, arith}
+use Rattle.std.proofs.Common.{◌<◌, ℕ, All, subst, sym, arith}
 use Rattle.naga_ir_types.proofs.PartLemmas.{base_is, members_are}
 use Rattle.naga_ir_types.specs.declared.types.StructMember.{StructMember}
 use Rattle.naga_typing.proofs.Named.{array_override_is_there, references_exist}

@@ -1,7 +1,7 @@
-use Rattle.std.proofs.Common.{rules, ◌≡◌, None, ap, sym, subst}
+use Rattle.std.proofs.Common.{rules, ◌≡◌, None, sym, subst}
 use Rattle.naga_flags.specs.Flags.{has}
 use Rattle.naga_types.specs.Answers.{Answers}
-use Rattle.naga_types.specs.Judging.{first, granted, unless}
+use Rattle.naga_types.specs.Judging.{granted, unless}
 use Rattle.naga_types.specs.StructRule as rule
 use Rattle.naga_types.specs.StructRule.{around, noted}
 use Rattle.naga_types.specs.Surroundings.{flags_at}

@@ -6,7 +6,8 @@ use Rattle.naga_types.specs.Judging.{first, judged}
 use Rattle.naga_types.specs.StructRule as rule
 use Rattle.naga_types.specs.StructRule.{around, sources_of}
 use Rattle.naga_types.specs.declared.structs.Sources.{Sources}
-use Rattle.naga_types.proofs.Members.{answers_first, not_refused, passed, refused, sources_more}
+use Rattle.naga_types.proofs.Firsts.{passed, refused}
+use Rattle.naga_types.proofs.Members.{answers_first, not_refused, sources_more}
 use Rattle.naga_types.proofs.structs.StructType.check_members.Goals as goal
 
 pub returns-in_err-check_member : goal.returns-in_err-check_member

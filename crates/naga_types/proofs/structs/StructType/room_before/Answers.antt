@@ -1,5 +1,4 @@
-use Rattle.std.proofs.Common.{rules, ◌≡◌, ◌+◌, ◌∙◌, refl, ap, arith}
-use Rattle.naga_types.specs.Layouts as layouts
+use Rattle.std.proofs.Common.{refl}
 use Rattle.naga_types.proofs.structs.StructType.room_before.Goals as goal
 
 pub invariant_of-round_up : goal.invariant_of-round_up

@@ -8,7 +8,7 @@ use Rattle.naga_ir_types.specs.contracts.types.TypeInnerPartialEq.TheImpl as of_
 use Rattle.naga_ir_types.specs.declared.types.«Type».{«Type»}
 use Rattle.naga_ir_types.specs.declared.types.TypeInner.{TypeInner}
 use Rattle.naga_ir_types.specs.declared.types.TypeInner.TheVariants.{Struct}
-use Rattle.naga_types.specs.Sameness.{are_same, are_same_found, are_same_inners, is_one_handle, is_struct}
+use Rattle.naga_typing.specs.Sameness.{are_same, are_same_found, are_same_inners, is_one_handle, is_struct}
 use Rattle.naga_typing.specs.Resolutions.{AreOneHandle, AreSameInners, AreSameTypes, canonical, handle_of}
 use Rattle.naga_typing.specs.declared.typifier.TypeResolution.{TypeResolution}
 use Rattle.naga_typing.specs.declared.typifier.TypeResolution.TheVariants.{Handle}

@@ -1,0 +1,56 @@
+//! What forms of types are, apart from any rule on them.
+
+ghost use Rattle.std.specs.Prelude.{◌≡◌};
+ghost use Rattle.naga_types.specs.TypeMethods as spec;
+ghost use Rattle.naga_types.specs.TypeRule as rule;
+
+use naga_ir::types::{ArraySize, ImageDimension, ScalarKind, TypeInner, VectorSize};
+
+/// Whether values of a form have a size, in bytes, that the module alone tells. The rule is naga's.
+pub fn is_sized(inner: &TypeInner) -> bool
+    ensures { result ≡ spec.is_sized inner.now }
+{
+    match inner {
+        TypeInner::Scalar(_)
+        | TypeInner::Vector { .. }
+        | TypeInner::Matrix { .. }
+        | TypeInner::CooperativeMatrix { .. }
+        | TypeInner::Atomic(_)
+        | TypeInner::Pointer { .. }
+        | TypeInner::ValuePointer { .. }
+        | TypeInner::Struct { .. }
+        | TypeInner::Array {
+            size: ArraySize::Constant(_),
+            ..
+        } => true,
+        TypeInner::Array { .. }
+        | TypeInner::Image { .. }
+        | TypeInner::Sampler { .. }
+        | TypeInner::AccelerationStructure { .. }
+        | TypeInner::RayQuery { .. }
+        | TypeInner::BindingArray { .. } => false,
+    }
+}
+
+/// The dimension of the storage images that values of a form are coordinates in: of one integer, or
+/// of two or three (WGSL). Other forms are coordinates in none.
+pub fn image_storage_coordinates(inner: &TypeInner) -> Option<ImageDimension>
+    ensures { result ≡ spec.image_storage_coordinates inner.now }
+{
+    match inner {
+        TypeInner::Scalar(scalar) if is_integer(scalar.kind) => Some(ImageDimension::D1),
+        TypeInner::Vector { size, scalar } if is_integer(scalar.kind) => match size {
+            VectorSize::Bi => Some(ImageDimension::D2),
+            VectorSize::Tri => Some(ImageDimension::D3),
+            VectorSize::Quad => None,
+        },
+        _ => None,
+    }
+}
+
+/// Whether scalars of a kind are integers of a fixed width.
+fn is_integer(kind: ScalarKind) -> bool
+    ensures { result ≡ rule.is_integer kind }
+{
+    matches!(kind, ScalarKind::Sint | ScalarKind::Uint)
+}
