@@ -2,6 +2,7 @@
 
 ghost use Rattle.std.specs.Prelude.{◌≡◌, ◌<◌, ◌≤◌, ◌⊎◌, ◌↔◌, [], length, IfOk, IfSome, IsTrue, OnErr, OnOk, Some, slice_get, false, true, unwrap_or};
 ghost use Rattle.naga_arena.specs.Memory.{AnsweredOrRefused};
+ghost use Rattle.naga_flags.specs.Width.{width_rule};
 ghost use Rattle.naga_ir.specs.Handles.{HandlesAccepted};
 ghost use Rattle.naga_ir.specs.ItemReferences.{global_lists};
 ghost use Rattle.naga_arena.specs.Span.{inner_of};
@@ -9,11 +10,14 @@ ghost use Rattle.naga_types.specs.Answers.{Answers};
 ghost use Rattle.naga_types.specs.Known.{AreInfos, rule_at};
 ghost use Rattle.naga_types.specs.declared.error.TypeError.TheVariants as TypeError;
 ghost use Rattle.naga_typing.specs.Layout.{AreLayouts};
+ghost use Rattle.naga_valid.specs.State as state;
 ghost use Rattle.naga_valid.specs.Accepted.{AcceptsWith, HasNoValues, IsRefusal, Settings, around, flags_of, settings_of};
 
 use crate::error::ValidationError;
+use bitflags::Flags;
 use naga_exprs::module_info::ModuleInfo;
-use naga_flags::flags::{Capabilities, ValidationFlags};
+use naga_flags::flags::{Capabilities, ShaderStages, SubgroupOperationSet, ValidationFlags};
+use naga_flags::width::{ImmediateCompatibility, WidthError, check_width};
 use naga_handles::handles::validate_module_handles;
 use naga_ir::handle::Handle;
 use naga_ir::ir::Module;
@@ -21,7 +25,7 @@ use naga_ir::memory::OutOfMemory;
 use naga_ir::span::{Span, WithSpan};
 use naga_ir::tags::TypeTag;
 use naga_ir::text::Text;
-use naga_ir::types::Type;
+use naga_ir::types::{Scalar, Type};
 use naga_types::error::TypeError;
 use naga_types::info::{TypeContext, TypeInfo, TypeInfos};
 use naga_types::validate::validate_type;
@@ -29,6 +33,9 @@ use naga_typing::context::to_ctx;
 use naga_typing::layouter::{LayoutError, LayoutErrorInner, Layouter};
 use std::alloc::Global;
 use std::marker::Model;
+
+#[cfg(test)]
+mod tests;
 
 /// Validates modules, one after another, under settings of its own.
 ///
@@ -39,6 +46,8 @@ pub struct Validator {
     alloc: Global,
     flags: ValidationFlags,
     capabilities: Capabilities,
+    subgroup_stages: ShaderStages,
+    subgroup_operations: SubgroupOperationSet,
     infos: TypeInfos,
     layouter: Layouter,
 }
@@ -48,21 +57,80 @@ impl Model for Validator {
 
     ghost Value = { State };
 
-    ghost view = { λ v. record { flags = v.flags; capabilities = v.capabilities; infos = v.infos.infos } };
+    ghost view = { λ v. record {
+        flags = v.flags;
+        capabilities = v.capabilities;
+        subgroup_stages = v.subgroup_stages;
+        subgroup_operations = v.subgroup_operations;
+        infos = v.infos.infos;
+    } };
+}
+
+/// The stages that may use subgroups, as the capabilities say.
+fn stages_with(capabilities: Capabilities) -> ShaderStages
+    ensures { result ≡ record { 0 = state.stages_with capabilities.0 } }
+{
+    let mut stages = ShaderStages::empty();
+    if capabilities.contains(Capabilities::SUBGROUP_VERTEX_STAGE) {
+        stages.insert(ShaderStages::VERTEX);
+    }
+    if capabilities.contains(Capabilities::SUBGROUP) {
+        stages.insert(ShaderStages::FRAGMENT);
+        stages.insert(ShaderStages::COMPUTE_LIKE);
+    }
+    stages
+}
+
+/// What may be done in subgroups, as the capabilities say.
+fn operations_with(capabilities: Capabilities) -> SubgroupOperationSet
+    ensures { result ≡ record { 0 = state.operations_with capabilities.0 } }
+{
+    if capabilities.contains(Capabilities::SUBGROUP) {
+        SubgroupOperationSet::BASIC
+            .union(SubgroupOperationSet::VOTE)
+            .union(SubgroupOperationSet::ARITHMETIC)
+            .union(SubgroupOperationSet::BALLOT)
+            .union(SubgroupOperationSet::SHUFFLE)
+            .union(SubgroupOperationSet::SHUFFLE_RELATIVE)
+            .union(SubgroupOperationSet::QUAD_FRAGMENT_COMPUTE)
+    } else {
+        SubgroupOperationSet::empty()
+    }
 }
 
 impl Validator {
     /// A validator under these settings. It takes no memory before its first module.
+    ///
+    /// With `Capabilities::SUBGROUP` fragment, compute, mesh and task shaders may use subgroups, and
+    /// all operations in them; with `SUBGROUP_VERTEX_STAGE` vertex shaders may (naga).
     pub fn new(alloc: Global, flags: ValidationFlags, capabilities: Capabilities) -> Validator
-        ensures { result ≡ record { flags = flags; capabilities = capabilities; infos = [] } }
+        ensures { result ≡ state.fresh flags capabilities }
     {
         Validator {
             alloc,
             flags,
             capabilities,
+            subgroup_stages: stages_with(capabilities),
+            subgroup_operations: operations_with(capabilities),
             infos: TypeInfos::with_room(alloc, 0).unwrap(),
             layouter: Layouter::new(alloc),
         }
+    }
+
+    /// Has these stages use subgroups, and no others.
+    pub fn subgroup_stages(&mut self, stages: ShaderStages) -> &mut Self
+        ensures { result.now ≡ record self.old { subgroup_stages = stages } }
+    {
+        self.subgroup_stages = stages;
+        self
+    }
+
+    /// Allows these operations in subgroups, and no others.
+    pub fn subgroup_operations(&mut self, operations: SubgroupOperationSet) -> &mut Self
+        ensures { result.now ≡ record self.old { subgroup_operations = operations } }
+    {
+        self.subgroup_operations = operations;
+        self
     }
 
     /// Forgets the module last accepted, and keeps the settings.
@@ -149,6 +217,14 @@ impl Validator {
             &self.layouter,
             &mut self.infos,
         )
+    }
+
+    /// Whether a scalar has a good width under the capabilities, and whether immediates may hold it.
+    /// The errors are those of the function `check_width`.
+    pub fn check_width(&self, scalar: Scalar) -> Result<ImmediateCompatibility, WidthError>
+        ensures { result ≡ width_rule self.now.capabilities.0 scalar }
+    {
+        check_width(self.capabilities, scalar)
     }
 
     /// How many types the module last accepted has.

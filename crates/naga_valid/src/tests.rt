@@ -14,7 +14,7 @@ use std::test::Fail;
 
 /// What `judge` makes of a module, which is empty at first. No other function here owns a module, since
 /// each exit of a function drops what it owns, and the proof goes through each.
-fn with_module<R, F: FnOnce(&mut Module) -> R>(alloc: Global, judge: F) -> R
+pub(crate) fn with_module<R, F: FnOnce(&mut Module) -> R>(alloc: Global, judge: F) -> R
     requires { F.IsAlwaysCallable judge }
 {
     let mut module = Module::new(alloc);
@@ -46,7 +46,7 @@ fn add(
 }
 
 /// Makes sure that a module is of the kind that is judged so far.
-fn assert_valueless(rt: &impl Abort, module: &Module)
+pub(crate) fn assert_valueless(rt: &impl Abort, module: &Module)
     ensures { HasNoValues «module».now }
 {
     assert!(rt; module.constants.is_empty());
