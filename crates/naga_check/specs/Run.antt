@@ -1,10 +1,11 @@
 -- What a run leaves with its writer.
-use Rattle.std.specs.Prelude.{ℕ, List, take, Option, Result, Ok, Err}
+use Rattle.std.specs.Prelude.{ℕ, List, codes, take, Option, Result, Ok, Err}
 use Rattle.std.specs.Io.KnownBytes.{Appends}
 use Rattle.naga_check.specs.Report.{IsReport}
 use Rattle.naga_check.specs.declared.report.Outcome.{Outcome}
 use Rattle.naga_check.specs.declared.report.Outcome.TheVariants.{Accepted, Refused, Unreadable}
 use Rattle.naga_check.specs.declared.run.RunFault.{RunFault}
+use Rattle.naga_check.specs.declared.run.RunFault.TheVariants as fault
 
 -- the bytes grew by a report on the input, of this kind
 abbrev pub Reports : List ℕ → Outcome → Option (List ℕ) → Option (List ℕ) → Type 0
@@ -17,6 +18,12 @@ AppendsFront text old new = (n : ℕ) × Appends old new (take n text)
 -- the bytes grew by the beginning of a report on the input
 abbrev pub BeginsReport : List ℕ → Option (List ℕ) → Option (List ℕ) → Type 0
 BeginsReport input old new = (text : List ℕ) × (outcome : Outcome) × IsReport input text outcome × AppendsFront text old new
+
+-- what a fault reads as
+abbrev pub fault_text : RunFault → List ℕ
+fault_text fault.Read = codes "reading failed"
+fault_text fault.Write = codes "writing failed"
+fault_text fault.OutOfMemory = codes "out of memory"
 
 -- the exit status of a run
 abbrev pub status_of : Result Outcome RunFault → ℕ

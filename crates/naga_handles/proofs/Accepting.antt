@@ -1,11 +1,11 @@
 -- When the handles of a whole module are right, and that nothing is wrong with it then.
-use Rattle.std.proofs.Common.{◌≡◌, ◌<◌, ℕ, List, [], ◌∷◌, ◌++◌, Option, Some, None, All, Contains, map, slice_get, length, subst, sym, refl, arith}
+use Rattle.std.proofs.Common.{◌≡◌, ◌<◌, ℕ, List, [], ◌∷◌, ◌++◌, Option, Some, None, All, Contains, map, slice_get, length, subst, sym, refl, arith, option_to_list}
 use Rattle.std.specs.List.{flat_map}
 use Rattle.std.proofs.lemmas.List.Elements.{All-append, All-contains, Contains-append_left, Contains-append_right}
 use Rattle.naga_ir.specs.Handles.{Counts, Exists, GoBack, HandlesAccepted, MemberExists, NamesType, OrderedInModule, OrderedReference, SizeGatesHold, among_globals, around, called, function_counts, in_function, initialiser_at, initialiser_of, module_counts, place_of, size_initialiser, sized_by}
 use Rattle.naga_ir.specs.ItemReferences.{all_functions, constant_references, expression_references, function_references, global_lists, local_variable_references, named_references, other_references, override_references, own_list_references, type_references}
 use Rattle.naga_ir.specs.References.{operands}
-use Rattle.naga_ir_types.specs.Parts.{optional, parts, size_override}
+use Rattle.naga_ir_types.specs.Parts.{parts, size_override}
 use Rattle.naga_ir.specs.declared.expression.Expression.{Expression}
 use Rattle.naga_ir.specs.declared.ir.EntryPoint.{EntryPoint}
 use Rattle.naga_ir.specs.declared.ir.FunctionArgument.{FunctionArgument}
@@ -57,7 +57,7 @@ all-plain P f all =
     let arguments : List Reference = map (λ (a : FunctionArgument). to.Type_ a.ty) f.arguments in
     let variables : List Reference = flat_map local_variable_references f.local_variables in
     let expressions : List Reference = flat_map expression_references f.expressions in
-    let answer : List Reference = map (λ (r : FunctionResult). to.Type_ r.ty) (optional f.result) in
+    let answer : List Reference = map (λ (r : FunctionResult). to.Type_ r.ty) (option_to_list f.result) in
     let named : List Reference = map (λ (p : ℕ × List ℕ). to.Expression p.0) f.named_expressions in
     let body = body_references f in
     let own : All P (own_list_references f) = all-left P (own_list_references f) _ all in
@@ -124,15 +124,15 @@ module _ (m : Module) (h : HandlesAccepted m) where
   -- what types and global expressions refer to is there
   visited-there : (r : Reference) → VisitedReference m r → There r
   visited-there r (size t o x at is) =
-      let in_type = Contains-append_right (map to.Type_ (parts x.inner)) (map to.Override (optional (size_override x.inner))) (to.Override o)
-      (subst (λ (s : Option ℕ). Contains (map to.Override (optional s)) (to.Override o)) (sym is) (only (to.Override o))) in
+      let in_type = Contains-append_right (map to.Type_ (parts x.inner)) (map to.Override (option_to_list (size_override x.inner))) (to.Override o)
+      (subst (λ (s : Option ℕ). Contains (map to.Override (option_to_list s)) (to.Override o)) (sym is) (only (to.Override o))) in
       All-contains There (flat_map (λ (t : «Type»). type_references t.inner) m.types) (to.Override o) of_types
       (within_all (λ (t : «Type»). type_references t.inner) m.types t x (to.Override o) at in_type)
   visited-there r (initialiser t n is) =
       let s = initialiser-sized m t n is in
       let v = s.value in
-      let in_override = Contains-append_right (to.Type_ v.ty ∷ []) (map to.Expression (optional v.init)) (to.Expression n)
-      (subst (λ (o : Option ℕ). Contains (map to.Expression (optional o)) (to.Expression n)) (sym s.begins) (only (to.Expression n))) in
+      let in_override = Contains-append_right (to.Type_ v.ty ∷ []) (map to.Expression (option_to_list v.init)) (to.Expression n)
+      (subst (λ (o : Option ℕ). Contains (map to.Expression (option_to_list o)) (to.Expression n)) (sym s.begins) (only (to.Expression n))) in
       All-contains There (flat_map override_references m.overrides) (to.Expression n) of_overrides
       (within_all override_references m.overrides s.place v (to.Expression n) s.at in_override)
   visited-there r (item e x _ at is) = in_expression e x r at (item_in x r is)

@@ -1,5 +1,5 @@
 -- Walks over the looks that items ask for.
-use Rattle.std.proofs.Common.{ℕ, ◌≡◌, ◌∙◌, List, [], ◌∷◌, ◌++◌, Option, Some, None, Bor, ap, map, refl, subst, sym}
+use Rattle.std.proofs.Common.{ℕ, ◌≡◌, ◌∙◌, List, [], ◌∷◌, ◌++◌, Option, Some, None, Bor, ap, map, refl, subst, sym, option_to_list}
 use Rattle.std.specs.Prelude.{Result, Ok, Err, option_map}
 use Rattle.std.specs.Fn.{FnReturnsAt, Shared}
 use Rattle.std.specs.List.{flat_map}
@@ -11,7 +11,6 @@ use Rattle.naga_ir.specs.Operands.{present}
 use Rattle.naga_ir.specs.References.{named_item, named_type}
 use Rattle.naga_ir.specs.declared.expression.Expression.{Expression}
 use Rattle.naga_ir.specs.declared.ir.DiagnosticFilterNode.{DiagnosticFilterNode}
-use Rattle.naga_ir_types.specs.Parts.{optional}
 use Rattle.naga_ir.specs.Walks.{ChecksEach}
 use Rattle.naga_ir.specs.declared.reference.Reference.{Reference}
 use Rattle.naga_ir.specs.declared.reference.Reference.TheVariants as to
@@ -80,7 +79,7 @@ checks-flat {A = A} n subjects each references xs r means h =
 pub named-present : (x : Expression) → present (option_map to.Type_ (named_type x) ∷ named_item x ∷ []) ≡ named_references x
 named-present x = by_cases (named_type x) (named_item x)
   where
-    by_cases : (t : Option ℕ) (r : Option Reference) → present (option_map to.Type_ t ∷ r ∷ []) ≡ map to.Type_ (optional t) ++ optional r
+    by_cases : (t : Option ℕ) (r : Option Reference) → present (option_map to.Type_ t ∷ r ∷ []) ≡ map to.Type_ (option_to_list t) ++ option_to_list r
     by_cases None None = refl
     by_cases None (Some r) = refl
     by_cases (Some t) None = refl
@@ -111,13 +110,13 @@ pub checks-walked : {each : Reference → Result (Unit {0}) InvalidHandleError �
 checks-walked {each = each} {r = r} n subjects xs means h = checks-map each Answers (look n subjects) xs r means h
 
 -- a reference that may be there, as the references that are
-pub one-present : {A : Type 0} (f : A → Reference) (o : Option A) → present (option_map f o ∷ []) ≡ map f (optional o)
+pub one-present : {A : Type 0} (f : A → Reference) (o : Option A) → present (option_map f o ∷ []) ≡ map f (option_to_list o)
 one-present f None = refl
 one-present f (Some x) = refl
 
 -- three references that may be there, and others after them
 pub three-present : {A : Type 0} (f : A → Reference) (a b c : Option A) (rest : List A)
-    → present (option_map f a ∷ option_map f b ∷ option_map f c ∷ []) ++ map f rest ≡ map f (optional a ++ (optional b ++ (optional c ++ rest)))
+    → present (option_map f a ∷ option_map f b ∷ option_map f c ∷ []) ++ map f rest ≡ map f (option_to_list a ++ (option_to_list b ++ (option_to_list c ++ rest)))
 three-present f None None None rest = refl
 three-present f None None (Some z) rest = refl
 three-present f None (Some y) None rest = refl
@@ -129,18 +128,18 @@ three-present f (Some x) (Some y) (Some z) rest = refl
 
 -- a filter without one around it asks for no look
 pub filter-alone : (n : Counts) (d : ℕ) (node : DiagnosticFilterNode) → node.parent ≡ None → ChecksEach Answers (filter_looks n (d, node)) (Ok tt)
-filter-alone n d node e = checks-along Answers _ _ (Ok tt) (ap (λ (o : Option ℕ). looks n (of_filter d) (map to.DiagnosticFilterNode (optional o))) (sym e)) (checks-none Answers)
+filter-alone n d node e = checks-along Answers _ _ (Ok tt) (ap (λ (o : Option ℕ). looks n (of_filter d) (map to.DiagnosticFilterNode (option_to_list o))) (sym e)) (checks-none Answers)
 
 -- the one around a filter is looked at once
 pub filter-around : (n : Counts) (d parent : ℕ) (node : DiagnosticFilterNode) (r : Result (Unit {0}) InvalidHandleError) → node.parent ≡ Some parent
     → Answers (look n (of_filter d) (to.DiagnosticFilterNode parent)) r → ChecksEach Answers (filter_looks n (d, node)) r
 filter-around n d parent node r e h =
-    checks-along Answers _ _ r (ap (λ (o : Option ℕ). looks n (of_filter d) (map to.DiagnosticFilterNode (optional o))) (sym e)) (checks-single Answers (look n (of_filter d) (to.DiagnosticFilterNode parent)) r h)
+    checks-along Answers _ _ r (ap (λ (o : Option ℕ). looks n (of_filter d) (map to.DiagnosticFilterNode (option_to_list o))) (sym e)) (checks-single Answers (look n (of_filter d) (to.DiagnosticFilterNode parent)) r h)
 
 -- what is there of some items, each as a reference
-pub flat-present : {A : Type 0} (f : A → Reference) (os : List (Option A)) → flat_map (λ o. map f (optional o)) os ≡ map f (flat_map optional os)
+pub flat-present : {A : Type 0} (f : A → Reference) (os : List (Option A)) → flat_map (λ o. map f (option_to_list o)) os ≡ map f (flat_map option_to_list os)
 flat-present f [] = refl
-flat-present f (o ∷ os) = ap (λ rs. map f (optional o) ++ rs) (flat-present f os) ∙ sym (map-append f (optional o) (flat_map optional os))
+flat-present f (o ∷ os) = ap (λ rs. map f (option_to_list o) ++ rs) (flat-present f os) ∙ sym (map-append f (option_to_list o) (flat_map option_to_list os))
 
 -- a walk by a closure that answers of what stands in each item
 pub checks-called-map : {A B F E : Type 0} {g : Shared F (Bor A × Unit {0}) (Result (Unit {0}) E)} {f : F} {ys : List A} {r : Result (Unit {0}) E}

@@ -1,10 +1,11 @@
 -- What the walk gives at its end, and what its faults take away.
-use Rattle.std.proofs.Common.{◌≡◌, ◌<◌, ◌≤◌, ◌⊎◌, inl, inr, ℕ, zero, suc, List, [], ◌∷◌, ◌++◌, Option, Some, None, All, Contains, length, map, slice_get, refl, sym, ap, subst, ◌∙◌, arith}
+use Rattle.std.proofs.Common.{◌≡◌, ◌<◌, ◌≤◌, ◌⊎◌, inl, inr, ℕ, zero, suc, List, [], ◌∷◌, ◌++◌, Option, Some, None, All, Contains, length, map, slice_get, refl, sym, ap, subst, ◌∙◌, arith, option_to_list}
 use Rattle.std.specs.List.{flat_map}
 use Rattle.std.proofs.lemmas.Bool.{cases_lt}
 use Rattle.std.proofs.lemmas.List.Concat.{flat_map-cons}
 use Rattle.std.proofs.lemmas.List.Elements.{All-append, All-cons, All-contains, All-contains_itself, All-map, All-nil, Contains-append_left, Contains-append_right}
 use Rattle.std.proofs.lemmas.Option.{slice_get_within}
+use Rattle.naga_ir.proofs.Everywhere.{all_in, all_named, all_of_option, all_within}
 use Rattle.naga_ir.proofs.Reached.{item_in, only, type_in, within_all}
 use Rattle.naga_ir.specs.Handles.{Exists, OrderedReference, constant, initialiser_of, module_counts, operand, override, part, place_of, size_initialiser, size_type}
 use Rattle.naga_ir.specs.ItemReferences.{expression_references, global_lists, type_references}
@@ -14,7 +15,7 @@ use Rattle.naga_ir.specs.declared.expression.Expression.TheVariants as form
 use Rattle.naga_ir.specs.declared.ir.Module.{Module}
 use Rattle.naga_ir.specs.declared.reference.Reference.{Reference}
 use Rattle.naga_ir.specs.declared.reference.Reference.TheVariants as to
-use Rattle.naga_ir_types.specs.Parts.{optional, parts, size_override}
+use Rattle.naga_ir_types.specs.Parts.{parts, size_override}
 use Rattle.naga_ir_types.specs.declared.types.«Type».{«Type»}
 use Rattle.naga_handles.specs.Faults.{IsWalkFault, VisitedReference, initialiser, item, not_back, not_gated, not_visited, size, type_}
 use Rattle.naga_handles.specs.Order.{CanBeOrdered}
@@ -22,22 +23,6 @@ use Rattle.naga_handles.specs.Visits.{AllBefore, ExpressionStands, NamesBefore, 
 use Rattle.naga_handles.specs.declared.error.InvalidHandleError.{InvalidHandleError}
 use Rattle.naga_handles.proofs.WalkFaults.{size_within}
 use Rattle.naga_handles.proofs.WalkSteps.{seen_names, seen_stands}
-
--- what holds of each list holds of all lists together
-all_within : {X A : Type 0} (P : A → Type 0) (f : X → List A) (xs : List X) → ((k : ℕ) (x : X) → slice_get xs k ≡ Some x → All P (f x)) → All P (flat_map f xs)
-all_within P f [] each = All-nil P
-all_within P f (x ∷ xs) each =
-    subst (All P) (sym (flat_map-cons f x xs)) (All-append P (f x) (flat_map f xs) (each 0 x refl) (all_within P f xs (λ k y at. each (suc k) y at)))
-
-all_of_optional : {A : Type 0} (P : A → Type 0) (o : Option A) → ((a : A) → o ≡ Some a → P a) → All P (optional o)
-all_of_optional P None h = All-nil P
-all_of_optional P (Some a) h = All-cons P a [] (h a refl) (All-nil P)
-
-all_named : (P : Reference → Type 0) (to_kind : ℕ → Reference) (o : Option ℕ) → ((a : ℕ) → o ≡ Some a → P (to_kind a)) → All P (map to_kind (optional o))
-all_named P to_kind o h = All-map P to_kind (optional o) (all_of_optional (λ a. P (to_kind a)) o h)
-
-all_in : (P : Reference → Type 0) (to_kind : ℕ → Reference) (xs : List ℕ) → ((a : ℕ) → Contains xs a → P (to_kind a)) → All P (map to_kind xs)
-all_in P to_kind xs h = All-map P to_kind xs (λ k d within. h _ (All-contains_itself xs k d within))
 
 before_of : (place : ℕ) (others : List ℕ) (p : ℕ) → AllBefore place others → Contains others p → p < place
 unfolding AllBefore
@@ -57,7 +42,7 @@ module _ (m : Module) (types : (t : ℕ) (x : «Type») → slice_get m.types t 
   of_type t x at =
       let stands = types t x at in
       let there = slice_get_within m.types t x at in
-      All-append There (map to.Type_ (parts x.inner)) (map to.Override (optional (size_override x.inner)))
+      All-append There (map to.Type_ (parts x.inner)) (map to.Override (option_to_list (size_override x.inner)))
       (all_in There to.Type_ (parts x.inner) (λ p h. let before = before_of t (parts x.inner) p stands.parts_before h in omega (arith, before, there)))
       (all_named There to.Override (size_override x.inner) (λ o h. stands.size.exists o h))
 
@@ -65,11 +50,11 @@ module _ (m : Module) (types : (t : ℕ) (x : «Type») → slice_get m.types t 
   of_expression e x at =
       let stands = expressions e x at in
       let there = slice_get_within m.global_expressions e x at in
-      All-append There (map to.Expression (operands x)) (map to.Type_ (optional (named_type x)) ++ optional (named_item x))
+      All-append There (map to.Expression (operands x)) (map to.Type_ (option_to_list (named_type x)) ++ option_to_list (named_item x))
       (all_in There to.Expression (operands x) (λ o h. let before = before_of e (operands x) o stands.operands_before h in omega (arith, before, there)))
-      (All-append There (map to.Type_ (optional (named_type x))) (optional (named_item x))
+      (All-append There (map to.Type_ (option_to_list (named_type x))) (option_to_list (named_item x))
       (all_named There to.Type_ (named_type x) (λ u h. names_of (length m.types) u x (names e x at) h))
-      (all_of_optional There (named_item x) stands.item.exists))
+      (all_of_option There (named_item x) stands.item.exists))
 
   begins : (e n : ℕ) (x : Expression) → slice_get m.global_expressions e ≡ Some x → named_initialiser (global_lists m) x ≡ Some n → n < e
   begins e n x at h = (expressions e x at).item.before n h
@@ -128,8 +113,8 @@ module _ (m : Module) (a : CanBeOrdered m) where
 
   visited_there : (r : Reference) → VisitedReference m r → Exists (module_counts m) r
   visited_there _ (size t o x at sized) =
-      let among : Contains (map to.Override (optional (size_override x.inner))) (to.Override o) =
-      subst (λ (s : Option ℕ). Contains (map to.Override (optional s)) (to.Override o)) (sym sized) (only (to.Override o)) in
+      let among : Contains (map to.Override (option_to_list (size_override x.inner))) (to.Override o) =
+      subst (λ (s : Option ℕ). Contains (map to.Override (option_to_list s)) (to.Override o)) (sym sized) (only (to.Override o)) in
       is_there _ (Contains-append_left of_types _ _ (within_all (λ (t : «Type»). type_references t.inner) m.types t x (to.Override o) at
       (Contains-append_right (map to.Type_ (parts x.inner)) _ (to.Override o) among)))
   visited_there _ (initialiser t n h) = a.initialisers t n h

@@ -1,12 +1,11 @@
 -- What is wrong where a look is refused.
-use Rattle.std.proofs.Common.{◌≡◌, ◌<◌, ◌≤◌, ℕ, List, [], ◌++◌, Option, Some, None, All, Contains, inl, inr, map, refl, slice_get, length, subst, sym, arith}
+use Rattle.std.proofs.Common.{◌≡◌, ◌<◌, ◌≤◌, ℕ, List, [], ◌++◌, Option, Some, None, All, Contains, inl, inr, map, refl, slice_get, length, subst, sym, arith, option_to_list}
 use Rattle.std.specs.Prelude.{Result, Err, IfErr}
 use Rattle.std.specs.List.{enumerate_from, flat_map}
 use Rattle.std.proofs.lemmas.List.Elements.{All-append, All-cons, All-contains, All-contains_itself, All-map, All-nil, All-weaker, Contains-append_left, Contains-append_right}
 use Rattle.naga_ir.specs.Handles.{Counts, around, called, function_counts, in_function, module_counts, own_operand}
 use Rattle.naga_ir.specs.ItemReferences.{all_functions, comment_references, constant_references, entry_point_references, function_references, global_variable_references, named_references, other_references, override_references, special_types}
 use Rattle.naga_ir.specs.References.{operands}
-use Rattle.naga_ir_types.specs.Parts.{optional}
 use Rattle.naga_ir.specs.declared.expression.Expression.{Expression}
 use Rattle.naga_ir.specs.declared.ir.DiagnosticFilterNode.{DiagnosticFilterNode}
 use Rattle.naga_ir.specs.declared.ir.EntryPoint.{EntryPoint}
@@ -133,7 +132,7 @@ module _ (m : Module) where
   starts = flat_map entry_point_references m.entry_points
 
   abbrev leaf : List Reference
-  leaf = map to.DiagnosticFilterNode (optional m.diagnostic_filter_leaf)
+  leaf = map to.DiagnosticFilterNode (option_to_list m.diagnostic_filter_leaf)
 
   abbrev members : List Reference
   members = map (λ (c : (ℕ × ℕ) × List (List ℕ)). to.Type_ c.0.0) m.doc_comments.struct_members
@@ -210,7 +209,7 @@ function-refused m i f at =
 
 -- at a filter
 filter-refused : (m : Module) (d : ℕ) (node : DiagnosticFilterNode) (o : Option ℕ) → slice_get m.diagnostic_filters d ≡ Some node → node.parent ≡ o
-    → All (Refused m) (looks (module_counts m) (of_filter d) (map to.DiagnosticFilterNode (optional o)))
+    → All (Refused m) (looks (module_counts m) (of_filter d) (map to.DiagnosticFilterNode (option_to_list o)))
 filter-refused m d node None at e = All-nil (Refused m)
 filter-refused m d node (Some p) at e =
     All-cons (Refused m) (look (module_counts m) (of_filter d) (to.DiagnosticFilterNode p)) []

@@ -1,5 +1,5 @@
 -- What follows where all looks are accepted.
-use Rattle.std.proofs.Common.{◌≡◌, ◌<◌, ℕ, List, [], ◌++◌, Option, Some, None, All, map, slice_get, length, subst, refl, arith}
+use Rattle.std.proofs.Common.{◌≡◌, ◌<◌, ℕ, List, [], ◌++◌, Option, Some, None, All, map, slice_get, length, subst, refl, arith, option_to_list}
 use Rattle.std.specs.Prelude.{Result, Ok, Err, OnOk}
 use Rattle.std.specs.List.{enumerate_from, flat_map}
 use Rattle.std.proofs.lemmas.List.Elements.{All-append, All-contains, All-map, All-nil, All-cons, All-weaker}
@@ -8,7 +8,6 @@ use Rattle.naga_ir.specs.Handles.{Counts, Exists, MemberExists, OrderedOperands,
 use Rattle.naga_ir.specs.ItemReferences.{all_functions, comment_references, constant_references, entry_point_references, expression_references, function_references, global_variable_references, local_variable_references, named_references, other_references, override_references, own_list_references, special_types}
 use Rattle.naga_ir.specs.References.{operands}
 use Rattle.naga_ir.specs.Walks.{ChecksEach}
-use Rattle.naga_ir_types.specs.Parts.{optional}
 use Rattle.naga_ir_types.specs.declared.types.«Type».{«Type»}
 use Rattle.naga_ir.specs.declared.expression.Expression.{Expression}
 use Rattle.naga_ir.specs.declared.ir.DiagnosticFilterNode.{DiagnosticFilterNode}
@@ -127,9 +126,9 @@ module _ (n : Counts) (caller : Option ℕ) (f : Function) (in_module : IsThere 
       let arguments : List Reference = map (λ (a : FunctionArgument). to.Type_ a.ty) f.arguments in
       let variables : List Reference = flat_map local_variable_references f.local_variables in
       let expressions : List Reference = flat_map expression_references f.expressions in
-      let answer : List Reference = map (λ (r : FunctionResult). to.Type_ r.ty) (optional f.result) in
+      let answer : List Reference = map (λ (r : FunctionResult). to.Type_ r.ty) (option_to_list f.result) in
       let named : List Reference = map (λ (p : ℕ × List ℕ). to.Expression p.0) f.named_expressions in
-      let leaf : List Reference = map to.DiagnosticFilterNode (optional f.diagnostic_filter_leaf) in
+      let leaf : List Reference = map to.DiagnosticFilterNode (option_to_list f.diagnostic_filter_leaf) in
       let in_expressions : All In expressions =
       all-flat In expression_references f.expressions (all-places (λ (x : Expression). All In (expression_references x)) f.expressions (in_expression count)) in
       record {
@@ -142,13 +141,13 @@ module _ (n : Counts) (caller : Option ℕ) (f : Function) (in_module : IsThere 
       }
 
 -- the one around a filter comes before it
-before-filter : (n : Counts) (d p : ℕ) (o : Option ℕ) → o ≡ Some p → All Stands (looks n (of_filter d) (map to.DiagnosticFilterNode (optional o))) → p < d
+before-filter : (n : Counts) (d p : ℕ) (o : Option ℕ) → o ≡ Some p → All Stands (looks n (of_filter d) (map to.DiagnosticFilterNode (option_to_list o))) → p < d
 before-filter n d p o e all =
-    All-contains Stands (looks n (of_filter d) (map to.DiagnosticFilterNode (optional (Some p)))) (look n (of_filter d) (to.DiagnosticFilterNode p))
-    (subst (λ (q : Option ℕ). All Stands (looks n (of_filter d) (map to.DiagnosticFilterNode (optional q)))) e all) (0, omega arith, refl)
+    All-contains Stands (looks n (of_filter d) (map to.DiagnosticFilterNode (option_to_list (Some p)))) (look n (of_filter d) (to.DiagnosticFilterNode p))
+    (subst (λ (q : Option ℕ). All Stands (looks n (of_filter d) (map to.DiagnosticFilterNode (option_to_list q)))) e all) (0, omega arith, refl)
 
 -- and is there
-filter-there : (n : Counts) (o : Option ℕ) → ((p : ℕ) → o ≡ Some p → p < n.diagnostic_filters) → All (Exists n) (map to.DiagnosticFilterNode (optional o))
+filter-there : (n : Counts) (o : Option ℕ) → ((p : ℕ) → o ≡ Some p → p < n.diagnostic_filters) → All (Exists n) (map to.DiagnosticFilterNode (option_to_list o))
 filter-there n None f = All-nil (Exists n)
 filter-there n (Some p) f = All-cons (Exists n) (to.DiagnosticFilterNode p) [] (f p refl) (All-nil (Exists n))
 
@@ -211,7 +210,7 @@ module _ (m : Module) (all : All Stands (module_looks m)) where
       (all-left Stands (flat_map (filter_looks n) (enumerate_from 0 m.diagnostic_filters)) _ in_filters))
 
   abbrev leaf : List Reference
-  leaf = map to.DiagnosticFilterNode (optional m.diagnostic_filter_leaf)
+  leaf = map to.DiagnosticFilterNode (option_to_list m.diagnostic_filter_leaf)
 
   documented : All (Exists n) (documented_references m.doc_comments)
   documented = all-exist n (documented_references m.doc_comments) (all-right Stands (all_filter_looks m) _ after_special)
@@ -248,7 +247,7 @@ module _ (m : Module) (all : All Stands (module_looks m)) where
       let constants : List Reference = flat_map constant_references m.constants in
       let overrides : List Reference = flat_map override_references m.overrides in
       let variables : List Reference = flat_map global_variable_references m.global_variables in
-      let around : DiagnosticFilterNode → List Reference = λ node. map to.DiagnosticFilterNode (optional node.parent) in record {
+      let around : DiagnosticFilterNode → List Reference = λ node. map to.DiagnosticFilterNode (option_to_list node.parent) in record {
         constants = all-left (Exists n) constants (overrides ++ variables) valued;
         overrides = all-left (Exists n) overrides variables (all-right (Exists n) constants (overrides ++ variables) valued);
         filters =

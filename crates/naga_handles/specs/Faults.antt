@@ -1,5 +1,5 @@
 -- What is wrong with a module's handles.
-use Rattle.std.specs.Prelude.{◌≡◌, ◌⊎◌, ℕ, ◌<◌, ◌≤◌, List, ◌++◌, Some, Contains, codes, length, map, slice_get, unwrap_or}
+use Rattle.std.specs.Prelude.{◌≡◌, ◌⊎◌, ℕ, ◌<◌, ◌≤◌, List, ◌++◌, Some, Contains, codes, length, map, slice_get, unwrap_or, option_to_list}
 use Rattle.std.specs.List.{flat_map}
 use Rattle.naga_ir.specs.Handles.{Counts, Exists, MemberExists, NamesType, OrderedInModule, OrderedReference, function_counts, module_counts, place_of, size_initialiser}
 use Rattle.naga_ir.specs.ItemReferences.{constant_references, global_lists, local_variable_references, named_references, other_references, override_references}
@@ -13,7 +13,7 @@ use Rattle.naga_ir.specs.declared.ir.FunctionResult.{FunctionResult}
 use Rattle.naga_ir.specs.declared.ir.Module.{Module}
 use Rattle.naga_ir.specs.declared.reference.Reference.{Reference}
 use Rattle.naga_ir.specs.declared.reference.Reference.TheVariants as to
-use Rattle.naga_ir_types.specs.Parts.{optional, size_override}
+use Rattle.naga_ir_types.specs.Parts.{size_override}
 use Rattle.naga_ir_types.specs.declared.types.«Type».{«Type»}
 use Rattle.naga_ir_types.specs.declared.types.TypeInner.{TypeInner}
 use Rattle.naga_ir_types.specs.declared.types.TypeInner.TheVariants.{Struct}
@@ -60,7 +60,7 @@ pub data IsWalkFault (m : Module) : InvalidHandleError → Type 0 where
 abbrev pub signature_references : Function → List Reference
 signature_references f =
     map (λ (a : FunctionArgument). to.Type_ a.ty) f.arguments
-    ++ map (λ (r : FunctionResult). to.Type_ r.ty) (optional f.result)
+    ++ map (λ (r : FunctionResult). to.Type_ r.ty) (option_to_list f.result)
 
 -- what its variables refer to, and the expressions that it gives names
 abbrev pub local_references : Function → List Reference
@@ -70,7 +70,7 @@ local_references f =
 
 -- what its statements refer to, and its filter
 abbrev pub body_references : Function → List Reference
-body_references f = block_references f.body ++ map to.DiagnosticFilterNode (optional f.diagnostic_filter_leaf)
+body_references f = block_references f.body ++ map to.DiagnosticFilterNode (option_to_list f.diagnostic_filter_leaf)
 
 -- what a function refers to that need only be there: all but the operands of its expressions
 abbrev pub plain_references : Function → List Reference

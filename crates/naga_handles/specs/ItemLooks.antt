@@ -1,10 +1,9 @@
 -- The looks that a module's items ask for, types and global expressions aside, in the order in which they are taken.
-use Rattle.std.specs.Prelude.{◌≡◌, ℕ, ◌<◌, List, ◌++◌, map, Option, Some, None, Result, MatchResult, ◌≤◌, ◌⊎◌, codes, length, slice_get}
+use Rattle.std.specs.Prelude.{◌≡◌, ℕ, ◌<◌, List, ◌++◌, map, Option, Some, None, Result, MatchResult, ◌≤◌, ◌⊎◌, codes, length, slice_get, option_to_list}
 use Rattle.std.specs.List.{enumerate_from, flat_map}
 use Rattle.naga_ir.specs.Handles.{Counts, MemberExists, function_counts, module_counts}
 use Rattle.naga_ir.specs.ItemReferences.{constant_references, entry_point_references, global_variable_references, named_references, override_references, special_types}
 use Rattle.naga_ir.specs.References.{operands}
-use Rattle.naga_ir_types.specs.Parts.{optional}
 use Rattle.naga_ir.specs.declared.expression.Expression.{Expression}
 use Rattle.naga_ir.specs.declared.ir.DiagnosticFilterNode.{DiagnosticFilterNode}
 use Rattle.naga_ir.specs.declared.ir.EntryPoint.{EntryPoint}
@@ -72,7 +71,7 @@ numbered_looks m at = function_looks (function_counts m at.1) (Some at.0) at.1
 
 -- those at a filter
 abbrev pub filter_looks : Counts → ℕ × DiagnosticFilterNode → List Look
-filter_looks n at = looks n (of_filter at.0) (map to.DiagnosticFilterNode (optional at.1.parent))
+filter_looks n at = looks n (of_filter at.0) (map to.DiagnosticFilterNode (option_to_list at.1.parent))
 
 -- what constants, overrides and variables refer to
 abbrev pub valued_references : Module → List Reference
@@ -89,7 +88,7 @@ code_looks m = flat_map (entry_point_looks m) m.entry_points ++ flat_map (number
 abbrev pub all_filter_looks : Module → List Look
 all_filter_looks m =
     flat_map (filter_looks (module_counts m)) (enumerate_from 0 m.diagnostic_filters)
-    ++ looks (module_counts m) (of_function None) (map to.DiagnosticFilterNode (optional m.diagnostic_filter_leaf))
+    ++ looks (module_counts m) (of_function None) (map to.DiagnosticFilterNode (option_to_list m.diagnostic_filter_leaf))
 
 -- what comments name by a handle, the types of members aside
 abbrev pub documented_references : DocComments → List Reference

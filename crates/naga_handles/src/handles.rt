@@ -1,6 +1,6 @@
 //! Whether what a module's items refer to is there and comes before them.
 
-ghost use Rattle.std.specs.Prelude.{◌≡◌, ◌↔◌, ℕ, IfErr, IfOk, IsTrue, List, ◌∷◌, None, OnOk, map};
+ghost use Rattle.std.specs.Prelude.{◌≡◌, ◌↔◌, ℕ, IfErr, IfOk, IsTrue, List, ◌∷◌, None, OnOk, map, option_to_list};
 ghost use Rattle.std.specs.List.{enumerate_from, flat_map};
 ghost use Rattle.std.specs.Fn.{FnReturnsAt};
 ghost use Rattle.naga_ir.specs.ItemReferences.{constant_references, entry_point_references, global_variable_references, local_variable_references, override_references};
@@ -9,7 +9,6 @@ ghost use Rattle.naga_ir.specs.ItemReferences as item;
 ghost use Rattle.naga_ir.specs.Handles.{HandlesAccepted, function_counts, module_counts};
 ghost use Rattle.naga_ir.specs.Operands.{present};
 ghost use Rattle.naga_ir.specs.declared.reference.Reference.TheVariants as to;
-ghost use Rattle.naga_ir_types.specs.Parts.{optional};
 ghost use Rattle.naga_ir.specs.Walks.{ChecksEach};
 ghost use Rattle.naga_arena.specs.Memory.{AnsweredOrRefused};
 ghost use Rattle.naga_handles.specs.Faults.{IsFault, MayWantMemory, body_references, called, local_references, signature_references, what_is_wrong};
@@ -143,7 +142,7 @@ fn check_valued(
     ty: Handle<TypeTag>,
     init: Option<Handle<ExpressionTag>>,
 ) -> Result<(), InvalidHandleError>
-    ensures { ChecksEach Answers (looks_in scope.now (to.Type_ ty ∷ map to.Expression (optional init))) result }
+    ensures { ChecksEach Answers (looks_in scope.now (to.Type_ ty ∷ map to.Expression (option_to_list init))) result }
 {
     scope.check_all(&[Some(Reference::Type_(ty)), init.map(Reference::Expression)])
 }
@@ -247,7 +246,7 @@ fn validate_workgroup_sizes(
 
 /// What a mesh shader's output refers to.
 fn mesh_references(entry_point: &EntryPoint) -> [Option<Reference>; 5]
-    ensures { present result ≡ flat_map item.mesh_references (optional entry_point.now.mesh_info) }
+    ensures { present result ≡ flat_map item.mesh_references (option_to_list entry_point.now.mesh_info) }
 {
     match entry_point.mesh_info {
         Some(mesh) => [

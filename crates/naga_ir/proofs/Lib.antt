@@ -1,3 +1,4 @@
+pub mod Everywhere
 pub mod Handles
 pub mod Reached
 pub mod StatementLemmas

@@ -1,5 +1,5 @@
 -- What one item refers to is there where all that is referred to is there.
-use Rattle.std.proofs.Common.{◌≡◌, ◌<◌, ℕ, zero, suc, List, [], ◌∷◌, ◌++◌, Option, Some, All, Contains, map, slice_get, refl, sym, subst, arith}
+use Rattle.std.proofs.Common.{◌≡◌, ◌<◌, ℕ, zero, suc, List, [], ◌∷◌, ◌++◌, Option, Some, All, Contains, map, slice_get, refl, sym, subst, arith, option_to_list}
 use Rattle.std.specs.List.{flat_map}
 use Rattle.std.proofs.lemmas.List.Concat.{flat_map-cons}
 use Rattle.std.proofs.lemmas.List.Elements.{All-contains, All-contains_itself, Contains-append_left, Contains-append_right}
@@ -12,7 +12,7 @@ use Rattle.naga_ir.specs.declared.ir.Constant.{Constant}
 use Rattle.naga_ir.specs.declared.ir.Override.{Override}
 use Rattle.naga_ir.specs.declared.reference.Reference.{Reference}
 use Rattle.naga_ir.specs.declared.reference.Reference.TheVariants as to
-use Rattle.naga_ir_types.specs.Parts.{optional, parts}
+use Rattle.naga_ir_types.specs.Parts.{parts}
 use Rattle.naga_ir_types.specs.declared.types.«Type».{«Type»}
 
 -- what stands in one of some lists stands in them all together
@@ -30,18 +30,18 @@ only a = (0, omega arith, refl)
 -- an expression refers to the type that it names
 pub type_in : (x : Expression) (t : ℕ) → named_type x ≡ Some t → Contains (expression_references x) (to.Type_ t)
 type_in x t e =
-    let types : List Reference = map to.Type_ (optional (named_type x)) in
+    let types : List Reference = map to.Type_ (option_to_list (named_type x)) in
     Contains-append_right (map to.Expression (operands x)) _ (to.Type_ t)
-    (Contains-append_left types (optional (named_item x)) (to.Type_ t)
-    (subst (λ (o : Option ℕ). Contains (map to.Type_ (optional o)) (to.Type_ t)) (sym e) (only (to.Type_ t))))
+    (Contains-append_left types (option_to_list (named_item x)) (to.Type_ t)
+    (subst (λ (o : Option ℕ). Contains (map to.Type_ (option_to_list o)) (to.Type_ t)) (sym e) (only (to.Type_ t))))
 
 -- and to the item that it names
 pub item_in : (x : Expression) (r : Reference) → named_item x ≡ Some r → Contains (expression_references x) r
 item_in x r e =
-    let types : List Reference = map to.Type_ (optional (named_type x)) in
+    let types : List Reference = map to.Type_ (option_to_list (named_type x)) in
     Contains-append_right (map to.Expression (operands x)) _ r
-    (Contains-append_right types (optional (named_item x)) r
-    (subst (λ (o : Option Reference). Contains (optional o) r) (sym e) (only r)))
+    (Contains-append_right types (option_to_list (named_item x)) r
+    (subst (λ (o : Option Reference). Contains (option_to_list o) r) (sym e) (only r)))
 
 module _ (g : GlobalLists) (ok : GlobalReferencesOk g) where
   abbrev of_types : List Reference

@@ -1,11 +1,10 @@
 -- What a statement refers to, by its parts, and walks over lists that are joined.
-use Rattle.std.proofs.Common.{ℕ, suc, ◌+◌, ◌<◌, ◌≤◌, length, take, drop, get_or, drop-cons, add-one, sym, subst, ◌≡◌, List, [], ◌∷◌, ◌++◌, append_assoc, Option, refl, map, ap, ◌∙◌}
+use Rattle.std.proofs.Common.{ℕ, suc, ◌+◌, ◌<◌, ◌≤◌, length, take, drop, get_or, drop-cons, add-one, sym, subst, ◌≡◌, List, [], ◌∷◌, ◌++◌, append_assoc, Option, refl, map, ap, ◌∙◌, option_to_list}
 use Rattle.std.specs.Prelude.{Result, Ok, Err}
 use Rattle.std.proofs.lemmas.List.Elements.{All-nil, All-cons, All-append}
 use Rattle.std.proofs.lemmas.List.{take_more, take_all, take-append-drop, map-append, append-nil}
 use Rattle.naga_ir.specs.StatementParts.{Form, references_of}
 use Rattle.naga_ir.specs.Walks.{AcceptsAll, IsFirstRefused, ChecksEach}
-use Rattle.naga_ir_types.specs.Parts.{optional}
 use Rattle.naga_ir.specs.Statements.{References, joined, own_references, own_operands, own_target, inner_references, statement_step, block_step, case_step, statement_references, block_references, case_references}
 use Rattle.naga_ir.specs.declared.reference.Reference.{Reference}
 use Rattle.naga_ir.specs.declared.reference.Reference.TheVariants as to
@@ -134,7 +133,7 @@ named expression = to.Expression expression ∷ []
 
 -- what an expression that may be named refers to
 abbrev pub named_if : Option ℕ → References
-named_if operand = map to.Expression (optional operand)
+named_if operand = map to.Expression (option_to_list operand)
 
 module _ {B E : Type 0} (answers : B → Result (Unit {0}) E → Type 0) where
   -- a walk goes over equal lists alike

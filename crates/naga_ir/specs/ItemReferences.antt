@@ -1,8 +1,8 @@
 -- What each item of a module refers to.
-use Rattle.std.specs.Prelude.{ℕ, List, [], ◌∷◌, ◌++◌, map, Option, Some, None}
+use Rattle.std.specs.Prelude.{ℕ, List, [], ◌∷◌, ◌++◌, map, Option, Some, None, option_to_list}
 use Rattle.std.specs.List.{flat_map}
 use Rattle.naga_ir.specs.References.{named_item, named_type, operands}
-use Rattle.naga_ir_types.specs.Parts.{optional, parts, size_override}
+use Rattle.naga_ir_types.specs.Parts.{parts, size_override}
 use Rattle.naga_ir.specs.Statements.{block_references}
 use Rattle.naga_ir_types.specs.declared.types.«Type».{«Type»}
 use Rattle.naga_ir_types.specs.declared.types.TypeInner.{TypeInner}
@@ -25,11 +25,11 @@ use Rattle.naga_ir.specs.declared.reference.Reference.TheVariants as to
 
 -- a type refers to its parts, and to the override that sizes it
 abbrev pub type_references : TypeInner → List Reference
-type_references inner = map to.Type_ (parts inner) ++ map to.Override (optional (size_override inner))
+type_references inner = map to.Type_ (parts inner) ++ map to.Override (option_to_list (size_override inner))
 
 -- beside its operands an expression refers to the type that it names and to the item that it names
 abbrev pub named_references : Expression → List Reference
-named_references x = map to.Type_ (optional (named_type x)) ++ optional (named_item x)
+named_references x = map to.Type_ (option_to_list (named_type x)) ++ option_to_list (named_item x)
 
 -- an expression refers to its operands, and to those
 abbrev pub expression_references : Expression → List Reference
@@ -41,15 +41,15 @@ constant_references c = to.Type_ c.ty ∷ to.Expression c.init ∷ []
 
 -- an override refers to its type, and to its initialiser where there is one
 abbrev pub override_references : Override → List Reference
-override_references o = to.Type_ o.ty ∷ map to.Expression (optional o.init)
+override_references o = to.Type_ o.ty ∷ map to.Expression (option_to_list o.init)
 
 -- a variable of the module refers to its type, and to its initialiser where there is one
 abbrev pub global_variable_references : GlobalVariable → List Reference
-global_variable_references v = to.Type_ v.ty ∷ map to.Expression (optional v.init)
+global_variable_references v = to.Type_ v.ty ∷ map to.Expression (option_to_list v.init)
 
 -- a variable of a function does so too
 abbrev pub local_variable_references : LocalVariable → List Reference
-local_variable_references v = to.Type_ v.ty ∷ map to.Expression (optional v.init)
+local_variable_references v = to.Type_ v.ty ∷ map to.Expression (option_to_list v.init)
 
 -- what the arguments, variables and expressions of a function refer to
 abbrev pub own_list_references : Function → List Reference
@@ -62,31 +62,31 @@ own_list_references f =
 abbrev pub function_references : Function → List Reference
 function_references f =
     own_list_references f
-    ++ (map (λ (r : FunctionResult). to.Type_ r.ty) (optional f.result)
+    ++ (map (λ (r : FunctionResult). to.Type_ r.ty) (option_to_list f.result)
     ++ (map (λ (n : ℕ × List ℕ). to.Expression n.0) f.named_expressions
     ++ (block_references f.body
-    ++ map to.DiagnosticFilterNode (optional f.diagnostic_filter_leaf))))
+    ++ map to.DiagnosticFilterNode (option_to_list f.diagnostic_filter_leaf))))
 
 -- the sizes of a workgroup that overrides decide
 abbrev pub workgroup_sizes : Option (List (Option ℕ)) → List ℕ
 workgroup_sizes None = []
-workgroup_sizes (Some sizes) = flat_map optional sizes
+workgroup_sizes (Some sizes) = flat_map option_to_list sizes
 
 -- a mesh shader's output refers to its variable, its types and its greatest numbers
 abbrev pub mesh_references : MeshStageInfo → List Reference
 mesh_references mesh =
     to.GlobalVariable mesh.output_variable ∷ to.Type_ mesh.vertex_output_type ∷ to.Type_ mesh.primitive_output_type
-    ∷ (map to.Expression (optional mesh.max_vertices_override ++ optional mesh.max_primitives_override))
+    ∷ (map to.Expression (option_to_list mesh.max_vertices_override ++ option_to_list mesh.max_primitives_override))
 
 -- what an entry point refers to in the module, its function aside
 abbrev pub entry_point_references : EntryPoint → List Reference
 entry_point_references p =
     map to.Expression (workgroup_sizes p.workgroup_size_overrides)
-    ++ (map to.GlobalVariable (optional p.task_payload) ++ flat_map mesh_references (optional p.mesh_info))
+    ++ (map to.GlobalVariable (option_to_list p.task_payload) ++ flat_map mesh_references (option_to_list p.mesh_info))
 
 -- the types that are special
 abbrev pub special_types : SpecialTypes → List ℕ
-special_types s = optional s.ray_desc ++ (optional s.ray_intersection ++ (optional s.ray_vertex_return ++ s.others))
+special_types s = option_to_list s.ray_desc ++ (option_to_list s.ray_intersection ++ (option_to_list s.ray_vertex_return ++ s.others))
 
 -- what comments name by a handle
 abbrev pub comment_references : DocComments → List Reference
@@ -122,12 +122,12 @@ other_references m =
     flat_map global_variable_references m.global_variables
     ++ (map to.Type_ (special_types m.special_types)
     ++ (flat_map entry_point_references m.entry_points
-    ++ (map to.DiagnosticFilterNode (optional m.diagnostic_filter_leaf)
+    ++ (map to.DiagnosticFilterNode (option_to_list m.diagnostic_filter_leaf)
     ++ comment_references m.doc_comments)))
 
 -- the filters around the filters of a module
 abbrev pub filter_references : Module → List Reference
-filter_references m = flat_map (λ (n : DiagnosticFilterNode). map to.DiagnosticFilterNode (optional n.parent)) m.diagnostic_filters
+filter_references m = flat_map (λ (n : DiagnosticFilterNode). map to.DiagnosticFilterNode (option_to_list n.parent)) m.diagnostic_filters
 
 -- the functions of a module, and those of its entry points
 abbrev pub all_functions : Module → List Function

@@ -1,13 +1,12 @@
 -- Where the operands of an expression stand.
-use Rattle.std.specs.Prelude.{ℕ, List, [], map, Option}
-use Rattle.naga_ir_types.specs.Parts.{optional}
+use Rattle.std.specs.Prelude.{ℕ, List, [], map, Option, option_to_list}
 use Rattle.naga_ir.specs.Statements.{joined}
 use Rattle.naga_ir.specs.declared.expression.Expression.{Expression}
 use Rattle.naga_ir.specs.declared.expression.Expression.TheVariants.{Compose, ImageSample, ImageLoad, ImageQuery}
 
 -- the values that are there, in order
 abbrev pub present : {A : Type 0} → List (Option A) → List A
-present options = joined (map optional options)
+present options = joined (map option_to_list options)
 
 -- the operands that stand in a list
 abbrev pub listed : Expression → List ℕ

@@ -1,6 +1,5 @@
 -- What the form of an expression refers to.
-use Rattle.std.specs.Prelude.{ℕ, List, [], ◌∷◌, ◌++◌, Option, Some, None}
-use Rattle.naga_ir_types.specs.Parts.{optional}
+use Rattle.std.specs.Prelude.{ℕ, List, [], ◌∷◌, ◌++◌, Option, Some, None, option_to_list}
 use Rattle.naga_ir.specs.declared.expression.SampleLevel.{SampleLevel}
 use Rattle.naga_ir.specs.declared.expression.SampleLevel.TheVariants.{Auto, Zero, Exact, Bias, Gradient}
 use Rattle.naga_ir.specs.declared.expression.ImageQuery.{ImageQuery as Query}
@@ -20,7 +19,7 @@ level_operands (Gradient x y) = x ∷ y ∷ []
 
 -- the operands that a question about an image has
 abbrev pub query_operands : Query → List ℕ
-query_operands (Size level) = optional level
+query_operands (Size level) = option_to_list level
 query_operands _ = []
 
 -- the expressions that an expression is worked out from, in the order of its fields
@@ -32,15 +31,15 @@ operands (Splat size value) = value ∷ []
 operands (Swizzle size vector pattern) = vector ∷ []
 operands (Load pointer) = pointer ∷ []
 operands (ImageSample image sampler gather coordinate array_index offset level depth_ref clamp_to_edge) =
-    image ∷ sampler ∷ coordinate ∷ optional array_index ++ (optional offset ++ (level_operands level ++ optional depth_ref))
-operands (ImageLoad image coordinate array_index sample level) = image ∷ coordinate ∷ optional array_index ++ (optional sample ++ optional level)
+    image ∷ sampler ∷ coordinate ∷ option_to_list array_index ++ (option_to_list offset ++ (level_operands level ++ option_to_list depth_ref))
+operands (ImageLoad image coordinate array_index sample level) = image ∷ coordinate ∷ option_to_list array_index ++ (option_to_list sample ++ option_to_list level)
 operands (ImageQuery image query) = image ∷ query_operands query
 operands (Unary op expr) = expr ∷ []
 operands (Binary op left right) = left ∷ right ∷ []
 operands (Select condition accept reject) = condition ∷ accept ∷ reject ∷ []
 operands (Derivative expr) = expr ∷ []
 operands (Relational fun argument) = argument ∷ []
-operands (Math fun arg arg1 arg2 arg3) = arg ∷ optional arg1 ++ (optional arg2 ++ optional arg3)
+operands (Math fun arg arg1 arg2 arg3) = arg ∷ option_to_list arg1 ++ (option_to_list arg2 ++ option_to_list arg3)
 operands (As expr kind convert) = expr ∷ []
 operands (ArrayLength expr) = expr ∷ []
 operands (RayQueryGetIntersection query committed) = query ∷ []

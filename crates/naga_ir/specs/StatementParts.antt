@@ -1,6 +1,5 @@
 -- What statements name themselves, by groups of forms.
-use Rattle.std.specs.Prelude.{ℕ, List, [], ◌∷◌, ◌++◌}
-use Rattle.naga_ir_types.specs.Parts.{optional}
+use Rattle.std.specs.Prelude.{ℕ, List, [], ◌∷◌, ◌++◌, option_to_list}
 use Rattle.naga_ir.specs.Statements.{compared, gathered, own_operands, own_references, own_target}
 use Rattle.naga_ir.specs.declared.reference.Reference.{Reference}
 use Rattle.naga_ir.specs.declared.statement.Statement.{Statement}
@@ -34,20 +33,20 @@ call_arguments _ = []
 -- the expressions that a load or a store names
 unfoldable pub memory_operands : Form → List ℕ
 memory_operands (one.Store pointer value) = pointer ∷ value ∷ []
-memory_operands (one.ImageStore image coordinate array_index value) = image ∷ coordinate ∷ optional array_index ++ value ∷ []
+memory_operands (one.ImageStore image coordinate array_index value) = image ∷ coordinate ∷ option_to_list array_index ++ value ∷ []
 memory_operands (one.WorkGroupUniformLoad pointer answer) = pointer ∷ answer ∷ []
 memory_operands (one.CooperativeStore target pointer stride) = target ∷ pointer ∷ stride ∷ []
 memory_operands _ = []
 
 -- the expressions that an atomic operation names
 unfoldable pub atomic_operands : Form → List ℕ
-atomic_operands (one.Atomic pointer fun value answer) = pointer ∷ compared fun ++ value ∷ optional answer
-atomic_operands (one.ImageAtomic image coordinate array_index fun value) = image ∷ coordinate ∷ optional array_index ++ (compared fun ++ value ∷ [])
+atomic_operands (one.Atomic pointer fun value answer) = pointer ∷ compared fun ++ value ∷ option_to_list answer
+atomic_operands (one.ImageAtomic image coordinate array_index fun value) = image ∷ coordinate ∷ option_to_list array_index ++ (compared fun ++ value ∷ [])
 atomic_operands _ = []
 
 -- the expressions that an operation of a subgroup names
 unfoldable pub subgroup_operands : Form → List ℕ
-subgroup_operands (one.SubgroupBallot answer predicate) = answer ∷ optional predicate
+subgroup_operands (one.SubgroupBallot answer predicate) = answer ∷ option_to_list predicate
 subgroup_operands (one.SubgroupGather mode argument answer) = gathered mode ++ argument ∷ answer ∷ []
 subgroup_operands (one.SubgroupCollectiveOperation op argument answer) = argument ∷ answer ∷ []
 subgroup_operands _ = []

@@ -1,6 +1,5 @@
 -- What statements refer to.
-use Rattle.std.specs.Prelude.{ℕ, List, [], ◌∷◌, ◌++◌, map}
-use Rattle.naga_ir_types.specs.Parts.{optional}
+use Rattle.std.specs.Prelude.{ℕ, List, [], ◌∷◌, ◌++◌, map, option_to_list}
 use Rattle.naga_ir.specs.declared.statement.AtomicFunction.{AtomicFunction}
 use Rattle.naga_ir.specs.declared.statement.AtomicFunction.TheVariants.{Exchange}
 use Rattle.naga_ir.specs.declared.statement.RayQueryFunction.{RayQueryFunction}
@@ -20,7 +19,7 @@ use Rattle.naga_ir.specs.declared.reference.Reference.TheVariants as to
 
 -- what a comparing exchange compares with
 abbrev pub compared : AtomicFunction → List ℕ
-compared (Exchange compare) = optional compare
+compared (Exchange compare) = option_to_list compare
 compared _ = []
 
 -- the operands of a step of a ray query
@@ -51,17 +50,17 @@ module _ (S B C : Type 0) where
   unfoldable pub own_operands : Statement-F S B C → List ℕ
   own_operands (one.If condition accept reject) = condition ∷ []
   own_operands (one.Switch selector cases) = selector ∷ []
-  own_operands (one.Loop body continuing break_if) = optional break_if
-  own_operands (one.Return value) = optional value
+  own_operands (one.Loop body continuing break_if) = option_to_list break_if
+  own_operands (one.Return value) = option_to_list value
   own_operands (one.Store pointer value) = pointer ∷ value ∷ []
-  own_operands (one.ImageStore image coordinate array_index value) = image ∷ coordinate ∷ optional array_index ++ value ∷ []
-  own_operands (one.Atomic pointer fun value answer) = pointer ∷ compared fun ++ value ∷ optional answer
-  own_operands (one.ImageAtomic image coordinate array_index fun value) = image ∷ coordinate ∷ optional array_index ++ (compared fun ++ value ∷ [])
+  own_operands (one.ImageStore image coordinate array_index value) = image ∷ coordinate ∷ option_to_list array_index ++ value ∷ []
+  own_operands (one.Atomic pointer fun value answer) = pointer ∷ compared fun ++ value ∷ option_to_list answer
+  own_operands (one.ImageAtomic image coordinate array_index fun value) = image ∷ coordinate ∷ option_to_list array_index ++ (compared fun ++ value ∷ [])
   own_operands (one.WorkGroupUniformLoad pointer answer) = pointer ∷ answer ∷ []
-  own_operands (one.Call function arguments answer) = arguments ++ optional answer
+  own_operands (one.Call function arguments answer) = arguments ++ option_to_list answer
   own_operands (one.RayQuery query fun) = query ∷ ray_query_operands fun
   own_operands (one.RayPipelineFunction fun) = ray_pipeline_operands fun
-  own_operands (one.SubgroupBallot answer predicate) = answer ∷ optional predicate
+  own_operands (one.SubgroupBallot answer predicate) = answer ∷ option_to_list predicate
   own_operands (one.SubgroupGather mode argument answer) = gathered mode ++ argument ∷ answer ∷ []
   own_operands (one.SubgroupCollectiveOperation op argument answer) = argument ∷ answer ∷ []
   own_operands (one.CooperativeStore target pointer stride) = target ∷ pointer ∷ stride ∷ []

@@ -1,9 +1,8 @@
 //! What an expression is worked out from, and what else it names.
 
-ghost use Rattle.std.specs.Prelude.{◌≡◌, [], ◌++◌, IfNone};
+ghost use Rattle.std.specs.Prelude.{◌≡◌, [], ◌++◌, IfNone, option_to_list};
 ghost use Rattle.naga_ir.specs.Operands.{ReadsNoImage, listed, present};
 ghost use Rattle.naga_ir.specs.References as spec;
-ghost use Rattle.naga_ir_types.specs.Parts.{optional};
 
 use crate::expression::{Expression, ImageQuery, SampleLevel};
 use crate::reference::Reference;
@@ -34,7 +33,7 @@ impl Model for Fields {
 impl Fields {
     /// The next operand that is there.
     fn next(&mut self) -> Option<Handle<ExpressionTag>>
-        ensures operand { self.old ≡ optional result ++ self.new }
+        ensures operand { self.old ≡ option_to_list result ++ self.new }
         ensures end { IfNone result (self.old ≡ []) }
     {
         while let Some(operand) = self.operands.get(self.next) {
@@ -94,7 +93,7 @@ fn level_operands(level: SampleLevel) -> [Option<Handle<ExpressionTag>>; 2]
 }
 
 fn query_operand(query: ImageQuery) -> Option<Handle<ExpressionTag>>
-    ensures { optional result ≡ spec.query_operands query }
+    ensures { option_to_list result ≡ spec.query_operands query }
 {
     match query {
         ImageQuery::Size { level } => level,

@@ -1,7 +1,6 @@
 //! Going over all that statements refer to.
 
-ghost use Rattle.std.specs.Prelude.{◌≡◌, ◌++◌, map};
-ghost use Rattle.naga_ir_types.specs.Parts.{optional};
+ghost use Rattle.std.specs.Prelude.{◌≡◌, ◌++◌, map, option_to_list};
 ghost use Rattle.naga_ir.specs.Operands.{present};
 ghost use Rattle.naga_ir.specs.StatementParts.{call_arguments, operands_of, references_of, target_of};
 ghost use Rattle.naga_ir.specs.StatementParts as spec;
@@ -132,7 +131,7 @@ fn try_for_each_operand<E, F: Fn(Reference) -> Result<(), E>>(
 /// The range that a statement emits, or the function that it calls.
 #[tactic(auto, unfolding(crate::specs::Statements::own_target))]
 fn target(statement: &Statement) -> Option<Reference>
-    ensures { optional result ≡ target_of statement.now }
+    ensures { option_to_list result ≡ target_of statement.now }
 {
     match statement {
         Statement::Emit(range) => Some(Reference::Emit(*range)),
@@ -258,7 +257,7 @@ fn atomic_operands(statement: &Statement) -> Operands
 
 /// What a comparing exchange compares with.
 fn compared(fun: AtomicFunction) -> Option<Handle<ExpressionTag>>
-    ensures { optional result ≡ of.compared fun }
+    ensures { option_to_list result ≡ of.compared fun }
 {
     match fun {
         AtomicFunction::Exchange { compare } => compare,
@@ -329,7 +328,7 @@ fn subgroup_operands(statement: &Statement) -> Operands
 
 /// The number that says which invocation is meant.
 fn gathered(mode: GatherMode) -> Option<Handle<ExpressionTag>>
-    ensures { optional result ≡ of.gathered mode }
+    ensures { option_to_list result ≡ of.gathered mode }
 {
     match mode {
         GatherMode::BroadcastFirst | GatherMode::QuadSwap => None,

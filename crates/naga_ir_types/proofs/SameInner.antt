@@ -63,7 +63,7 @@ class_same : (a b : ImageClass) → of_class.ghosts.eq a b ≡ true → a ≡ b
 class_same a b h = search rules
 
 -- two numbers above 0 are the same where their values are
-non_zero_same : (a b : NonZeroU32) → a.value ≡ b.value → a ≡ b
+pub non_zero_same : (a b : NonZeroU32) → a.value ≡ b.value → a ≡ b
 non_zero_same a b p = λ j. record { value = p j; ok = is_prop→PathP (λ j. 0 < p j) (λ j. le_prop) a.ok b.ok j }
 
 array_size_same : (a b : ArraySize) → of_array_size.ghosts.eq a b ≡ true → a ≡ b

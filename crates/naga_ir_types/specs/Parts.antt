@@ -6,11 +6,6 @@ use Rattle.naga_ir_types.specs.declared.types.StructMember.{StructMember}
 use Rattle.naga_ir_types.specs.declared.types.ArraySize.{ArraySize}
 use Rattle.naga_ir_types.specs.declared.types.ArraySize.TheVariants.{Pending}
 
--- none or one
-abbrev pub optional : {A : Type 0} → Option A → List A
-optional None = []
-optional (Some x) = x ∷ []
-
 -- the override that says how many elements there are
 abbrev pub pending : ArraySize → Option ℕ
 pending (Pending o) = Some o

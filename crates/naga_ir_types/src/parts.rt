@@ -16,13 +16,12 @@ pub struct Parts<'a> {
 }
 
 impl<'a> Model for Parts<'a> {
-    ghost use Rattle.std.specs.Prelude.{ℕ, List, ◌++◌, map};
-    ghost use Rattle.naga_ir_types.specs.Parts.{optional};
+    ghost use Rattle.std.specs.Prelude.{ℕ, List, ◌++◌, map, option_to_list};
     ghost use Rattle.naga_ir_types.specs.declared.types.StructMember.{StructMember};
 
     ghost Value = { List ℕ };
 
-    ghost view = { λ p. optional p.base ++ map (λ (m : StructMember). m.ty) p.members.now };
+    ghost view = { λ p. option_to_list p.base ++ map (λ (m : StructMember). m.ty) p.members.now };
 }
 
 impl<'a> Iterator for Parts<'a> {

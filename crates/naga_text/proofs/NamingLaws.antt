@@ -1,7 +1,5 @@
 -- What the reader of a word answers is the one value with that word.
-use mathlib.Core.HLevel.{is_prop→PathP}
 use Rattle.std.proofs.Common.{◌≡◌, ◌==◌, ℕ, ◌<◌, zero, suc, Bool as Truth, true, false, List, [], ◌∷◌, Option, None, Some, refl, sym, ap, ◌∙◌, subst, codes, bytes_eq, inl, inr, arith, length, nat_lt, nat_le, ◌&&◌}
-use Rattle.std.specs.Coded.{le_prop}
 use Rattle.std.proofs.lemmas.Bool.{and_parts, cases_Bool, ne_eqb, true≢false}
 use Rattle.std.proofs.lemmas.Slice.Eq.{bytes_eq-Decides}
 use Rattle.std.specs.Char.{is_ascii_digit}
@@ -10,6 +8,7 @@ use Rattle.std.specs.Option.{MatchOption, option_map, option_and_then}
 use Rattle.std.specs.Str.{all_ascii_digits}
 use Rattle.std.specs.declared.num.NonZeroU32.{NonZeroU32}
 use borrow.Author.Tests.{eqb-true}
+use Rattle.naga_ir_types.proofs.SameInner.{non_zero_same}
 use Rattle.naga_ir_types.specs.Sizes.{components, cooperative_components}
 use Rattle.naga_ir_types.specs.declared.types.AddressSpace.{AddressSpace}
 use Rattle.naga_ir_types.specs.declared.types.AddressSpace.TheVariants as of_space
@@ -214,10 +213,6 @@ cooperative_size_found w size h = let p = and_then_some cooperative_size_at (num
 pub cooperative_size_again : (w : List ℕ) (size : CooperativeSize) → number_up_to 16 w ≡ Some (cooperative_components size) → cooperative_size_of w ≡ Some size
 cooperative_size_again w size h = ap (option_and_then cooperative_size_at) h ∙ cooperative_size_at_again size
 
--- two counts of one number are the same
-count_same : (a b : NonZeroU32) → a.value ≡ b.value → a ≡ b
-count_same a b p = λ j. record { value = p j; ok = is_prop→PathP (λ j. 0 < p j) (λ j. le_prop) a.ok b.ok j }
-
 -- a count has its own number alone, and its number is that of it
 count_at_found : (n : ℕ) (count : NonZeroU32) → count_at n ≡ Some count → n ≡ non_zero_u32_get count
 count_at_found zero count h = cc
@@ -228,7 +223,7 @@ count_at_again count = go count.value count.ok
   where
     go : (n : ℕ) (ok : 0 < n) → count_at n ≡ Some (record { value = n; ok = ok })
     go zero ok = absurd (omega (arith, ok))
-    go (suc n) ok = ap Some (count_same _ _ refl)
+    go (suc n) ok = ap Some (non_zero_same _ _ refl)
 
 -- a number that was tested to be no 0 is read as a count
 pub counted : (count : Option NonZeroU32) (n : ℕ) → MatchOption count (n ≡ 0) (λ c. non_zero_u32_get c ≡ n) → count ≡ count_at n

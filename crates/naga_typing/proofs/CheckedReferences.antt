@@ -1,9 +1,10 @@
 -- References that a test has looked at exist and go back.
-use Rattle.std.proofs.Common.{◌≡◌, ◌<◌, ℕ, suc, List, [], ◌∷◌, ◌++◌, Option, Some, None, All, Contains, length, map, slice_get, refl, sym, subst, arith}
+use Rattle.std.proofs.Common.{◌≡◌, ◌<◌, ℕ, suc, List, [], ◌∷◌, ◌++◌, Option, Some, None, All, Contains, length, map, slice_get, refl, sym, subst, arith, option_to_list}
 use Rattle.std.specs.List.{flat_map}
 use Rattle.std.proofs.lemmas.List.Concat.{flat_map-cons}
 use Rattle.std.proofs.lemmas.List.Elements.{All-append, All-cons, All-contains_itself, All-map, All-nil}
 use Rattle.std.proofs.lemmas.Option.{same_Some, slice_get_within}
+use Rattle.naga_ir.proofs.Everywhere.{all_in, all_named, all_of_option, all_within}
 use Rattle.naga_ir.specs.Handles.{ExistsGlobally, GlobalReferencesOk, OrderedReference, constant, operand, override, part, place_of, size_type}
 use Rattle.naga_ir.specs.ItemReferences.{GlobalLists, constant_references, expression_references, override_references, type_references}
 use Rattle.naga_ir.specs.References.{named_item, named_type, operands}
@@ -13,7 +14,7 @@ use Rattle.naga_ir.specs.declared.expression.Expression.{Expression}
 use Rattle.naga_ir.specs.declared.expression.Expression.TheVariants as form
 use Rattle.naga_ir.specs.declared.ir.Constant.{Constant}
 use Rattle.naga_ir.specs.declared.ir.Override.{Override}
-use Rattle.naga_ir_types.specs.Parts.{optional, parts, size_override}
+use Rattle.naga_ir_types.specs.Parts.{parts, size_override}
 use Rattle.naga_ir_types.specs.declared.types.«Type».{«Type»}
 
 module _ (g : GlobalLists) where
@@ -40,22 +41,6 @@ module _ (g : GlobalLists) where
       × ((c : ℕ) → x ≡ form.Constant c → (c < length g.constants) × ((d : Constant) → slice_get g.constants c ≡ Some d → d.init < e))
       × ((o : ℕ) → x ≡ form.Override o → (o < length g.overrides) × ((n : ℕ) (v : Override) → slice_get g.overrides o ≡ Some v → v.init ≡ Some n → n < e))
 
--- what holds of each list holds of all lists together
-all_within : {X A : Type 0} (P : A → Type 0) (f : X → List A) (xs : List X) → ((k : ℕ) (x : X) → slice_get xs k ≡ Some x → All P (f x)) → All P (flat_map f xs)
-all_within P f [] each = All-nil P
-all_within P f (x ∷ xs) each =
-    subst (All P) (sym (flat_map-cons f x xs)) (All-append P (f x) (flat_map f xs) (each 0 x refl) (all_within P f xs (λ k y at. each (suc k) y at)))
-
-all_of_optional : {A : Type 0} (P : A → Type 0) (o : Option A) → ((a : A) → o ≡ Some a → P a) → All P (optional o)
-all_of_optional P None h = All-nil P
-all_of_optional P (Some a) h = All-cons P a [] (h a refl) (All-nil P)
-
-all_named : (P : Reference → Type 0) (to_kind : ℕ → Reference) (o : Option ℕ) → ((a : ℕ) → o ≡ Some a → P (to_kind a)) → All P (map to_kind (optional o))
-all_named P to_kind o h = All-map P to_kind (optional o) (all_of_optional (λ a. P (to_kind a)) o h)
-
-all_in : (P : Reference → Type 0) (to_kind : ℕ → Reference) (xs : List ℕ) → ((a : ℕ) → Contains xs a → P (to_kind a)) → All P (map to_kind xs)
-all_in P to_kind xs h = All-map P to_kind xs (λ k d within. h _ (All-contains_itself xs k d within))
-
 module _ (g : GlobalLists)
     (types : (t : ℕ) (x : «Type») → slice_get g.types t ≡ Some x → TypeHolds g t x)
     (constants : (c : ℕ) (x : Constant) → slice_get g.constants c ≡ Some x → ConstantHolds g c x)
@@ -68,7 +53,7 @@ module _ (g : GlobalLists)
   of_type t x at =
       let holds = types t x at in
       let there = slice_get_within g.types t x at in
-      All-append There (map to.Type_ (parts x.inner)) (map to.Override (optional (size_override x.inner)))
+      All-append There (map to.Type_ (parts x.inner)) (map to.Override (option_to_list (size_override x.inner)))
       (all_in There to.Type_ (parts x.inner) (λ p names. omega (arith, holds.0 p names, there)))
       (all_named There to.Override (size_override x.inner) (λ o e. (holds.1 o e).0))
 
@@ -80,7 +65,7 @@ module _ (g : GlobalLists)
   of_override : (o : ℕ) (x : Override) → slice_get g.overrides o ≡ Some x → All There (override_references x)
   of_override o x at =
       let holds = overrides o x at in
-      All-cons There (to.Type_ x.ty) (map to.Expression (optional x.init)) holds.0 (all_named There to.Expression x.init holds.1)
+      All-cons There (to.Type_ x.ty) (map to.Expression (option_to_list x.init)) holds.0 (all_named There to.Expression x.init holds.1)
 
   of_item : (e : ℕ) (x : Expression) → ExpressionHolds g e x → (r : Reference) → named_item x ≡ Some r → There r
   unfolding named_item
@@ -95,11 +80,11 @@ module _ (g : GlobalLists)
   of_expression e x at =
       let holds = expressions e x at in
       let there = slice_get_within g.expressions e x at in
-      All-append There (map to.Expression (operands x)) (map to.Type_ (optional (named_type x)) ++ optional (named_item x))
+      All-append There (map to.Expression (operands x)) (map to.Type_ (option_to_list (named_type x)) ++ option_to_list (named_item x))
       (all_in There to.Expression (operands x) (λ o names. omega (arith, holds.0 o names, there)))
-      (All-append There (map to.Type_ (optional (named_type x))) (optional (named_item x))
+      (All-append There (map to.Type_ (option_to_list (named_type x))) (option_to_list (named_item x))
       (all_named There to.Type_ (named_type x) holds.1)
-      (all_of_optional There (named_item x) (of_item e x holds)))
+      (all_of_option There (named_item x) (of_item e x holds)))
 
   back : (s t : Reference) → OrderedReference g s t → place_of t < place_of s
   back _ _ (part t u x at names) = (types t x at).0 u names

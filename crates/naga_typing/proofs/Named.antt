@@ -1,5 +1,5 @@
 -- What expressions name is there.
-use Rattle.std.proofs.Common.{◌≡◌, ◌<◌, ◌⊎◌, ⊎_elim, ℕ, List, [], ◌∷◌, Option, Some, None, All, Contains, IfSome, length, slice_get, map, refl, sym, ap, subst, ◌∙◌, arith}
+use Rattle.std.proofs.Common.{◌≡◌, ◌<◌, ◌⊎◌, ⊎_elim, ℕ, List, [], ◌∷◌, Option, Some, None, All, Contains, IfSome, length, slice_get, map, refl, sym, ap, subst, ◌∙◌, arith, option_to_list}
 use Rattle.std.specs.List.{flat_map}
 use Rattle.std.proofs.lemmas.List.Elements.{All-contains, All-contains_itself, Contains-append_right}
 use Rattle.naga_ir.proofs.Reached.{all_of_expressions, item_in, of_constant, of_expression, of_override, of_type, only, type_in, within_all}
@@ -12,7 +12,7 @@ use Rattle.naga_ir.specs.declared.ir.Constant.{Constant}
 use Rattle.naga_ir.specs.declared.ir.Override.{Override}
 use Rattle.naga_ir.specs.declared.reference.Reference.{Reference}
 use Rattle.naga_ir.specs.declared.reference.Reference.TheVariants as to
-use Rattle.naga_ir_types.specs.Parts.{optional, parts, pending, size_override}
+use Rattle.naga_ir_types.specs.Parts.{parts, pending, size_override}
 use Rattle.naga_ir_types.specs.declared.types.«Type».{«Type»}
 use Rattle.naga_ir_types.specs.declared.types.ArraySize.{ArraySize}
 use Rattle.naga_ir_types.specs.declared.types.TypeInner.{TypeInner}
@@ -34,7 +34,7 @@ pub size_override_is_there : (g : GlobalLists) (inner : TypeInner) → Reference
 size_override_is_there g inner there =
     if_some (λ o. o < length g.overrides) (size_override inner)
     (λ o e. All-contains (ExistsGlobally g) (type_references inner) (to.Override o) there
-    (Contains-append_right (map to.Type_ (parts inner)) _ (to.Override o) (subst (λ (s : Option ℕ). Contains (map to.Override (optional s)) (to.Override o)) (sym e) (only (to.Override o)))))
+    (Contains-append_right (map to.Type_ (parts inner)) _ (to.Override o) (subst (λ (s : Option ℕ). Contains (map to.Override (option_to_list s)) (to.Override o)) (sym e) (only (to.Override o)))))
 
 sized_by_array : (base : ℕ) (size : ArraySize) (stride : ℕ) → size_override (Array base size stride) ≡ pending size
 unfolding size_override
@@ -113,7 +113,7 @@ module _ (g : GlobalLists) (ok : GlobalReferencesOk g) where
   pub override_initialiser_is_there : (o : ℕ) (x : Override) (e : ℕ) → slice_get g.overrides o ≡ Some x → x.init ≡ Some e → e < length g.expressions
   override_initialiser_is_there o x e at begins =
       of_override g ok o x (to.Expression e) at
-      (Contains-append_right (to.Type_ x.ty ∷ []) _ (to.Expression e) (subst (λ (i : Option ℕ). Contains (map to.Expression (optional i)) (to.Expression e)) (sym begins) (only (to.Expression e))))
+      (Contains-append_right (to.Type_ x.ty ∷ []) _ (to.Expression e) (subst (λ (i : Option ℕ). Contains (map to.Expression (option_to_list i)) (to.Expression e)) (sym begins) (only (to.Expression e))))
 
   -- what a type of the list refers to is there
   pub references_exist : (t : ℕ) (x : «Type») → slice_get g.types t ≡ Some x → ReferencesExist g x.inner

@@ -1,11 +1,11 @@
 -- Following pointers to what stands behind them.
-use Rattle.std.proofs.Common.{◌≡◌, ◌<◌, ℕ, suc, List, Some, Contains, length, map, slice_get, refl, sym, subst, arith}
+use Rattle.std.proofs.Common.{◌≡◌, ◌<◌, ℕ, suc, List, Some, Contains, length, map, slice_get, refl, sym, subst, arith, option_to_list}
 use Rattle.std.proofs.lemmas.List.Elements.{All-contains, Contains-append_left}
 use Rattle.naga_ir.specs.Handles.{ExistsGlobally, GlobalReferencesOk}
 use Rattle.naga_ir.specs.ItemReferences.{GlobalLists, type_references}
 use Rattle.naga_ir.specs.declared.reference.Reference.{Reference}
 use Rattle.naga_ir.specs.declared.reference.Reference.TheVariants as to
-use Rattle.naga_ir_types.specs.Parts.{optional, parts, size_override}
+use Rattle.naga_ir_types.specs.Parts.{parts, size_override}
 use Rattle.naga_ir_types.specs.declared.types.«Type».{«Type»}
 use Rattle.naga_ir_types.specs.declared.types.AddressSpace.{AddressSpace}
 use Rattle.naga_ir_types.specs.declared.types.TypeInner.{TypeInner}
@@ -34,7 +34,7 @@ pointer_base_is_there g inner base space there e =
     let form : TypeInner = Pointer base space in
     let named : List Reference = map to.Type_ (parts form) in
     All-contains (ExistsGlobally g) (type_references form) (to.Type_ base) (subst (ReferencesExist g) e there)
-    (Contains-append_left named (map to.Override (optional (size_override form))) (to.Type_ base) (type_of_pointer base space))
+    (Contains-append_left named (map to.Override (option_to_list (size_override form))) (to.Type_ base) (type_of_pointer base space))
 
 module _ (g : GlobalLists) where
   -- from one form pointers were followed to another

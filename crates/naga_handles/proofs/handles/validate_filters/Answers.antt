@@ -1,10 +1,9 @@
-use Rattle.std.proofs.Common.{rules, List, [], ◌∷◌, None, ap, map}
+use Rattle.std.proofs.Common.{rules, List, [], ◌∷◌, None, ap, map, option_to_list}
 use Rattle.std.specs.Prelude.{option_map}
 use Rattle.std.specs.List.{enumerate_from, flat_map}
 use Rattle.naga_ir.specs.Walks.{ChecksEach}
 use Rattle.naga_ir.specs.Handles.{module_counts}
 use Rattle.naga_ir.specs.Operands.{present}
-use Rattle.naga_ir_types.specs.Parts.{optional}
 use Rattle.naga_ir.specs.declared.reference.Reference.{Reference}
 use Rattle.naga_ir.specs.declared.reference.Reference.TheVariants as to
 use Rattle.naga_ir.proofs.StatementLemmas.{checks-along, checks-then}
@@ -17,7 +16,7 @@ pub returns : goal.returns
 returns c =
     let m = c.args.«module».now in
     let n = module_counts m in
-    let leaf : List Reference = map to.DiagnosticFilterNode (optional m.diagnostic_filter_leaf) in
+    let leaf : List Reference = map to.DiagnosticFilterNode (option_to_list m.diagnostic_filter_leaf) in
     let here : ChecksEach Answers (looks n (of_function None) (present (option_map to.DiagnosticFilterNode m.diagnostic_filter_leaf ∷ []))) c.check_all.result = search rules in
     checks-then Answers (flat_map (filter_looks n) (enumerate_from 0 m.diagnostic_filters)) (looks n (of_function None) leaf) _
     c.in_ok-validate_filter_parents.ensures

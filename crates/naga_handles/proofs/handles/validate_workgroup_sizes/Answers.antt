@@ -1,5 +1,4 @@
-use Rattle.std.proofs.Common.{rules, ℕ, ◌∙◌, List, Option, ap, map, refl, sym}
-use Rattle.naga_ir_types.specs.Parts.{optional}
+use Rattle.std.proofs.Common.{rules, ℕ, ◌∙◌, List, Option, ap, map, refl, sym, option_to_list}
 use Rattle.naga_ir.specs.ItemReferences.{workgroup_sizes}
 use Rattle.naga_ir.specs.declared.reference.Reference.TheVariants as to
 use Rattle.naga_ir.proofs.StatementLemmas.{checks-along}
@@ -14,5 +13,5 @@ returns-in-Some c =
     let s = of_function c.args.scope.now.caller in
     let sizes = c.in-Some.sizes in
     checks-along Answers _ _ _ (ap (looks n s) (flat-present to.Expression sizes ∙ ap (λ (o : Option (List (Option ℕ))). map to.Expression (workgroup_sizes o)) (sym c.in-Some.is)))
-    (checks-called n s (λ (o : Option ℕ). map to.Expression (optional o)) sizes refl
+    (checks-called n s (λ (o : Option ℕ). map to.Expression (option_to_list o)) sizes refl
     (λ y t k. checks-along Answers _ _ _ (ap (looks n s) (one-present to.Expression y.now)) (search rules)) c.try_each.ensures)

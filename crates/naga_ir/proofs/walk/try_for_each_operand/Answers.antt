@@ -1,6 +1,5 @@
-use Rattle.std.proofs.Common.{rules, ◌≡◌, ap, sym}
+use Rattle.std.proofs.Common.{rules, ◌≡◌, ap, sym, option_to_list}
 use Rattle.std.specs.Prelude.{Ok, Err}
-use Rattle.naga_ir_types.specs.Parts.{optional}
 use Rattle.naga_ir.specs.declared.reference.Reference.TheVariants as to
 use Rattle.naga_ir.proofs.StatementLemmas.{named_if, checks-along, checks-none, checks-single, checks-more, checks-stop, checks-end, joined-map}
 use Rattle.naga_ir.proofs.walk.try_for_each_operand.Given as given
@@ -11,7 +10,7 @@ pub returns-in_err-check : goal.returns-in_err-check
 returns-in_err-check g c =
     let answers = given.F-post g c.args.check.now in
     let is : c.from_residual.result ≡ Err c.in_err-check.field-0.0 = search rules in
-    checks-along answers _ _ _ (joined-map to.Expression optional c.args.operands.now)
+    checks-along answers _ _ _ (joined-map to.Expression option_to_list c.args.operands.now)
     (checks-stop answers named_if c.args.operands.now _ _ _ _ c.loop-operand-test.true c.operand-item.is is c.loop-operand.invariant
     (checks-along answers _ _ (Err _) (ap named_if (sym c.in-Some.is)) (checks-single answers _ (Err _) c.in_err-check.ensures)))
 
@@ -27,5 +26,5 @@ loop-operand-preserved g c =
 pub returns : goal.returns
 returns g c =
     let answers = given.F-post g c.args.check.now in
-    checks-along answers _ _ (Ok _) (joined-map to.Expression optional c.args.operands.now)
+    checks-along answers _ _ (Ok _) (joined-map to.Expression option_to_list c.args.operands.now)
     (checks-end answers named_if c.args.operands.now _ c.loop-operand-test.false c.loop-operand.invariant)
