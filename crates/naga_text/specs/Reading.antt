@@ -1,5 +1,5 @@
 -- What the readers of one line compute.
-use Rattle.std.specs.Prelude.{ℕ, List, [], ◌∷◌, Option, Some, None, codes, bytes_eq, if◌then◌else◌, option_map, option_and_then}
+use Rattle.std.specs.Prelude.{ℕ, List, [], ◌∷◌, Option, Some, None, IsSome, IsTrue, codes, bytes_eq, if◌then◌else◌, option_map, option_and_then, ⊤}
 use Rattle.naga_ir_types.specs.declared.types.Scalar.{Scalar as ScalarType}
 use Rattle.naga_ir_types.specs.declared.types.TypeInner.{TypeInner}
 use Rattle.naga_ir_types.specs.declared.types.TypeInner.TheVariants.{Scalar, Vector, Matrix, CooperativeMatrix, Atomic, Pointer, ValuePointer, Array, Struct, Image, Sampler, AccelerationStructure, RayQuery, BindingArray}
@@ -137,3 +137,23 @@ setting_of keyword rest =
 abbrev pub line_of : List (List ℕ) → Option Line
 line_of [] = None
 line_of (keyword ∷ rest) = if bytes_eq keyword (codes "type") then type_line_of rest else setting_of keyword rest
+
+-- memory is asked for members where there are any
+abbrev pub MembersAsk : List (List ℕ) → Type 0
+MembersAsk [] = ⊥
+MembersAsk (w ∷ ws) = ⊤
+
+-- for a struct where its span is a number, and members follow
+abbrev pub StructAsks : List (List ℕ) → Type 0
+StructAsks [] = ⊥
+StructAsks (s ∷ ws) = IsSome (number_of s) × MembersAsk ws
+
+-- for a type where it is such a struct
+abbrev pub TypeAsks : List (List ℕ) → Type 0
+TypeAsks [] = ⊥
+TypeAsks (form ∷ rest) = IsTrue (bytes_eq form (codes "struct")) × StructAsks rest
+
+-- for a line where it tells such a type
+abbrev pub LineAsks : List (List ℕ) → Type 0
+LineAsks [] = ⊥
+LineAsks (keyword ∷ rest) = IsTrue (bytes_eq keyword (codes "type")) × TypeAsks rest

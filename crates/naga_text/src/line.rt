@@ -1,9 +1,9 @@
 //! What one line says.
 
 ghost use Rattle.naga_text.specs.Forms.{IsForm};
-ghost use Rattle.naga_text.specs.Reading.{capabilities_of, flags_of, line_of, resolved_of, setting_of, type_line_of};
+ghost use Rattle.naga_text.specs.Reading.{LineAsks, TypeAsks, capabilities_of, flags_of, line_of, resolved_of, setting_of, type_line_of};
 ghost use Rattle.naga_text.specs.declared.line.Line.{Line};
-ghost use Rattle.std.specs.Prelude.{◌≡◌, IfOk, IfSome, Some, map};
+ghost use Rattle.std.specs.Prelude.{◌≡◌, IfOk, IfSome, OnErr, Some, map};
 
 use crate::number::number_up_to;
 use crate::types::type_inner;
@@ -54,7 +54,8 @@ fn resolved(words: &[&[u8]]) -> Option<Line>
 }
 
 fn type_line(alloc: Global, words: &[&[u8]]) -> Result<Option<Line>, OutOfMemory>
-    ensures { IfOk result (λ read. read ≡ type_line_of (map (λ w. w.now) words.now)) }
+    ensures read { IfOk result (λ read. read ≡ type_line_of (map (λ w. w.now) words.now)) }
+    ensures memory { OnErr result (TypeAsks (map (λ w. w.now) words.now)) }
 {
     match type_inner(alloc, words)? {
         Some(inner) => Ok(Some(Line::Type_(inner))),
@@ -76,7 +77,8 @@ fn setting(keyword: &[u8], words: &[&[u8]]) -> Option<Line>
 
 /// Reads by the keyword, the first word.
 fn keyword(alloc: Global, words: &[&[u8]]) -> Result<Option<Line>, OutOfMemory>
-    ensures { IfOk result (λ read. read ≡ line_of (map (λ w. w.now) words.now)) }
+    ensures read { IfOk result (λ read. read ≡ line_of (map (λ w. w.now) words.now)) }
+    ensures memory { OnErr result (LineAsks (map (λ w. w.now) words.now)) }
 {
     let Some((keyword, rest)) = words.split_first() else {
         return Ok(None);
@@ -92,6 +94,7 @@ fn keyword(alloc: Global, words: &[&[u8]]) -> Result<Option<Line>, OutOfMemory>
 pub fn read_line(alloc: Global, words: &[&[u8]]) -> Result<Option<Line>, OutOfMemory>
     ensures found { IfOk result (λ read. IfSome read (λ line. IsForm (map (λ w. w.now) words.now) line)) }
     ensures only { (line : Line) → IsForm (map (λ w. w.now) words.now) line → IfOk result (λ read. read ≡ Some line) }
+    ensures memory { OnErr result (LineAsks (map (λ w. w.now) words.now)) }
 {
     keyword(alloc, words)
 }

@@ -1,7 +1,8 @@
 //! The members of a struct, each in one word.
 
 ghost use Rattle.naga_text.specs.Naming.{bound_member_of, member_in, member_of, members_of};
-ghost use Rattle.std.specs.Prelude.{◌≡◌, IfOk, map};
+ghost use Rattle.naga_text.specs.Reading.{MembersAsk};
+ghost use Rattle.std.specs.Prelude.{◌≡◌, IfOk, OnErr, map};
 
 use crate::number::{handle, number};
 use crate::pieces::pieces;
@@ -64,7 +65,8 @@ fn member(alloc: Global, word: &[u8]) -> Result<Option<StructMember>, OutOfMemor
 
 /// The members of words, where each word is one.
 pub fn members(alloc: Global, words: &[&[u8]]) -> Result<Option<List<StructMember>>, OutOfMemory>
-    ensures { IfOk result (λ read. read ≡ members_of (map (λ w. w.now) words.now)) }
+    ensures read { IfOk result (λ read. read ≡ members_of (map (λ w. w.now) words.now)) }
+    ensures memory { OnErr result (MembersAsk (map (λ w. w.now) words.now)) }
 {
     let mut members = List::new(alloc);
     for word in words {

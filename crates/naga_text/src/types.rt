@@ -1,7 +1,7 @@
 //! The forms of types.
 
-ghost use Rattle.naga_text.specs.Reading.{acceleration_structure_of, array_of, atomic_of, binding_array_of, cooperative_matrix_of, image_of, matrix_of, memberless_of, pointer_of, ray_query_of, sampler_of, scalar_of, scalar_type_of, struct_of, type_of, value_pointer_of, vector_of};
-ghost use Rattle.std.specs.Prelude.{◌≡◌, IfOk, map};
+ghost use Rattle.naga_text.specs.Reading.{StructAsks, TypeAsks, acceleration_structure_of, array_of, atomic_of, binding_array_of, cooperative_matrix_of, image_of, matrix_of, memberless_of, pointer_of, ray_query_of, sampler_of, scalar_of, scalar_type_of, struct_of, type_of, value_pointer_of, vector_of};
+ghost use Rattle.std.specs.Prelude.{◌≡◌, IfOk, OnErr, map};
 
 use crate::members::members;
 use crate::number::{handle, number, number_up_to};
@@ -164,7 +164,8 @@ fn ray_query_type(words: &[&[u8]]) -> Option<TypeInner>
 }
 
 fn struct_type(alloc: Global, words: &[&[u8]]) -> Result<Option<TypeInner>, OutOfMemory>
-    ensures { IfOk result (λ read. read ≡ struct_of (map (λ w. w.now) words.now)) }
+    ensures read { IfOk result (λ read. read ≡ struct_of (map (λ w. w.now) words.now)) }
+    ensures memory { OnErr result (StructAsks (map (λ w. w.now) words.now)) }
 {
     let Some((span, rest)) = words.split_first() else {
         return Ok(None);
@@ -202,7 +203,8 @@ fn memberless_type(form: &[u8], words: &[&[u8]]) -> Option<TypeInner>
 
 /// The type of the words after `type`. Only a struct takes memory.
 pub fn type_inner(alloc: Global, words: &[&[u8]]) -> Result<Option<TypeInner>, OutOfMemory>
-    ensures { IfOk result (λ read. read ≡ type_of (map (λ w. w.now) words.now)) }
+    ensures read { IfOk result (λ read. read ≡ type_of (map (λ w. w.now) words.now)) }
+    ensures memory { OnErr result (TypeAsks (map (λ w. w.now) words.now)) }
 {
     let Some((form, rest)) = words.split_first() else {
         return Ok(None);

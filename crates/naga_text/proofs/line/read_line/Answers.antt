@@ -14,7 +14,7 @@ only : (ws : List (List ℕ)) (line : Line) → IsForm ws line → (read : Optio
 only ws line h read e = e ∙ line_again ws line h
 
 pub returns-clause-found : goal.returns-clause-found
-returns-clause-found c = IfOk-weaker c.keyword.result _ _ (found _) c.keyword.ensures
+returns-clause-found c = IfOk-weaker c.keyword.result _ _ (found _) c.keyword.ensures.read
 
 pub returns-clause-only : goal.returns-clause-only
-returns-clause-only c = λ line h. IfOk-weaker c.keyword.result _ _ (only _ line h) c.keyword.ensures
+returns-clause-only c = λ line h. IfOk-weaker c.keyword.result _ _ (only _ line h) c.keyword.ensures.read

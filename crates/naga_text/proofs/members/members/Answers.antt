@@ -1,8 +1,8 @@
 use Rattle.naga_text.proofs.MemberLaws.{stopped, went_on}
 use Rattle.naga_text.proofs.members.members.Goals as goal
 
-pub returns-in-None : goal.returns-in-None
-returns-in-None c = stopped (λ w. w.now) c.args.words.now c.loop-word.word-index _ c.loop-word.members _ c.loop-word-test.true c.in_ok-member.ensures c.in-None.is c.loop-word.invariant
+pub returns-in-None-clause-read : goal.returns-in-None-clause-read
+returns-in-None-clause-read c = stopped (λ w. w.now) c.args.words.now c.loop-word.word-index _ c.loop-word.members _ c.loop-word-test.true c.in_ok-member.ensures c.in-None.is c.loop-word.invariant
 
 pub loop-word-preserved : goal.loop-word-preserved
 loop-word-preserved c =
