@@ -21,7 +21,7 @@ use Rattle.naga_text.proofs.Lists.{distinct_once, distinct_push, pick_front, pic
 given_cases : {A : Type 0} (P Q : Type 0) (old : Option A) (value : A) (new : Option A) (given : Bool) → GivenOnce old value new given → (old ≡ None → new ≡ Some value → P) → ((before : A) → old ≡ Some before → Q) → MatchBool given P Q
 given_cases P Q None value new true h first again = first refl h.1
 given_cases P Q None value new false h first again = let e = h.0 in absurd (cc)
-given_cases P Q (Some before) value new true h first again = absurd (cc)
+given_cases P Q (Some before) value new true h first again = let e = h.0 in absurd (cc)
 given_cases P Q (Some before) value new false h first again = again before refl
 
 -- a setting that got its value is what the lines give

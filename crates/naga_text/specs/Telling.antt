@@ -6,14 +6,15 @@ use Rattle.naga_ir_types.specs.declared.types.«Type».{«Type»}
 use Rattle.naga_ir_types.specs.declared.types.TypeInner.{TypeInner}
 use Rattle.naga_text.specs.Text.{AreForms, IsFirstUnreadable, IsReadable, IsText, Together, capabilities_in, flags_in, resolved_in, type_in}
 use Rattle.naga_text.specs.declared.line.Line.{Line as Line_}
+use Rattle.naga_text.specs.declared.line.Line.TheVariants.{Type_}
 use Rattle.naga_text.specs.declared.text.Contents.{Contents}
 use Rattle.naga_text.specs.declared.text.Told.{Told}
 use Rattle.naga_text.specs.declared.text.TextError.{TextError}
 use Rattle.naga_text.specs.declared.text.TextError.TheVariants.{Line, OutOfMemory}
 
--- a setting without a value got this one; one with a value is told from it
+-- a setting without a value got this one; one with a value keeps it, and is told from it
 abbrev pub GivenOnce : {A : Type 0} → Option A → A → Option A → Bool → Type 0
-GivenOnce old value new given = MatchOption old ((given ≡ true) × (new ≡ Some value)) (λ before. given ≡ false)
+GivenOnce old value new given = MatchOption old ((given ≡ true) × (new ≡ Some value)) (λ before. (given ≡ false) × (new ≡ old))
 
 -- a type can join types: it does not stand among them, and there is room
 abbrev pub CanJoin : List «Type» → «Type» → Type 0
@@ -34,6 +35,11 @@ pub record Tells (said : List Line_) (told : Told) : Type 0 where
   pub each_once : AllDistinct told.«module».types
   pub room : length told.«module».types ≤ 4294967295
   pub nothing_else : HasOnlyTypes told.«module»
+
+-- memory is asked for a line where it gives a type that can join the types
+abbrev pub AddingAsks : Told → Line_ → Type 0
+AddingAsks told (Type_ inner) = CanJoin told.«module».types (record { name = None; inner = inner })
+AddingAsks told _ = ⊥
 
 -- the contents, where a setting that was not given has its default
 abbrev pub contents_of : Told → Contents

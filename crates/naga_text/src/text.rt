@@ -1,13 +1,13 @@
 //! The lines of a text, read into what they say.
 
 ghost use Rattle.naga_text.specs.Results.{NamesLine};
-ghost use Rattle.naga_text.specs.Telling.{GivenOnce, IsAdded, IsNewType, IsReadOn, Reads, Tells, contents_of};
+ghost use Rattle.naga_text.specs.Telling.{AddingAsks, CanJoin, GivenOnce, IsAdded, IsNewType, IsReadOn, Reads, Tells, contents_of};
 ghost use Rattle.naga_text.specs.Text.{IsFirstUnreadable, IsText, speaks};
 ghost use Rattle.naga_text.specs.Words.{lines_of};
 ghost use Rattle.naga_text.specs.declared.text.Contents.{Contents};
 ghost use Rattle.naga_text.specs.declared.text.TextError.TheVariants as error;
 ghost use Rattle.naga_arena.specs.Memory.{AnsweredOrRefused};
-ghost use Rattle.std.specs.Prelude.{◌≡◌, IfErr, IfOk, Ok, [], map};
+ghost use Rattle.std.specs.Prelude.{◌≡◌, IfErr, IfOk, IsTrue, None, Ok, OnErr, [], map};
 
 use crate::line::{Line, read_line};
 use crate::pieces::pieces;
@@ -102,9 +102,11 @@ fn give<T: Copy>(setting: &mut Option<T>, value: T) -> bool
     true
 }
 
-/// Adds a type, and answers whether it is new and had room.
+/// Adds a type, and answers whether it is new and had room. Memory is asked for such a type alone.
 fn add_type(types: &mut UniqueArena, inner: TypeInner) -> Result<bool, OutOfMemory>
-    ensures { IfOk result (IsNewType types.old inner types.new) }
+    ensures new { IfOk result (IsNewType types.old inner types.new) }
+    ensures memory { OnErr result (CanJoin types.old (record { name = None; inner = inner })) }
+    ensures refused { OnErr result (types.new ≡ types.old) }
 {
     let count = types.len();
     if count == 4_294_967_295 {
@@ -116,7 +118,8 @@ fn add_type(types: &mut UniqueArena, inner: TypeInner) -> Result<bool, OutOfMemo
 
 /// Adds what a line says, and answers whether a line may say it here.
 fn add(told: &mut Told, line: Line) -> Result<bool, OutOfMemory>
-    ensures { IfOk result (IsAdded told.old line told.new) }
+    ensures added { IfOk result (IsAdded told.old line told.new) }
+    ensures memory { OnErr result (AddingAsks told.old line) }
 {
     match line {
         Line::Flags(flags) => Ok(give(&mut told.flags, flags)),
@@ -138,7 +141,8 @@ fn speaks(line: &[u8]) -> bool
 
 /// Reads one line more, and answers whether it could be read.
 fn read_on(alloc: Global, told: &mut Told, line: &[u8]) -> Result<bool, OutOfMemory>
-    ensures { IfOk result (IsReadOn told.old line.now told.new) }
+    ensures read { IfOk result (IsReadOn told.old line.now told.new) }
+    ensures memory { OnErr result (IsTrue (speaks line.now)) }
 {
     if !speaks(line) {
         return Ok(true);

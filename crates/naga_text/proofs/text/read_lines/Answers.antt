@@ -9,13 +9,13 @@ use Rattle.naga_text.proofs.text.read_lines.Goals as goal
 pub returns-then-not-branch : goal.returns-then-not-branch
 returns-then-not-branch c =
     let lines = map (λ line. line.now) c.args.lines.now in
-    let stopped = MatchBool-at_false _ _ c.if-not-branch.true (reads_on (λ line. line.now) c.args.lines.now c.loop-i.i _ c.loop-i.told c.read_on.new.told _ c.loop-i-test.true c.in_ok-read_on.ensures c.loop-i.invariant.so_far) in
+    let stopped = MatchBool-at_false _ _ c.if-not-branch.true (reads_on (λ line. line.now) c.args.lines.now c.loop-i.i _ c.loop-i.told c.read_on.new.told _ c.loop-i-test.true c.in_ok-read_on.ensures.read c.loop-i.invariant.so_far) in
     stops_at lines c.loop-i.i c.loop-i.told c.loop-i.invariant.so_far c.loop-i.invariant.before stopped
 
 pub loop-i-preserved : goal.loop-i-preserved
 loop-i-preserved c =
     let lines = map (λ line. line.now) c.args.lines.now in record {
-      so_far = MatchBool-at_true _ _ c.if-not-branch.false (reads_on (λ line. line.now) c.args.lines.now c.loop-i.i _ c.loop-i.told c.read_on.new.told _ c.loop-i-test.true c.in_ok-read_on.ensures c.loop-i.invariant.so_far);
+      so_far = MatchBool-at_true _ _ c.if-not-branch.false (reads_on (λ line. line.now) c.args.lines.now c.loop-i.i _ c.loop-i.told c.read_on.new.told _ c.loop-i-test.true c.in_ok-read_on.ensures.read c.loop-i.invariant.so_far);
       before = below_more (λ k. IsReadable (take k lines)) c.loop-i.i c.loop-i.invariant.before (contents_of c.loop-i.told, text_told (take c.loop-i.i lines) c.loop-i.told c.loop-i.invariant.so_far);
     }
 

@@ -6,16 +6,16 @@ use Rattle.naga_text.specs.Words.{words_of}
 use Rattle.naga_text.proofs.TextLaws.{form_read_on, no_form}
 use Rattle.naga_text.proofs.text.read_on.Goals as goal
 
-pub returns-in-Some : goal.returns-in-Some
-returns-in-Some c =
+pub returns-in-Some-clause-read : goal.returns-in-Some-clause-read
+returns-in-Some-clause-read c =
     let words : map (λ w. w.now) c.deref.result.now ≡ words_of c.args.line.now = ap (map (λ w. w.now)) c.deref.ensures.value ∙ c.in_ok-words.ensures in
     let speaking : speaks c.args.line.now ≡ true = sym c.speaks.ensures ∙ c.if-not-speaks.false in
     let found = subst (λ read. IfSome read (λ line. IsForm (map (λ w. w.now) c.deref.result.now) line)) c.in-Some.is c.in_ok-line.ensures.found in
     let form = subst (λ words. IsForm words c.in-Some.line) words found in
-    IfOk-weaker c.add.result _ _ (λ added h. form_read_on c.args.told.now c.add.new.told c.args.line.now c.in-Some.line added speaking form h) c.add.ensures
+    IfOk-weaker c.add.result _ _ (λ added h. form_read_on c.args.told.now c.add.new.told c.args.line.now c.in-Some.line added speaking form h) c.add.ensures.added
 
-pub returns : goal.returns
-returns c =
+pub returns-clause-read : goal.returns-clause-read
+returns-clause-read c =
     let words : map (λ w. w.now) c.deref.result.now ≡ words_of c.args.line.now = ap (map (λ w. w.now)) c.deref.ensures.value ∙ c.in_ok-words.ensures in
     let speaking : speaks c.args.line.now ≡ true = sym c.speaks.ensures ∙ c.if-not-speaks.false in
     let none = c.in-None.is in
