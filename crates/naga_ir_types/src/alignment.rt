@@ -97,6 +97,10 @@ impl From<VectorSize> for Alignment {
 }
 
 impl fmt::Display for Alignment {
+    ghost use Rattle.std.specs.Prelude.{Some, decimal};
+
+    ghost output = { λ a. Some (decimal a) };
+
     fn fmt<W: fmt::Write>(&self, f: &mut fmt::Formatter<W>) -> fmt::Result {
         write!(f, "{}", self.bytes)
     }

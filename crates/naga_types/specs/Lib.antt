@@ -7,5 +7,6 @@ pub mod Known
 pub mod Layouts
 pub mod StructRule
 pub mod Surroundings
+pub mod Texts
 pub mod TypeMethods
 pub mod TypeRule

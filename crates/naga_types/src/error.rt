@@ -49,6 +49,11 @@ pub enum Disalignment {
 }
 
 impl fmt::Display for Disalignment {
+    ghost use Rattle.std.specs.Prelude.{Some};
+    ghost use Rattle.naga_types.specs.Texts.{text_of};
+
+    ghost output = { λ why. Some (text_of why) };
+
     fn fmt<W: fmt::Write>(&self, f: &mut fmt::Formatter<W>) -> fmt::Result {
         match self {
             Disalignment::ArrayStride { stride, alignment } => write!(
