@@ -1,5 +1,5 @@
 mod Composing
 mod Firsts
+mod HoldsBefore
 mod Members
 mod Parts
-mod TypesAlone

@@ -1,18 +1,20 @@
 //! Answers that the rules give, by hand.
 
-ghost use Rattle.std.specs.Prelude.{◌≡◌, ◌<◌, ℕ, Contains, IsTrue, None, Some, slice_get};
 ghost use Rattle.naga_ir.specs.Handles.{GlobalReferencesOk};
 ghost use Rattle.naga_ir.specs.ItemReferences.{global_lists};
-ghost use Rattle.naga_ir_types.specs.Parts as of;
-ghost use Rattle.naga_ir_types.specs.Parts.{parts};
-ghost use Rattle.naga_ir_types.specs.declared.types.«Type» as declared;
 
+pub(crate) mod checked;
+mod forms;
+mod pending;
+mod refused_memory;
 mod rules;
+mod structs;
 
 use crate::error::{Disalignment, TypeError};
 use crate::info::{TypeContext, TypeInfo, TypeInfos};
 use crate::validate::validate_type;
 use bitflags::Flags;
+use checked::references_ok;
 use naga_flags::flags::{Capabilities, TypeFlags};
 use naga_flags::width::{ImmediateError, WidthError};
 use naga_ir::alignment::Alignment;
@@ -23,9 +25,8 @@ use naga_ir::span::Span;
 use naga_ir::tags::TypeTag;
 use naga_ir::text::StaticText;
 use naga_ir::types::{Scalar, ScalarKind, Type, TypeInner, VectorSize};
-use naga_ir::unique_arena::UniqueArena;
 use naga_typing::context::to_ctx;
-use naga_typing::layouter::Layouter;
+use naga_typing::layouter::{LayoutErrorInner, Layouter};
 use std::alloc::Global;
 use std::process::Abort;
 use std::test::Fail;
@@ -51,67 +52,34 @@ pub(crate) fn add_type(
         .insert(Type { name: None, inner }, Span::default())
 }
 
-/// Whether a module holds types alone, each after its parts.
-pub(crate) fn holds_types_alone(module: &Module) -> bool
-    ensures { IsTrue result → GlobalReferencesOk (global_lists «module».now) }
+/// Makes sure that references in a module exist and go back.
+pub(crate) fn assert_references_ok(rt: &impl Abort, module: &Module)
+    ensures { GlobalReferencesOk (global_lists «module».now) }
 {
-    if !module.constants.is_empty() {
-        return false;
-    }
-    if !module.overrides.is_empty() {
-        return false;
-    }
-    if !module.global_expressions.is_empty() {
-        return false;
-    }
-    types_go_back(&module.types)
-}
-
-/// Whether each type comes after its parts, and no override sizes it.
-fn types_go_back(types: &UniqueArena) -> bool
-    ensures { IsTrue result → (t : ℕ) (x : declared.«Type») → slice_get types.now t ≡ Some x
-        → ((p : ℕ) → Contains (parts x.inner) p → p < t) × (of.size_override x.inner ≡ None) }
-{
-    for (handle, ty) in types.iter() {
-        if ty.inner.size_override().is_some() {
-            return false;
-        }
-        if !parts_below(&ty.inner, handle.index()) {
-            return false;
-        }
-    }
-    true
-}
-
-/// Whether the parts of a type come before this place.
-pub(crate) fn parts_below(inner: &TypeInner, place: usize) -> bool
-    ensures { IsTrue result → (p : ℕ) → Contains (parts inner.now) p → p < place }
-{
-    for part in inner.parts() {
-        if part.index() >= place {
-            return false;
-        }
-    }
-    true
+    assert!(rt; references_ok(to_ctx(module)));
 }
 
 /// What is known of the last type of a module, where all its types are judged one after another, or
-/// why the first that is refused is.
-pub(crate) fn judged(
+/// why the first that is refused is. Overrides have to have their values where `overrides_resolved`.
+pub(crate) fn judged_with(
     rt: &impl Abort,
     alloc: Global,
     capabilities: Capabilities,
+    overrides_resolved: bool,
     module: &Module,
-) -> Result<Result<TypeInfo, TypeError>, Fail> {
-    assert!(rt; holds_types_alone(module));
+) -> Result<Result<TypeInfo, TypeError>, OutOfMemory> {
+    assert_references_ok(rt, module);
     let mut layouter = Layouter::new(alloc);
-    layouter.update(to_ctx(module))?;
+    if let Err(error) = layouter.update(to_ctx(module)) {
+        assert_eq!(rt; error.inner, LayoutErrorInner::OutOfMemory);
+        return Err(OutOfMemory);
+    }
     let mut infos = TypeInfos::with_room(alloc, 0)?;
     for index in 0..module.types.len() {
         assert!(rt; index <= infos.len());
         let ctx = TypeContext {
             capabilities,
-            overrides_resolved: false,
+            overrides_resolved,
             infos: &infos,
             layouter: &layouter,
         };
@@ -125,13 +93,23 @@ pub(crate) fn judged(
     Ok(Ok(infos.get(Handle::new(last as u32))))
 }
 
+/// The same, where overrides need no values.
+pub(crate) fn judged(
+    rt: &impl Abort,
+    alloc: Global,
+    capabilities: Capabilities,
+    module: &Module,
+) -> Result<Result<TypeInfo, TypeError>, OutOfMemory> {
+    judged_with(rt, alloc, capabilities, false, module)
+}
+
 /// What is said of a module's only type, whose width is a power of two.
 pub(crate) fn said_of(
     rt: &impl Abort,
     alloc: Global,
     capabilities: Capabilities,
     inner: TypeInner,
-) -> Result<Result<TypeInfo, TypeError>, Fail> {
+) -> Result<Result<TypeInfo, TypeError>, OutOfMemory> {
     with_module(alloc, |module| {
         add_type(rt, module, inner)?;
         judged(rt, alloc, capabilities, module)

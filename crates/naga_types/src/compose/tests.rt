@@ -5,7 +5,8 @@ ghost use Rattle.naga_typing.specs.Resolutions.{ResolutionExists};
 
 use super::{type_at, validate_compose, validate_compose_at};
 use crate::error::ComposeError;
-use crate::tests::{add_type, holds_types_alone, parts_below, with_module};
+use crate::tests::checked::parts_below;
+use crate::tests::{add_type, assert_references_ok, with_module};
 use naga_ir::handle::Handle;
 use naga_ir::ir::Module;
 use naga_ir::list::List;
@@ -49,7 +50,7 @@ fn said_of(
     components: &[TypeResolution],
 ) -> Result<(), ComposeError> {
     assert!(rt; ty.index() < module.types.len());
-    assert!(rt; holds_types_alone(module));
+    assert_references_ok(rt, module);
     assert!(rt; all_exist(components, &module.types));
     validate_compose(ty, to_ctx(module), components)
 }
@@ -63,7 +64,7 @@ fn said_at(
     types: &[TypeResolution],
 ) -> Result<(), ComposeError> {
     assert!(rt; ty.index() < module.types.len());
-    assert!(rt; holds_types_alone(module));
+    assert_references_ok(rt, module);
     assert!(rt; all_exist(types, &module.types));
     assert!(rt; first.index() < types.len());
     assert!(rt; second.index() < types.len());

@@ -1,29 +1,27 @@
-//! Answers that the rules of each form give, by hand.
+//! Answers that the rules of forms other than structs give, by hand.
 
 ghost use Rattle.std.specs.Prelude.{◌<◌};
 
+use super::structs::said_of_struct;
 use super::{add_type, judged, said_of, with_module};
-use crate::error::{Disalignment, TypeError, VaryingError};
+use crate::error::{Disalignment, TypeError};
 use crate::info::TypeInfo;
 use bitflags::Flags;
 use naga_flags::flags::Capabilities;
-use naga_flags::width::ImmediateError;
 use naga_ir::alignment::Alignment;
 use naga_ir::handle::Handle;
 use naga_ir::ir::Module;
-use naga_ir::list::List;
-use naga_ir::tags::TypeTag;
-use naga_ir::text::Text;
+use naga_ir::memory::OutOfMemory;
 use naga_ir::types::{
-    AddressSpace, ArraySize, Binding, CooperativeRole, CooperativeSize, ImageClass, ImageDimension,
-    Scalar, ScalarKind, StorageAccess, StructMember, TypeInner,
+    AddressSpace, ArraySize, CooperativeRole, CooperativeSize, ImageClass, ImageDimension, Scalar,
+    ScalarKind, StorageAccess, TypeInner,
 };
 use std::alloc::Global;
 use std::num::NonZeroU32;
 use std::process::Abort;
 use std::test::Fail;
 
-const STORAGE: AddressSpace = AddressSpace::Storage {
+pub(super) const STORAGE: AddressSpace = AddressSpace::Storage {
     access: StorageAccess {
         load: true,
         store: true,
@@ -32,7 +30,7 @@ const STORAGE: AddressSpace = AddressSpace::Storage {
 };
 
 /// The alignment of so many bytes.
-fn aligned(rt: &impl Abort, bytes: u32) -> Alignment {
+pub(super) fn aligned(rt: &impl Abort, bytes: u32) -> Alignment {
     Alignment::new(bytes).expect(rt, "a power of two")
 }
 
@@ -42,13 +40,13 @@ fn added(
     alloc: Global,
     module: &mut Module,
     inner: TypeInner,
-) -> Result<Result<TypeInfo, TypeError>, Fail> {
+) -> Result<Result<TypeInfo, TypeError>, OutOfMemory> {
     add_type(rt, module, inner)?;
     judged(rt, alloc, Capabilities::default(), module)
 }
 
 /// An array without a length.
-fn array_of(base: u32, stride: u32) -> TypeInner
+pub(super) fn array_of(base: u32, stride: u32) -> TypeInner
     requires { base < 4294967295 }
 {
     TypeInner::Array {
@@ -56,57 +54,6 @@ fn array_of(base: u32, stride: u32) -> TypeInner
         size: ArraySize::Dynamic,
         stride,
     }
-}
-
-/// A source of blending, or another output.
-fn at(location: u32, blend_src: Option<u32>) -> Option<Binding> {
-    Some(Binding::Location {
-        location,
-        blend_src,
-    })
-}
-
-/// A member without a name.
-fn member(ty: Handle<TypeTag>, offset: u32, binding: Option<Binding>) -> StructMember {
-    StructMember {
-        name: None,
-        ty,
-        binding,
-        offset,
-    }
-}
-
-/// What is said of a struct of two members of one type.
-fn said_of_two(
-    rt: &impl Abort,
-    alloc: Global,
-    capabilities: Capabilities,
-    [first, second]: [(u32, Option<Binding>); 2],
-    span: u32,
-) -> Result<Result<TypeInfo, TypeError>, Fail> {
-    with_module(alloc, |module| {
-        let word = add_type(rt, module, TypeInner::Scalar(Scalar::U32))?;
-        let mut members = List::new(alloc);
-        members.push(member(word, first.0, first.1))?;
-        members.push(member(word, second.0, second.1))?;
-        add_type(rt, module, TypeInner::Struct { members, span })?;
-        judged(rt, alloc, capabilities, module)
-    })
-}
-
-/// What is said of a struct of two members, added behind the other types.
-fn said_of_struct(
-    rt: &impl Abort,
-    alloc: Global,
-    module: &mut Module,
-    [first, second]: [(Handle<TypeTag>, u32); 2],
-    span: u32,
-) -> Result<Result<TypeInfo, TypeError>, Fail> {
-    let mut members = List::new(alloc);
-    members.push(member(first.0, first.1, None))?;
-    members.push(member(second.0, second.1, None))?;
-    add_type(rt, module, TypeInner::Struct { members, span })?;
-    judged(rt, alloc, Capabilities::SHADER_FLOAT16, module)
 }
 
 #[test]
@@ -194,142 +141,6 @@ fn pointers_to_the_unsized_are_into_storage(rt: HostRuntime) -> Result<(), Fail>
         assert_eq!(rt; answer, Err(refused));
         Ok(())
     })
-}
-
-#[test]
-fn a_struct_has_the_greatest_alignment(rt: HostRuntime) -> Result<(), Fail> {
-    let none = Capabilities::default();
-    let places = [(0, None), (4, None)];
-    let info = said_of_two(&rt, rt.alloc(), none, places, 8)??;
-    assert_eq!(rt; info.flags.bits(), 0xf7);
-    assert_eq!(rt; info.uniform_layout, Ok(aligned(&rt, 16)));
-    assert_eq!(rt; info.storage_layout, Ok(aligned(&rt, 4)));
-    assert_eq!(rt; info.immediates_compatibility, Ok(()));
-    Ok(())
-}
-
-#[test]
-fn members_stand_one_after_another(rt: HostRuntime) -> Result<(), Fail> {
-    let none = Capabilities::default();
-    let places = [(0, None), (2, None)];
-    let answer = said_of_two(&rt, rt.alloc(), none, places, 8)?;
-    let refused = TypeError::MemberOverlap {
-        index: 1,
-        offset: 2,
-    };
-    assert_eq!(rt; answer, Err(refused));
-    let places = [(0, None), (4294967292, None)];
-    let answer = said_of_two(&rt, rt.alloc(), none, places, 4294967295)?;
-    let refused = TypeError::MemberOutOfBounds {
-        index: 1,
-        offset: 4294967292,
-        size: 4,
-        span: 4294967295,
-    };
-    assert_eq!(rt; answer, Err(refused));
-    Ok(())
-}
-
-#[test]
-fn a_struct_has_members(rt: HostRuntime) -> Result<(), Fail> {
-    let inner = TypeInner::Struct {
-        members: List::new(rt.alloc()),
-        span: 4,
-    };
-    let answer = said_of(&rt, rt.alloc(), Capabilities::default(), inner)?;
-    assert_eq!(rt; answer, Err(TypeError::EmptyStruct));
-    Ok(())
-}
-
-#[test]
-fn immediates_hold_no_struct_with_16_bits(rt: HostRuntime) -> Result<(), Fail> {
-    with_module(rt.alloc(), |module| {
-        let word = add_type(&rt, module, TypeInner::Scalar(Scalar::U32))?;
-        let half = add_type(&rt, module, TypeInner::Scalar(Scalar::F16))?;
-        let info = said_of_struct(&rt, rt.alloc(), module, [(half, 0), (word, 4)], 8)??;
-        let refused = ImmediateError::InvalidScalar(Scalar::F16);
-        assert_eq!(rt; info.immediates_compatibility, Err(refused));
-        assert_eq!(rt; info.storage_layout, Ok(aligned(&rt, 4)));
-        Ok(())
-    })
-}
-
-#[test]
-fn an_array_without_a_length_is_the_last_member(rt: HostRuntime) -> Result<(), Fail> {
-    with_module(rt.alloc(), |module| {
-        let word = add_type(&rt, module, TypeInner::Scalar(Scalar::U32))?;
-        let array = add_type(&rt, module, array_of(0, 4))?;
-        let answer = said_of_struct(&rt, rt.alloc(), module, [(array, 0), (word, 4)], 8)?;
-        let refused = TypeError::InvalidDynamicArray(Text::new(rt.alloc()), array);
-        assert_eq!(rt; answer, Err(refused));
-        Ok(())
-    })
-}
-
-#[test]
-fn uniform_structs_are_sized(rt: HostRuntime) -> Result<(), Fail> {
-    with_module(rt.alloc(), |module| {
-        let word = add_type(&rt, module, TypeInner::Scalar(Scalar::U32))?;
-        let array = add_type(&rt, module, array_of(0, 16))?;
-        let info = said_of_struct(&rt, rt.alloc(), module, [(word, 0), (array, 16)], 32)??;
-        assert_eq!(rt; info.flags.bits(), 0x35);
-        let refused = Disalignment::UnsizedMember { index: 1 };
-        assert_eq!(rt; info.uniform_layout, Err((Handle::new(2), refused)));
-        assert_eq!(rt; info.storage_layout, Ok(aligned(&rt, 4)));
-        Ok(())
-    })
-}
-
-#[test]
-fn uniform_members_leave_room_after_structs(rt: HostRuntime) -> Result<(), Fail> {
-    with_module(rt.alloc(), |module| {
-        let word = add_type(&rt, module, TypeInner::Scalar(Scalar::U32))?;
-        said_of_struct(&rt, rt.alloc(), module, [(word, 0), (word, 4)], 8)??;
-        let inner = Handle::new(1);
-        let info = said_of_struct(&rt, rt.alloc(), module, [(inner, 0), (word, 8)], 12)??;
-        let refused = Disalignment::MemberOffsetAfterStruct {
-            index: 1,
-            offset: 8,
-            expected: 16,
-        };
-        assert_eq!(rt; info.uniform_layout, Err((Handle::new(2), refused)));
-        assert_eq!(rt; info.storage_layout, Ok(aligned(&rt, 4)));
-        Ok(())
-    })
-}
-
-#[test]
-fn both_sources_of_blending_are_shared_by_stages(rt: HostRuntime) -> Result<(), Fail> {
-    let given = Capabilities::DUAL_SOURCE_BLENDING;
-    let both = [(0, at(0, Some(0))), (4, at(0, Some(1)))];
-    let info = said_of_two(&rt, rt.alloc(), given, both, 8)??;
-    assert_eq!(rt; info.flags.bits(), 0xff);
-    let answer = said_of_two(&rt, rt.alloc(), Capabilities::default(), both, 8)?;
-    assert_eq!(rt; answer, Err(TypeError::MissingCapability(given)));
-    Ok(())
-}
-
-#[test]
-fn other_sources_of_blending_are_refused(rt: HostRuntime) -> Result<(), Fail> {
-    let given = Capabilities::DUAL_SOURCE_BLENDING;
-    let one = [(0, at(0, Some(0))), (4, None)];
-    let answer = said_of_two(&rt, rt.alloc(), given, one, 8)?;
-    let refused = VaryingError::IncompleteBlendSrcUsage {
-        present_blend_src: 0,
-    };
-    assert_eq!(rt; answer, Err(TypeError::InvalidBlendSrc(refused)));
-    let same = [(0, at(0, Some(0))), (4, at(0, Some(0)))];
-    let answer = said_of_two(&rt, rt.alloc(), given, same, 8)?;
-    let refused = VaryingError::BindingCollisionBlendSrc { blend_src: 0 };
-    assert_eq!(rt; answer, Err(TypeError::InvalidBlendSrc(refused)));
-    let elsewhere = [(0, at(1, Some(0))), (4, at(0, Some(1)))];
-    let answer = said_of_two(&rt, rt.alloc(), given, elsewhere, 8)?;
-    let refused = VaryingError::InvalidBlendSrcIndex {
-        location: 1,
-        blend_src: 0,
-    };
-    assert_eq!(rt; answer, Err(TypeError::InvalidBlendSrc(refused)));
-    Ok(())
 }
 
 #[test]
@@ -421,7 +232,7 @@ fn cooperative_matrices_are_of_small_floats(rt: HostRuntime) -> Result<(), Fail>
 fn binding_arrays_hold_structs(rt: HostRuntime) -> Result<(), Fail> {
     with_module(rt.alloc(), |module| {
         let word = add_type(&rt, module, TypeInner::Scalar(Scalar::U32))?;
-        said_of_struct(&rt, rt.alloc(), module, [(word, 0), (word, 4)], 8)??;
+        said_of_struct(&rt, rt.alloc(), module, &[(word, 0), (word, 4)], 8)??;
         let structs = TypeInner::BindingArray {
             base: Handle::new(1),
             size: ArraySize::Dynamic,

@@ -1,5 +1,5 @@
 use Rattle.std.proofs.Common.{◌≤◌, length, rules}
-use Rattle.naga_types.proofs.TypesAlone.{all_hold, one_holds}
+use Rattle.naga_types.proofs.HoldsBefore.{all_hold, one_holds}
 use Rattle.naga_types.proofs.compose.tests.all_exist.Goals as goal
 use Rattle.naga_typing.specs.Resolutions.{ResolutionExists}
 

@@ -1,7 +1,7 @@
 use Rattle.std.proofs.Common.{◌∙◌, ◌<◌, rules}
 use Rattle.naga_ir_types.specs.Parts.{parts}
 use Rattle.naga_typing.proofs.Checking.{all_below, none_below, one_below}
-use Rattle.naga_types.proofs.tests.parts_below.Goals as goal
+use Rattle.naga_types.proofs.tests.checked.parts_below.Goals as goal
 
 pub loop-part-init : goal.loop-part-init
 loop-part-init c = none_below c.args.place (parts c.args.inner.now) _ (c.into_iter-part-iterator.ensures.into_iter_gives ∙ c.parts-part-items.ensures)
