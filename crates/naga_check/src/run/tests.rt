@@ -125,22 +125,12 @@ fn is_reported(rt: &impl Abort, alloc: Global, text: &str, want: &str, code: u8)
 }
 
 #[test]
-fn arrays_and_pointers_are_reported_on(rt: HostRuntime) {
+fn arrays_are_reported_on(rt: HostRuntime) {
     for (text, want, code) in [
         (
             "type atomic uint 4\ntype array 0 4 4\n",
             "T0 33 4 4\nT1 33 ArrayStride 4\nok\n",
             0,
-        ),
-        (
-            "type scalar uint 4\ntype array 0 dyn 4\ntype pointer 1 storage\ntype pointer 0 function\n",
-            "T0 ff 4 4\nT1 35 ArrayStride 4\nT2 26 1 1\nT3 66 1 1\nok\n",
-            0,
-        ),
-        (
-            "type scalar uint 4\ntype array 0 dyn 4\ntype pointer 1 private\n",
-            "refused type T2 InvalidPointerToUnsized\n",
-            1,
         ),
         (
             "type scalar uint 4\ntype array 0 o3 4\n",
@@ -158,9 +148,32 @@ fn arrays_and_pointers_are_reported_on(rt: HostRuntime) {
             1,
         ),
         (
+            "type scalar float 4\ntype array 0 4 4\n",
+            "T0 ff 4 4\nT1 f7 ArrayStride 4\nok\n",
+            0,
+        ),
+        (
             "type scalar float 4\ntype array 0 4 0\n",
             "T0 ff 4 4\nT1 f7 16 4\nok\n",
             0,
+        ),
+    ] {
+        assert!(rt; is_reported(&rt, rt.alloc(), text, want, code), "{text:?}");
+    }
+}
+
+#[test]
+fn pointers_and_binding_arrays_are_reported_on(rt: HostRuntime) {
+    for (text, want, code) in [
+        (
+            "type scalar uint 4\ntype array 0 dyn 4\ntype pointer 1 storage\ntype pointer 0 function\n",
+            "T0 ff 4 4\nT1 35 ArrayStride 4\nT2 26 1 1\nT3 66 1 1\nok\n",
+            0,
+        ),
+        (
+            "type scalar uint 4\ntype array 0 dyn 4\ntype pointer 1 private\n",
+            "refused type T2 InvalidPointerToUnsized\n",
+            1,
         ),
         (
             "type scalar float 4\ntype struct 4 0:0\ntype bindingarray 1 4\n",
@@ -186,10 +199,33 @@ fn structs_are_reported_on(rt: HostRuntime) {
             0,
         ),
         (
+            "type scalar float 4\ntype vector 4 float 4\ntype struct 32 0:0 1:16\n",
+            "T0 ff 4 4\nT1 ff 16 16\nT2 f7 16 16\nok\n",
+            0,
+        ),
+        (
             "type scalar uint 4\ntype array 0 dyn 16\ntype struct 32 0:0 1:16\n",
             "T0 ff 4 4\nT1 35 16 4\nT2 35 UnsizedMember 4\nok\n",
             0,
         ),
+        (
+            "type scalar float 4\ntype struct 8 0:0 0:0\n",
+            "T0 ff 4 4\nT1 e7 16 4\nok\n",
+            0,
+        ),
+        (
+            "type scalar float 4\ntype vector 4 float 4\ntype struct 16 1:0\ntype struct 32 2:16 0:0\n",
+            "T0 ff 4 4\nT1 ff 16 16\nT2 f7 16 16\nT3 e7 MemberOffsetAfterStruct 16\nok\n",
+            0,
+        ),
+    ] {
+        assert!(rt; is_reported(&rt, rt.alloc(), text, want, code), "{text:?}");
+    }
+}
+
+#[test]
+fn refused_structs_are_reported_on(rt: HostRuntime) {
+    for (text, want, code) in [
         (
             "type scalar uint 4\ntype array 0 dyn 4\ntype struct 8 1:0 0:4\n",
             "refused type T2 InvalidDynamicArray\n",
@@ -201,21 +237,24 @@ fn structs_are_reported_on(rt: HostRuntime) {
             1,
         ),
         (
+            "type scalar uint 4\ntype struct 4294967295 0:4294967295\n",
+            "refused type T1 MemberOutOfBounds\n",
+            1,
+        ),
+        (
             "type scalar float 4\ntype struct 8 0:0 0:2\n",
             "refused type T1 MemberOverlap\n",
             1,
         ),
-        (
-            "type scalar float 4\ntype struct 8 0:0 0:0\n",
-            "T0 ff 4 4\nT1 e7 16 4\nok\n",
-            0,
-        ),
         ("type struct 4\n", "refused type T0 EmptyStruct\n", 1),
-        (
-            "type scalar float 4\ntype vector 4 float 4\ntype struct 16 1:0\ntype struct 32 2:16 0:0\n",
-            "T0 ff 4 4\nT1 ff 16 16\nT2 f7 16 16\nT3 e7 MemberOffsetAfterStruct 16\nok\n",
-            0,
-        ),
+    ] {
+        assert!(rt; is_reported(&rt, rt.alloc(), text, want, code), "{text:?}");
+    }
+}
+
+#[test]
+fn sources_of_blending_are_reported_on(rt: HostRuntime) {
+    for (text, want, code) in [
         (
             "caps 53248\ntype vector 4 float 4\ntype struct 32 0:0:0:0 0:16:0:1\n",
             "T0 ff 16 16\nT1 ff 16 16\nok\n",
@@ -259,6 +298,11 @@ fn opaque_types_are_reported_on(rt: HostRuntime) {
             "caps 68719476736\ntype coop 8 8 float 2 A\n",
             "T0 f7 2 2\nok\n",
             0,
+        ),
+        (
+            "caps 68719476736\ntype coop 8 8 float 2 A\ntype scalar float 2\n",
+            "refused type T1 WidthError\n",
+            1,
         ),
         (
             "type valuepointer 0 float 4 uniform\n",
