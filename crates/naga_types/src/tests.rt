@@ -3,7 +3,6 @@
 ghost use Rattle.naga_ir.specs.Handles.{GlobalReferencesOk};
 ghost use Rattle.naga_ir.specs.ItemReferences.{global_lists};
 
-pub(crate) mod checked;
 mod forms;
 mod pending;
 mod refused_memory;
@@ -14,9 +13,9 @@ use crate::error::{Disalignment, TypeError};
 use crate::info::{TypeContext, TypeInfo, TypeInfos};
 use crate::validate::validate_type;
 use bitflags::Flags;
-use checked::references_ok;
 use naga_flags::flags::{Capabilities, TypeFlags};
 use naga_flags::width::{ImmediateError, WidthError};
+use naga_handles::handles::validate_module_handles;
 use naga_ir::alignment::Alignment;
 use naga_ir::handle::Handle;
 use naga_ir::ir::Module;
@@ -53,10 +52,10 @@ pub(crate) fn add_type(
 }
 
 /// Makes sure that references in a module exist and go back.
-pub(crate) fn assert_references_ok(rt: &impl Abort, module: &Module)
+pub(crate) fn assert_references_ok(rt: &impl Abort, alloc: Global, module: &Module)
     ensures { GlobalReferencesOk (global_lists «module».now) }
 {
-    assert!(rt; references_ok(to_ctx(module)));
+    assert!(rt; validate_module_handles(alloc, module).is_ok());
 }
 
 /// What is known of the last type of a module, where all its types are judged one after another, or
@@ -68,7 +67,7 @@ pub(crate) fn judged_with(
     overrides_resolved: bool,
     module: &Module,
 ) -> Result<Result<TypeInfo, TypeError>, OutOfMemory> {
-    assert_references_ok(rt, module);
+    assert_references_ok(rt, alloc, module);
     let mut layouter = Layouter::new(alloc);
     if let Err(error) = layouter.update(to_ctx(module)) {
         assert_eq!(rt; error.inner, LayoutErrorInner::OutOfMemory);

@@ -58,11 +58,11 @@ impl Model for Validator {
     ghost Value = { State };
 
     ghost view = { λ v. record {
-        flags = v.flags;
-        capabilities = v.capabilities;
-        subgroup_stages = v.subgroup_stages;
-        subgroup_operations = v.subgroup_operations;
-        infos = v.infos.infos;
+      flags = v.flags;
+      capabilities = v.capabilities;
+      subgroup_stages = v.subgroup_stages;
+      subgroup_operations = v.subgroup_operations;
+      infos = v.infos.infos;
     } };
 }
 

@@ -5,7 +5,6 @@ ghost use Rattle.naga_typing.specs.Resolutions.{ResolutionExists};
 
 use super::{type_at, validate_compose, validate_compose_at};
 use crate::error::ComposeError;
-use crate::tests::checked::parts_below;
 use crate::tests::{add_type, assert_references_ok, with_module};
 use naga_ir::handle::Handle;
 use naga_ir::ir::Module;
@@ -20,13 +19,13 @@ use std::num::NonZeroU32;
 use std::process::Abort;
 use std::test::Fail;
 
-/// Whether what a resolution names is there.
+/// Whether what a resolution names is there. A form that is given as a value names nothing in tests.
 fn exists(resolution: &TypeResolution, types: &UniqueArena) -> bool
     ensures { IsTrue result → ResolutionExists types.now resolution.now }
 {
     match resolution {
         TypeResolution::Handle(handle) => handle.index() < types.len(),
-        TypeResolution::Value(inner) => parts_below(inner, types.len()),
+        TypeResolution::Value(inner) => inner.parts().next().is_none(),
     }
 }
 
@@ -44,27 +43,27 @@ fn all_exist(resolutions: &[TypeResolution], types: &UniqueArena) -> bool
 
 /// What is said of components of a type of a module.
 fn said_of(
-    rt: &impl Abort,
+    rt: &(impl AllocGlobal + Abort),
     module: &Module,
     ty: Handle<TypeTag>,
     components: &[TypeResolution],
 ) -> Result<(), ComposeError> {
     assert!(rt; ty.index() < module.types.len());
-    assert_references_ok(rt, module);
+    assert_references_ok(rt, rt.alloc(), module);
     assert!(rt; all_exist(components, &module.types));
     validate_compose(ty, to_ctx(module), components)
 }
 
 /// What is said of two components of a type of a module, given the types of expressions.
 fn said_at(
-    rt: &impl Abort,
+    rt: &(impl AllocGlobal + Abort),
     module: &Module,
     ty: Handle<TypeTag>,
     [first, second]: [Handle<ExpressionTag>; 2],
     types: &[TypeResolution],
 ) -> Result<(), ComposeError> {
     assert!(rt; ty.index() < module.types.len());
-    assert_references_ok(rt, module);
+    assert_references_ok(rt, rt.alloc(), module);
     assert!(rt; all_exist(types, &module.types));
     assert!(rt; first.index() < types.len());
     assert!(rt; second.index() < types.len());
@@ -78,7 +77,7 @@ fn of(ty: Handle<TypeTag>) -> TypeResolution {
 
 /// What is said of two components of a type of a module.
 fn said_of_two(
-    rt: &impl Abort,
+    rt: &(impl AllocGlobal + Abort),
     module: &Module,
     ty: Handle<TypeTag>,
     first: Handle<TypeTag>,

@@ -39,9 +39,7 @@ fn capabilities_say_who_uses_subgroups(rt: HostRuntime) {
 
 #[test]
 fn settings_outlast_modules(rt: HostRuntime) -> Result<(), Fail> {
-    with_module(rt.alloc(), |module| {
-        outlast(&rt, rt.alloc(), module)
-    })
+    with_module(rt.alloc(), |module| { outlast(&rt, rt.alloc(), module) })
 }
 
 /// Makes sure that what is set stays so when an empty module is accepted, and after a reset.
