@@ -106,13 +106,14 @@ module _ {X A E : Type 0} (items : List X) (results : List (Result A E)) where
       by_rest [] e w (o ∷ others) r =
           absurd (omega (arith, ap length r, length-append oks (o ∷ others), length-map done (λ a. let ok : Result A E = Ok a in ok), ap length w, ap length (append-nil p.front), p.place, same))
 
-  pub refused : (done : List A) (left : List (ℕ × X)) (n : ℕ) (x : X) (more : List (ℕ × X)) (error : E)
-      → Progress done left → left ≡ (n, x) ∷ more → slice_get results n ≡ Some (Err error) → IsFirstRefusal results n error
-  refused done left n x more error p e at =
+  -- the items before the one that comes next are accepted
+  pub accepted_before : (done : List A) (left : List (ℕ × X)) (n : ℕ) (x : X) (more : List (ℕ × X)) → Progress done left → left ≡ (n, x) ∷ more → All IsOk (take n results)
+  accepted_before done left n x more p e =
       let oks : List (Result A E) = map Ok done in
       let s = next done left n x more p e in
       let number : n ≡ length oks = s.number ∙ sym (length-map done Ok) in
-      record {
-        refused = at;
-        accepted_before = subst (All IsOk) (sym (ap (take n) p.answers ∙ ap (λ k. take k (oks ++ p.others)) number ∙ take-append_seam oks p.others)) (all_ok E done);
-      }
+      subst (All IsOk) (sym (ap (take n) p.answers ∙ ap (λ k. take k (oks ++ p.others)) number ∙ take-append_seam oks p.others)) (all_ok E done)
+
+  pub refused : (done : List A) (left : List (ℕ × X)) (n : ℕ) (x : X) (more : List (ℕ × X)) (error : E)
+      → Progress done left → left ≡ (n, x) ∷ more → slice_get results n ≡ Some (Err error) → IsFirstRefusal results n error
+  refused done left n x more error p e at = record { refused = at; accepted_before = accepted_before done left n x more p e }

@@ -1,10 +1,10 @@
 -- Going through items in their order and working out a value for each, as far as a rule accepts them.
-use Rattle.std.proofs.Common.{◌≡◌, ◌+◌, ℕ, List, [], ◌∷◌, ◌++◌, Some, All, IsOk, Ok, Err, Result, length, map, slice_get, refl, sym, subst, ap, ◌∙◌, arith, length-append}
+use Rattle.std.proofs.Common.{◌≡◌, ◌+◌, ℕ, List, [], ◌∷◌, ◌++◌, Some, All, IsOk, Ok, Err, Result, length, map, slice_get, take, refl, sym, subst, ap, ◌∙◌, arith, length-append}
 use Rattle.std.specs.List.{enumerate_from}
 use Rattle.std.specs.Option.{option_map}
 use Rattle.std.proofs.lemmas.List.{length-map}
 use Rattle.std.proofs.lemmas.Option.{slice_get-map}
-use Rattle.naga_arena.proofs.Progress.{Progress, accepted_ok, begun, ended, number, refused, stands, went_on}
+use Rattle.naga_arena.proofs.Progress.{Progress, accepted_before, accepted_ok, begun, ended, number, refused, stands, went_on}
 use Rattle.naga_arena.specs.Results.{AllAccepted, IsFirstRefusal}
 use Rattle.naga_typing.specs.WorkedOut.{WorkedOut}
 use Rattle.naga_typing.proofs.WorkedOut.{LooksBack, SoFar, all_worked_out, one_further}
@@ -49,6 +49,10 @@ module _ {X V E : Type 0} (rule : List V → X → V) (accepts : X → Result (U
       as_many = length-append values (rule values x ∷ []) ∙ ap (λ k. k + 1) w.as_many ∙ sym (length-append w.done (tt ∷ []));
       so_far = one_further rule items back values x w.so_far (ap (slice_get items) (sym next_place) ∙ next_item);
     })
+
+    -- the items before it are accepted
+    pub before_accepted : All IsOk (take n results)
+    before_accepted = accepted_before items results w.done left n x more w.progress e
 
     -- when it is refused, it is the first
     pub first_refused : (error : E) → accepts x ≡ Err error → IsFirstRefusal results n error

@@ -48,6 +48,11 @@ abbrev pub IsProperResolution : TypeResolution → Type 0
 IsProperResolution (Handle t) = ⊤
 IsProperResolution (Value inner) = IsValueForm inner
 
+-- a struct is given as a value
+abbrev pub IsStructValue : TypeResolution → Type 0
+IsStructValue (Handle t) = ⊥
+IsStructValue (Value inner) = IsStruct inner
+
 -- a pointer to a scalar or to a vector is written as a value pointer
 abbrev pub pointer_to : ℕ → AddressSpace → Option TypeInner → TypeInner
 pointer_to base space (Some (Scalar scalar)) = ValuePointer None scalar space

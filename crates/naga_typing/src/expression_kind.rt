@@ -1,6 +1,6 @@
 //! When the values of expressions are known.
 
-ghost use Rattle.std.specs.Prelude.{◌≡◌, ◌↔◌, ◌<◌, Contains, IfOk, IsTrue, length, slice_get, ℕ};
+ghost use Rattle.std.specs.Prelude.{◌≡◌, ◌↔◌, ◌<◌, [], Contains, IfOk, IsOk, IsTrue, length, slice_get, ℕ};
 ghost use Rattle.naga_ir.specs.Handles.{GoBack, OrderedOperands};
 ghost use Rattle.naga_ir.specs.References as references;
 ghost use Rattle.naga_typing.specs.Kinds as spec;
@@ -47,14 +47,15 @@ impl ExpressionKindTracker {
     /// `As`, `Select`, `Relational` and `ArrayLength` are known as late as the latest of their
     /// operands; all else is `Runtime`. The rule is naga's.
     ///
-    /// `OutOfMemory` where memory was refused. The cost is linear in the expressions and their
-    /// operands.
+    /// `OutOfMemory` where memory was refused, which is asked where there are expressions. The cost is
+    /// linear in the expressions and their operands.
     pub fn from_arena(
         alloc: Global,
         arena: &Arena<Expression, ExpressionTag>,
     ) -> Result<ExpressionKindTracker, OutOfMemory>
         requires { GoBack (OrderedOperands arena.now) }
-        ensures { IfOk result (WorkedOut spec.kind_of arena.now) }
+        ensures kinds { IfOk result (WorkedOut spec.kind_of arena.now) }
+        ensures none { arena.now ≡ [] → IsOk result }
     {
         let mut tracker = ExpressionKindTracker {
             inner: Vec::new(alloc),

@@ -15,5 +15,5 @@ loop-expression-preserved c =
     let now : c.push.new.self.items ≡ c.loop-expression.tracker ++ kind_of c.loop-expression.tracker c.in-Some.expression.now ∷ [] = search rules in
     further kind_of accepts c.args.arena.now _ _ _ _ _ c.loop-expression.invariant c.in-Some.ensures.steps (kinds_look_back c.args.arena.now c.requires) _ refl now
 
-pub returns : goal.returns
-returns c = all_have_values kind_of accepts c.args.arena.now _ _ c.loop-expression.invariant c.in-None.ensures.steps.0
+pub returns-clause-kinds : goal.returns-clause-kinds
+returns-clause-kinds c = all_have_values kind_of accepts c.args.arena.now _ _ c.loop-expression.invariant c.in-None.ensures.steps.0

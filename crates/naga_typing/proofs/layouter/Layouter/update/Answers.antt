@@ -1,4 +1,4 @@
-use Rattle.std.proofs.Common.{◌≡◌, ◌<◌, ◌⊎◌, Err, length, subst, sym, ◌∙◌, inl, inr, ⊎_elim}
+use Rattle.std.proofs.Common.{◌≡◌, ◌<◌, ◌⊎◌, All, Err, IsOk, length, take, subst, sym, ◌∙◌, inl, inr, ⊎_elim}
 use Rattle.std.proofs.lemmas.Option.{slice_get_within}
 use Rattle.naga_arena.specs.Results.{IsFirstRefusal}
 use Rattle.naga_typing.specs.Context.{lists_of}
@@ -8,7 +8,7 @@ use Rattle.naga_typing.specs.declared.layouter.LayoutErrorInner.TheVariants.{Out
 use Rattle.naga_typing.proofs.Laying.{accepts, all_laid_out, next_parts}
 use Rattle.naga_typing.proofs.Layouts.{layouts_look_back}
 use Rattle.naga_typing.proofs.Named.{references_exist}
-use Rattle.naga_typing.proofs.Working.{first_refused, further, next_item, started}
+use Rattle.naga_typing.proofs.Working.{before_accepted, first_refused, further, next_item, started}
 use Rattle.naga_typing.proofs.layouter.Layouter.update.Goals as goal
 
 pub loop-ty-init : goal.loop-ty-init
@@ -39,6 +39,12 @@ returns-in-Err-clause-place c =
     let g = lists_of c.args.gctx in
     let at = next_item (layout_of g) (accepts g) g.types _ _ _ _ _ c.loop-ty.invariant c.in-Some.ensures.steps in
     subst (λ (e : LayoutError). e.ty < length g.types) (sym c.with.ensures) (slice_get_within g.types c.in-Some.ty c.in-Some.type_.now at)
+
+pub returns-in-Err-clause-before : goal.returns-in-Err-clause-before
+returns-in-Err-clause-before c =
+    let g = lists_of c.args.gctx in
+    let before = before_accepted (layout_of g) (accepts g) g.types _ _ _ _ _ c.loop-ty.invariant c.in-Some.ensures.steps in
+    subst (λ (e : LayoutError). All IsOk (take e.ty (layout_results g))) (sym c.with.ensures) before
 
 pub loop-ty-preserved : goal.loop-ty-preserved
 loop-ty-preserved c =
