@@ -1,6 +1,6 @@
 //! Why a type is refused, and why it has no layout that a host may share.
 
-ghost use Rattle.std.specs.Prelude.{◌≡◌};
+ghost use Rattle.std.specs.Prelude.{◌≡◌, codes, if◌then◌else◌};
 ghost use Rattle.naga_types.specs.Layouts as layouts;
 
 use naga_flags::flags::Capabilities;
@@ -212,7 +212,9 @@ pub enum TypeError {
 }
 
 /// What images are called in an error.
-fn images(arrayed: &bool) -> &'static str {
+fn images(arrayed: &bool) -> &'static str
+    ensures { result.now ≡ (if arrayed.now then codes "Arrayed images" else codes "Images") }
+{
     if *arrayed { "Arrayed images" } else { "Images" }
 }
 
