@@ -1,4 +1,3 @@
-pub mod CheckedReferences
 pub mod Checking
 pub mod FormOperands
 pub mod Greatest

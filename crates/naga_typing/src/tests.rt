@@ -3,7 +3,7 @@
 ghost use Rattle.naga_ir.specs.Handles.{GlobalReferencesOk};
 ghost use Rattle.naga_ir.specs.ItemReferences.{global_lists};
 
-use crate::context::to_ctx;
+use naga_handles::handles::validate_module_handles;
 use naga_ir::expression::Expression;
 use naga_ir::handle::Handle;
 use naga_ir::ir::{Constant, Module, Override};
@@ -14,15 +14,12 @@ use naga_ir::types::{Type, TypeInner};
 use std::alloc::Global;
 use std::process::Abort;
 
-mod checked;
 mod constants;
 mod kinds;
 mod layouts;
 mod refused_memory;
 mod sizes;
 mod typings;
-
-use checked::references_ok;
 
 /// What `judge` makes of a module, which is empty at first. No other function here owns a module, since
 /// each exit of a function drops what it owns, and the proof goes through each.
@@ -34,10 +31,10 @@ fn with_module<R, F: FnOnce(&mut Module) -> R>(alloc: Global, judge: F) -> R
 }
 
 /// Makes sure that references in a module exist and go back.
-fn assert_references_ok(rt: &impl Abort, module: &Module)
+fn assert_references_ok(rt: &impl Abort, alloc: Global, module: &Module)
     ensures { GlobalReferencesOk (global_lists «module».now) }
 {
-    assert!(rt; references_ok(to_ctx(module)));
+    assert!(rt; validate_module_handles(alloc, module).is_ok());
 }
 
 /// Adds a type without a name.

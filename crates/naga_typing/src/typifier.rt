@@ -3,7 +3,7 @@
 ghost use Rattle.std.specs.Prelude.{◌≡◌, ◌↔◌, IfOk, IsFalse, IsOk, IsTrue, OnErr, Some, unwrap_or};
 ghost use Rattle.naga_ir_types.specs.TypeWords.{IsNoStruct, IsStruct};
 ghost use Rattle.naga_typing.specs.Resolutions as spec;
-ghost use Rattle.naga_typing.specs.Resolutions.{AllPartsExist, AreSameTypes, IsProperResolution, IsStructValue, PartsExist, ResolutionExists, inner_in};
+ghost use Rattle.naga_typing.specs.Resolutions.{AllPartsExist, AreSameTypes, IsStructValue, PartsExist, ResolutionExists, inner_in};
 ghost use Rattle.naga_typing.specs.Sameness.{are_same};
 
 use naga_ir::handle::Handle;
@@ -48,7 +48,6 @@ impl TypeResolution {
     /// says that it was refused.
     pub fn try_clone(&self) -> Result<TypeResolution, OutOfMemory>
         ensures copy { IfOk result (λ copy. copy ≡ self.now) }
-        ensures proper { IsProperResolution self.now → IsOk result }
         ensures memory { OnErr result (IsStructValue self.now) }
     {
         Ok(match self {

@@ -1,5 +1,5 @@
 -- Going through items in their order: how many have been passed, and what is left.
-use Rattle.std.proofs.Common.{◌≡◌, ◌+◌, ℕ, List, [], ◌∷◌, ◌++◌, Some, Ok, Result, length, map, slice_get, refl, sym, subst, ap, ◌∙◌, length-append}
+use Rattle.std.proofs.Common.{◌≡◌, ◌+◌, ℕ, List, [], ◌∷◌, ◌++◌, Some, Ok, Result, length, map, slice_get, refl, sym, ap, ◌∙◌, length-append}
 use Rattle.std.specs.List.{enumerate_from}
 use Rattle.std.specs.Option.{option_map}
 use Rattle.std.proofs.lemmas.List.{length-map}

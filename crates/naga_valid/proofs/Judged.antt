@@ -1,5 +1,5 @@
 -- Infos, one after another, each by those before it.
-use Rattle.std.proofs.Common.{◌≡◌, ◌<◌, ◌≤◌, ⊎_elim, ℕ, List, [], ◌∷◌, ◌++◌, Some, Ok, Err, Result, IfSome, length, slice_get, take, refl, sym, subst, ap, ◌∙◌, arith, length-append}
+use Rattle.std.proofs.Common.{◌≡◌, ◌<◌, ◌≤◌, ⊎_elim, ℕ, List, [], ◌∷◌, ◌++◌, Some, Ok, Err, Result, IfSome, length, slice_get, take, sym, subst, ap, ◌∙◌, arith, length-append}
 use Rattle.std.proofs.Math.Nat.{eq-or-lt_of_le}
 use Rattle.std.proofs.lemmas.List.{take-append-le, take_all}
 use Rattle.std.proofs.lemmas.Option.{same_Some, slice_get_within}

@@ -14,11 +14,12 @@ use std::test::Fail;
 /// The index that a global expression of a module gives.
 fn index_at(
     rt: &impl Abort,
+    alloc: Global,
     module: &Module,
     expression: Handle<ExpressionTag>,
 ) -> Result<u32, ConstValueError> {
     assert!(rt; expression.index() < module.global_expressions.len());
-    assert_references_ok(rt, module);
+    assert_references_ok(rt, alloc, module);
     get_const_val_from(expression, &module.global_expressions, to_ctx(module))
 }
 
@@ -30,7 +31,7 @@ fn index_of(
 ) -> Result<Result<u32, ConstValueError>, Fail> {
     with_module(alloc, |module| {
         let literal = add(rt, module, Expression::Literal(literal))?;
-        Ok(index_at(rt, module, literal))
+        Ok(index_at(rt, alloc, module, literal))
     })
 }
 
@@ -75,11 +76,11 @@ fn add_zeros(rt: &impl Abort, module: &mut Module) -> Result<[Handle<ExpressionT
 fn zeros_of_scalar_types_are_indexes(rt: HostRuntime) -> Result<(), Fail> {
     with_module(rt.alloc(), |module| {
         let [word, float, vector, splat] = add_zeros(&rt, module)?;
-        assert_eq!(rt; index_at(&rt, module, word), Ok(0));
-        let error = index_at(&rt, module, float);
+        assert_eq!(rt; index_at(&rt, rt.alloc(), module, word), Ok(0));
+        let error = index_at(&rt, rt.alloc(), module, float);
         assert_eq!(rt; error, Err(ConstValueError::InvalidType));
         for other in [vector, splat] {
-            let error = index_at(&rt, module, other);
+            let error = index_at(&rt, rt.alloc(), module, other);
             assert_eq!(rt; error, Err(ConstValueError::NonConst));
         }
         Ok(())
@@ -101,8 +102,8 @@ fn add_constants(rt: &impl Abort, module: &mut Module) -> Result<[Handle<Express
 fn a_constant_of_a_constant_is_no_index(rt: HostRuntime) -> Result<(), Fail> {
     with_module(rt.alloc(), |module| {
         let [named, renamed] = add_constants(&rt, module)?;
-        assert_eq!(rt; index_at(&rt, module, named), Ok(5));
-        let error = index_at(&rt, module, renamed);
+        assert_eq!(rt; index_at(&rt, rt.alloc(), module, named), Ok(5));
+        let error = index_at(&rt, rt.alloc(), module, renamed);
         assert_eq!(rt; error, Err(ConstValueError::NonConst));
         Ok(())
     })

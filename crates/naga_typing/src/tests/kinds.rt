@@ -13,7 +13,7 @@ use std::alloc::Global;
 use std::process::Abort;
 use std::test::Fail;
 
-/// Adds a literal, an override, a sum of each with the literal, a variable, and a splat of it.
+/// Adds a literal, an override, a sum of each with the literal, an argument, and a splat of it.
 fn add_expressions(rt: &impl Abort, module: &mut Module) -> Result<(), Fail> {
     let ty = add_type(rt, module, TypeInner::Scalar(Scalar::U32))?;
     let over = add_override(rt, module, ty, None)?;
@@ -24,7 +24,7 @@ fn add_expressions(rt: &impl Abort, module: &mut Module) -> Result<(), Fail> {
         let left = literal;
         add(rt, module, Expression::Binary { op, left, right })?;
     }
-    let value = add(rt, module, Expression::GlobalVariable(Handle::new(0)))?;
+    let value = add(rt, module, Expression::FunctionArgument(0))?;
     let size = VectorSize::Bi;
     add(rt, module, Expression::Splat { size, value })?;
     Ok(())
@@ -38,7 +38,7 @@ pub(super) fn kinds_of(
 ) -> Result<ExpressionKindTracker, OutOfMemory>
     ensures { IfOk result (λ kinds. length kinds ≡ length «module».now.global_expressions) }
 {
-    assert_references_ok(rt, module);
+    assert_references_ok(rt, alloc, module);
     ExpressionKindTracker::from_arena(alloc, &module.global_expressions)
 }
 

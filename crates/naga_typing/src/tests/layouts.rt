@@ -37,7 +37,7 @@ fn matrix(columns: VectorSize, rows: VectorSize, scalar: Scalar) -> TypeInner {
 fn laid_out(rt: &impl Abort, alloc: Global, module: &Module) -> Result<Layouter, LayoutError>
     ensures { IfOk result (λ layouter. length layouter ≡ length «module».now.types) }
 {
-    assert_references_ok(rt, module);
+    assert_references_ok(rt, alloc, module);
     let mut layouter = Layouter::new(alloc);
     layouter.update(to_ctx(module))?;
     Ok(layouter)
@@ -187,7 +187,7 @@ fn lay_out_width(
 ) -> Result<(), Fail> {
     with_module(alloc, |module| {
         add_type(rt, module, scalar(ScalarKind::Uint, width))?;
-        assert_references_ok(rt, module);
+        assert_references_ok(rt, alloc, module);
         Ok(layouter.update(to_ctx(module))?)
     })
 }

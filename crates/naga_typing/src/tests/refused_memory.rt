@@ -36,7 +36,7 @@ fn are_layouts_refused(
     rt: &(impl AllocGlobal + Abort),
     module: &Module,
 ) -> Result<bool, OutOfMemory> {
-    assert_references_ok(rt, module);
+    assert_references_ok(rt, rt.alloc(), module);
     let mut layouter = Layouter::new(rt.alloc());
     let Err(error) = layouter.update(to_ctx(module)) else {
         return Ok(false);

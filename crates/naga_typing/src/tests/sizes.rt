@@ -19,9 +19,9 @@ use std::process::Abort;
 use std::test::Fail;
 
 /// The size of a type of a module.
-fn size_at(rt: &impl Abort, module: &Module, ty: Handle<TypeTag>) -> Option<u32> {
+fn size_at(rt: &impl Abort, alloc: Global, module: &Module, ty: Handle<TypeTag>) -> Option<u32> {
     assert!(rt; ty.index() < module.types.len());
-    assert_references_ok(rt, module);
+    assert_references_ok(rt, alloc, module);
     let inner = &module.types[ty].inner;
     let known = try_size(inner, to_ctx(module))?;
     assert_eq!(rt; size(inner, to_ctx(module)), known);
@@ -31,11 +31,12 @@ fn size_at(rt: &impl Abort, module: &Module, ty: Handle<TypeTag>) -> Option<u32>
 /// The lengths of a type of a module, before and after overrides have their values.
 fn lengths_at(
     rt: &impl Abort,
+    alloc: Global,
     module: &Module,
     ty: Handle<TypeTag>,
 ) -> [Result<IndexableLength, IndexableLengthError>; 2] {
     assert!(rt; ty.index() < module.types.len());
-    assert_references_ok(rt, module);
+    assert_references_ok(rt, alloc, module);
     let inner = &module.types[ty].inner;
     [
         indexable_length_pending(inner, module),
@@ -74,7 +75,7 @@ fn add_pending(
 fn size_of_array(rt: &impl Abort, alloc: Global, size: ArraySize) -> Result<Option<u32>, Fail> {
     with_module(alloc, |module| {
         let array = add_array(rt, module, size, 16)?;
-        Ok(size_at(rt, module, array))
+        Ok(size_at(rt, alloc, module, array))
     })
 }
 
@@ -104,7 +105,10 @@ fn pending(
 > {
     with_module(alloc, |module| {
         let array = add_pending(rt, module, value)?;
-        Ok((size_at(rt, module, array), lengths_at(rt, module, array)))
+        Ok((
+            size_at(rt, alloc, module, array),
+            lengths_at(rt, alloc, module, array),
+        ))
     })
 }
 
@@ -122,9 +126,9 @@ fn add_pending_constant(rt: &impl Abort, module: &mut Module) -> Result<Handle<T
 fn an_override_may_begin_with_a_constant(rt: HostRuntime) -> Result<(), Fail> {
     with_module(rt.alloc(), |module| {
         let array = add_pending_constant(&rt, module)?;
-        assert_eq!(rt; size_at(&rt, module, array), Some(24));
+        assert_eq!(rt; size_at(&rt, rt.alloc(), module, array), Some(24));
         let lengths = [Ok(IndexableLength::Pending), Ok(IndexableLength::Known(3))];
-        assert_eq!(rt; lengths_at(&rt, module, array), lengths);
+        assert_eq!(rt; lengths_at(&rt, rt.alloc(), module, array), lengths);
         Ok(())
     })
 }
@@ -181,7 +185,7 @@ fn lengths_of(
 ) -> Result<[Result<IndexableLength, IndexableLengthError>; 2], Fail> {
     with_module(alloc, |module| {
         let ty = add_type(rt, module, inner)?;
-        Ok(lengths_at(rt, module, ty))
+        Ok(lengths_at(rt, alloc, module, ty))
     })
 }
 
@@ -238,16 +242,25 @@ fn a_pointer_has_the_length_of_what_stands_behind_it(rt: HostRuntime) -> Result<
     with_module(rt.alloc(), |module| {
         let pointer = add_pointer_to_pointer(&rt, module)?;
         let length = Ok(IndexableLength::Dynamic);
-        assert_eq!(rt; lengths_at(&rt, module, pointer), [length, length]);
+        assert_eq!(rt;
+            lengths_at(&rt, rt.alloc(), module, pointer),
+            [length, length]
+        );
         Ok(())
     })
 }
 
 /// Whether two types of a module are one.
-fn are_one(rt: &impl Abort, module: &Module, lhs: Handle<TypeTag>, rhs: Handle<TypeTag>) -> bool {
+fn are_one(
+    rt: &impl Abort,
+    alloc: Global,
+    module: &Module,
+    lhs: Handle<TypeTag>,
+    rhs: Handle<TypeTag>,
+) -> bool {
     assert!(rt; lhs.index() < module.types.len());
     assert!(rt; rhs.index() < module.types.len());
-    assert_references_ok(rt, module);
+    assert_references_ok(rt, alloc, module);
     compare_types(
         &TypeResolution::Handle(lhs),
         &TypeResolution::Handle(rhs),
@@ -285,11 +298,11 @@ fn a_pointer_to_a_scalar_is_a_value_pointer(rt: HostRuntime) -> Result<(), Fail>
             rt.alloc(),
             module,
         )?;
-        assert!(rt; are_one(&rt, module, pointer, value_pointer));
-        assert!(rt; are_one(&rt, module, structure, structure));
-        assert!(rt; !are_one(&rt, module, structure, other));
-        assert!(rt; !are_one(&rt, module, scalar, pointer));
-        assert!(rt; !are_one(&rt, module, scalar, structure));
+        assert!(rt; are_one(&rt, rt.alloc(), module, pointer, value_pointer));
+        assert!(rt; are_one(&rt, rt.alloc(), module, structure, structure));
+        assert!(rt; !are_one(&rt, rt.alloc(), module, structure, other));
+        assert!(rt; !are_one(&rt, rt.alloc(), module, scalar, pointer));
+        assert!(rt; !are_one(&rt, rt.alloc(), module, scalar, structure));
         Ok(())
     })
 }

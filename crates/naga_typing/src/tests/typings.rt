@@ -84,7 +84,7 @@ fn last_type<T: Typing>(
     typing: &T,
     module: &Module,
 ) -> Result<TypeResolution, ResolveError> {
-    assert_references_ok(rt, module);
+    assert_references_ok(rt, alloc, module);
     let resolutions = resolve_all(typing, alloc, module)?;
     let last = resolutions.as_slice().last().expect(rt, "an expression");
     Ok(last.try_clone()?)

@@ -1,4 +1,4 @@
-use Rattle.std.proofs.Common.{◌≡◌, Bool, ap, subst, sym, refl, inl, inr, ⊎_elim}
+use Rattle.std.proofs.Common.{◌≡◌, ap, subst, sym, refl, inl, inr, ⊎_elim}
 use Rattle.std.proofs.lemmas.Result.{MatchResult-weaker, err_from_is_err_and}
 use Rattle.naga_flags.specs.declared.flags.Capabilities.{Capabilities}
 use Rattle.naga_types.specs.Known.{AreInfos}
