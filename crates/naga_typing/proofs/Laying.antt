@@ -1,17 +1,32 @@
 -- Laying out types in their order.
-use Rattle.std.proofs.Common.{◌≡◌, ◌<◌, ℕ, List, [], ◌∷◌, Result, subst}
+use Rattle.std.proofs.Common.{◌≡◌, ◌<◌, ℕ, Bool, true, false, List, [], ◌∷◌, Result, Ok, Err, if◌then◌else◌, subst}
 use Rattle.naga_ir.specs.Handles.{GlobalReferencesOk}
 use Rattle.naga_ir.specs.ItemReferences.{GlobalLists}
 use Rattle.naga_ir_types.specs.declared.types.«Type».{«Type»}
+use Rattle.naga_ir_types.specs.declared.types.TypeInner.{TypeInner}
+use Rattle.naga_ir_types.specs.declared.types.TypeInner.TheVariants.{Array}
 use Rattle.naga_ir.proofs.Reached.{parts_come_before}
 use Rattle.naga_typing.proofs.Working.{Working, all_have_values, finished, next_item, next_place}
-use Rattle.naga_typing.specs.Layout.{AreLayouts, PartsLaidOut, layout_of, layout_rule}
+use Rattle.naga_typing.specs.Layout.{AreLayouts, PartsLaidOut, layout_of, layout_rule, size_rule}
 use Rattle.naga_typing.specs.declared.layouter.LayoutErrorInner.{LayoutErrorInner}
+use Rattle.naga_typing.specs.declared.layouter.LayoutErrorInner.TheVariants.{NonPowerOfTwoWidth, OutOfMemory, TooLarge}
 use Rattle.naga_typing.specs.declared.layouter.TypeLayout.{TypeLayout}
 
 module _ (g : GlobalLists) where
   abbrev pub accepts : «Type» → Result (Unit {0}) LayoutErrorInner
   accepts t = layout_rule g t.inner
+
+  either : (b : Bool) (r other : Result (Unit {0}) LayoutErrorInner) → ¬ (r ≡ Err OutOfMemory) → ¬ (other ≡ Err OutOfMemory) → ¬ ((if b then r else other) ≡ Err OutOfMemory)
+  either true r other n m = n
+  either false r other n m = m
+
+  sized : (inner : TypeInner) → ¬ (size_rule g inner ≡ Err OutOfMemory)
+  sized (Array base size stride) = either _ (Ok tt) (Err TooLarge) (λ e. absurd (cc)) (λ e. absurd (cc))
+  sized _ = λ e. absurd (cc)
+
+  -- no rule refuses memory
+  pub never_for_memory : (inner : TypeInner) → ¬ (layout_rule g inner ≡ Err OutOfMemory)
+  never_for_memory inner = either _ (size_rule g inner) (Err NonPowerOfTwoWidth) (sized inner) (λ e. absurd (cc))
 
   -- the types so far have these layouts, and these types are left
   abbrev pub Laying : List TypeLayout → List (ℕ × «Type») → Type 0

@@ -38,7 +38,8 @@ module _ {X V E : Type 0} (rule : List V → X → V) (accepts : X → Result (U
     pub next_place : n ≡ length values
     next_place = number items results w.done left n x more w.progress e ∙ sym w.as_many
 
-    answered : (r : Result (Unit {0}) E) → accepts x ≡ r → slice_get results n ≡ Some r
+    -- what is answered of it
+    pub answered : (r : Result (Unit {0}) E) → accepts x ≡ r → slice_get results n ≡ Some r
     answered r is = slice_get-map accepts items n ∙ ap (option_map accepts) next_item ∙ ap Some is
 
     -- when it is accepted, its value comes behind the others

@@ -1,6 +1,6 @@
 //! The sizes and alignments of a module's types.
 
-ghost use Rattle.std.specs.Prelude.{◌≡◌, ◌*◌, ◌<◌, [], ◌∷◌, ◌++◌, All, length, map, IfSome, is_some, take, IfErr, IsOk, MatchResult, OnErr, Ok, Err};
+ghost use Rattle.std.specs.Prelude.{◌≡◌, ◌*◌, ◌<◌, [], ◌∷◌, ◌++◌, All, length, map, slice_get, IfSome, is_some, take, IfErr, IsOk, MatchResult, OnErr, Ok, Err, Some};
 ghost use Rattle.std.specs.Int.{is_power_of_two};
 ghost use Rattle.naga_arena.specs.Memory.{AnsweredOrRefused};
 ghost use Rattle.naga_arena.specs.Results.{IsFirstRefusal};
@@ -144,13 +144,14 @@ impl Layouter {
     /// `LayoutError` names the first type that has no layout: an array of more than `MAX_TYPE_SIZE`
     /// bytes (`TooLarge`), or a scalar, vector, matrix, cooperative matrix or atomic with a width
     /// that is no power of two (`NonPowerOfTwoWidth`); or the type at which memory was refused, where
-    /// those before it can be laid out. It leaves no layouts. The cost is linear in the types and
-    /// their members.
+    /// it and those before it can be laid out. It leaves no layouts. The cost is linear in the types
+    /// and their members.
     pub fn update(&mut self, gctx: GlobalCtx<'_>) -> Result<(), LayoutError>
         requires { GlobalReferencesOk (lists_of gctx) }
         ensures answer { AnsweredOrRefused (λ e. e.inner ≡ LayoutErrorInner.OutOfMemory) result (λ _. AreLayouts (lists_of gctx.entry) self.new)
             (λ e. IsFirstRefusal (layout_results (lists_of gctx.entry)) e.ty e.inner) }
         ensures place { IfErr result (λ e. e.ty < length gctx.entry.types.now) }
+        ensures memory { IfErr result (λ e. e.inner ≡ LayoutErrorInner.OutOfMemory → slice_get (layout_results (lists_of gctx.entry)) e.ty ≡ Some (Ok tt)) }
         ensures before { IfErr result (λ e. All IsOk (take e.ty (layout_results (lists_of gctx.entry)))) }
         ensures cleared { OnErr result (self.new ≡ []) }
     {
@@ -169,7 +170,7 @@ impl Layouter {
         requires laid_out { PartsLaidOut self.old inner.now }
         requires there { ReferencesExist (lists_of gctx) inner.now }
         requires references { GlobalReferencesOk (lists_of gctx) }
-        ensures { AnsweredOrRefused (λ e. e ≡ LayoutErrorInner.OutOfMemory) result
+        ensures { AnsweredOrRefused (λ e. (e ≡ LayoutErrorInner.OutOfMemory) × (layout_rule (lists_of gctx.entry) inner.now ≡ Ok tt)) result
             (λ _. (layout_rule (lists_of gctx.entry) inner.now ≡ Ok tt) × (self.new ≡ self.old ++ layout_of_inner (lists_of gctx.entry) self.old inner.now ∷ []))
             (λ e. layout_rule (lists_of gctx.entry) inner.now ≡ Err e) }
     {

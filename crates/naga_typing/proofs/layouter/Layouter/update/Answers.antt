@@ -1,14 +1,14 @@
-use Rattle.std.proofs.Common.{◌≡◌, ◌<◌, ◌⊎◌, All, Err, IsOk, length, take, subst, sym, ◌∙◌, inl, inr, ⊎_elim}
+use Rattle.std.proofs.Common.{◌≡◌, ◌<◌, ◌⊎◌, All, Err, IsOk, Ok, Some, ap, slice_get, length, take, subst, sym, ◌∙◌, inl, inr, ⊎_elim}
 use Rattle.std.proofs.lemmas.Option.{slice_get_within}
 use Rattle.naga_arena.specs.Results.{IsFirstRefusal}
 use Rattle.naga_typing.specs.Context.{lists_of}
 use Rattle.naga_typing.specs.Layout.{layout_of, layout_results, layout_rule}
 use Rattle.naga_typing.specs.declared.layouter.LayoutError.{LayoutError}
 use Rattle.naga_typing.specs.declared.layouter.LayoutErrorInner.TheVariants.{OutOfMemory}
-use Rattle.naga_typing.proofs.Laying.{accepts, all_laid_out, next_parts}
+use Rattle.naga_typing.proofs.Laying.{accepts, all_laid_out, never_for_memory, next_parts}
 use Rattle.naga_typing.proofs.Layouts.{layouts_look_back}
 use Rattle.naga_typing.proofs.Named.{references_exist}
-use Rattle.naga_typing.proofs.Working.{before_accepted, first_refused, further, next_item, started}
+use Rattle.naga_typing.proofs.Working.{answered, before_accepted, first_refused, further, next_item, started}
 use Rattle.naga_typing.proofs.layouter.Layouter.update.Goals as goal
 
 pub loop-ty-init : goal.loop-ty-init
@@ -28,7 +28,7 @@ pub returns-in-Err-clause-answer : goal.returns-in-Err-clause-answer
 returns-in-Err-clause-answer c =
     let g = lists_of c.args.gctx in
     let said = ⊎_elim
-    (λ (e : c.in-Err.inner ≡ OutOfMemory). inl e)
+    (λ (e : (c.in-Err.inner ≡ OutOfMemory) × (layout_rule g c.in-Some.type_.now.inner ≡ Ok tt)). inl e.0)
     (λ (e : layout_rule g c.in-Some.type_.now.inner ≡ Err c.in-Err.inner).
     inr (first_refused (layout_of g) (accepts g) g.types _ _ _ _ _ c.loop-ty.invariant c.in-Some.ensures.steps _ e))
     c.in-Err.ensures in
@@ -39,6 +39,16 @@ returns-in-Err-clause-place c =
     let g = lists_of c.args.gctx in
     let at = next_item (layout_of g) (accepts g) g.types _ _ _ _ _ c.loop-ty.invariant c.in-Some.ensures.steps in
     subst (λ (e : LayoutError). e.ty < length g.types) (sym c.with.ensures) (slice_get_within g.types c.in-Some.ty c.in-Some.type_.now at)
+
+pub returns-in-Err-clause-memory : goal.returns-in-Err-clause-memory
+returns-in-Err-clause-memory c =
+    let g = lists_of c.args.gctx in
+    let said : c.in-Err.inner ≡ OutOfMemory → layout_rule g c.in-Some.type_.now.inner ≡ Ok tt = λ memory. ⊎_elim
+    (λ (e : (c.in-Err.inner ≡ OutOfMemory) × (layout_rule g c.in-Some.type_.now.inner ≡ Ok tt)). e.1)
+    (λ (e : layout_rule g c.in-Some.type_.now.inner ≡ Err c.in-Err.inner). absurd (never_for_memory g c.in-Some.type_.now.inner (e ∙ ap Err memory)))
+    c.in-Err.ensures in
+    subst (λ (e : LayoutError). e.inner ≡ OutOfMemory → slice_get (layout_results g) e.ty ≡ Some (Ok tt)) (sym c.with.ensures)
+    (λ memory. answered (layout_of g) (accepts g) g.types _ _ _ _ _ c.loop-ty.invariant c.in-Some.ensures.steps (Ok tt) (said memory))
 
 pub returns-in-Err-clause-before : goal.returns-in-Err-clause-before
 returns-in-Err-clause-before c =
