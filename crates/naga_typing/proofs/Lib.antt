@@ -1,4 +1,3 @@
-pub mod Checking
 pub mod FormOperands
 pub mod Greatest
 pub mod LatestKinds

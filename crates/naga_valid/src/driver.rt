@@ -119,7 +119,8 @@ impl Validator {
 
     /// Has these stages use subgroups, and no others.
     pub fn subgroup_stages(&mut self, stages: ShaderStages) -> &mut Self
-        ensures { result.now ≡ record self.old { subgroup_stages = stages } }
+        ensures set { result.now ≡ record self.old { subgroup_stages = stages } }
+        ensures same { result.ghost_name ≡ self.entry.ghost_name }
     {
         self.subgroup_stages = stages;
         self
@@ -127,7 +128,8 @@ impl Validator {
 
     /// Allows these operations in subgroups, and no others.
     pub fn subgroup_operations(&mut self, operations: SubgroupOperationSet) -> &mut Self
-        ensures { result.now ≡ record self.old { subgroup_operations = operations } }
+        ensures set { result.now ≡ record self.old { subgroup_operations = operations } }
+        ensures same { result.ghost_name ≡ self.entry.ghost_name }
     {
         self.subgroup_operations = operations;
         self

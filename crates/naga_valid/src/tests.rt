@@ -22,7 +22,7 @@ pub(crate) fn with_module<R, F: FnOnce(&mut Module) -> R>(alloc: Global, judge: 
 }
 
 /// A validator of whole modules.
-fn validator_under(alloc: Global, capabilities: Capabilities) -> Validator {
+pub(crate) fn validator_under(alloc: Global, capabilities: Capabilities) -> Validator {
     Validator::new(alloc, ValidationFlags::default(), capabilities)
 }
 

@@ -1,7 +1,9 @@
 //! Settings of validators, which only their own module sees.
 
+ghost use Rattle.std.specs.Prelude.{◌≡◌};
+
 use super::Validator;
-use crate::tests::{assert_valueless, with_module};
+use crate::tests::{assert_valueless, validator_under, with_module};
 use crate::{
     Capabilities, ImmediateError, Module, Scalar, ShaderStages, SubgroupOperationSet,
     ValidationFlags,
@@ -10,11 +12,6 @@ use bitflags::Flags;
 use std::alloc::Global;
 use std::process::Abort;
 use std::test::Fail;
-
-/// A validator of whole modules.
-fn validator_under(alloc: Global, capabilities: Capabilities) -> Validator {
-    Validator::new(alloc, ValidationFlags::default(), capabilities)
-}
 
 #[test]
 fn capabilities_say_who_uses_subgroups(rt: HostRuntime) {
@@ -37,6 +34,15 @@ fn capabilities_say_who_uses_subgroups(rt: HostRuntime) {
     }
 }
 
+/// Sets both at once: what the calls answer is the validator itself.
+fn set_both(validator: &mut Validator, stages: ShaderStages, operations: SubgroupOperationSet)
+    ensures { validator.new ≡ record validator.old { subgroup_stages = stages; subgroup_operations = operations } }
+{
+    validator
+        .subgroup_stages(stages)
+        .subgroup_operations(operations);
+}
+
 #[test]
 fn settings_outlast_modules(rt: HostRuntime) -> Result<(), Fail> {
     with_module(rt.alloc(), |module| { outlast(&rt, rt.alloc(), module) })
@@ -47,9 +53,7 @@ fn outlast(rt: &impl Abort, alloc: Global, module: &Module) -> Result<(), Fail> 
     assert_valueless(rt, module);
     let (stages, operations) = (ShaderStages::MESH, SubgroupOperationSet::VOTE);
     let mut validator = validator_under(alloc, Capabilities::SUBGROUP);
-    validator
-        .subgroup_stages(stages)
-        .subgroup_operations(operations);
+    set_both(&mut validator, stages, operations);
     validator.validate(module)?;
     validator.reset();
     assert_eq!(rt; validator.subgroup_stages, stages);
