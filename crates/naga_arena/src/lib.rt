@@ -12,6 +12,4 @@ pub mod memory;
 pub mod range;
 pub mod span;
 pub mod tags;
-#[cfg(test)]
-mod tests;
 pub mod text;

@@ -2,5 +2,3 @@
 #![tactic(auto)]
 
 pub mod module_info;
-#[cfg(test)]
-mod tests;

@@ -4,6 +4,4 @@
 pub mod extension;
 pub mod flags;
 pub mod subgroup;
-#[cfg(test)]
-mod tests;
 pub mod width;

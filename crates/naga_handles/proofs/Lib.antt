@@ -2,6 +2,7 @@ pub mod Accepting
 mod Alls
 pub mod Before
 mod Comments
+mod Everywhere
 pub mod Falls
 mod Looking
 pub mod Ordered

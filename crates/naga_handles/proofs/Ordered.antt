@@ -4,7 +4,7 @@ use Rattle.std.specs.List.{flat_map}
 use Rattle.std.proofs.lemmas.Bool.{cases_lt}
 use Rattle.std.proofs.lemmas.List.Elements.{All-append, All-contains, Contains-append_left, Contains-append_right}
 use Rattle.std.proofs.lemmas.Option.{slice_get_within}
-use Rattle.naga_ir.proofs.Everywhere.{all_in, all_named, all_of_option, all_within}
+use Rattle.naga_handles.proofs.Everywhere.{all_in, all_named, all_of_option, all_within}
 use Rattle.naga_ir.proofs.Reached.{item_in, only, type_in, within_all}
 use Rattle.naga_ir.specs.Handles.{Exists, OrderedReference, constant, initialiser_of, module_counts, operand, override, part, place_of, size_initialiser, size_type}
 use Rattle.naga_ir.specs.ItemReferences.{expression_references, global_lists, type_references}

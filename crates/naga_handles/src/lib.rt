@@ -6,6 +6,4 @@ mod counts;
 pub mod error;
 pub mod handles;
 pub mod order;
-#[cfg(test)]
-mod tests;
 mod walk;

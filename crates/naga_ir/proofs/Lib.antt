@@ -1,4 +1,3 @@
-pub mod Everywhere
 pub mod Handles
 pub mod Reached
 pub mod StatementLemmas

@@ -1,6 +1,6 @@
 //! A shader module and what it holds beside types, expressions and statements.
 
-ghost use Rattle.std.specs.Prelude.{◌≡◌, ◌↔◌, [], IsTrue, None};
+ghost use Rattle.std.specs.Prelude.{◌≡◌, [], None};
 ghost use Rattle.naga_ir.specs.Scope.{HasNoComments, HasNoSpecialTypes, HasOnlyTypes};
 
 use crate::expression::Expression;
@@ -166,16 +166,6 @@ impl SpecialTypes {
             others: List::new(alloc),
         }
     }
-
-    /// Whether there is none.
-    pub fn is_empty(&self) -> bool
-        ensures { IsTrue result ↔ HasNoSpecialTypes self.now }
-    {
-        self.ray_desc.is_none()
-            && self.ray_intersection.is_none()
-            && self.ray_vertex_return.is_none()
-            && self.others.is_empty()
-    }
 }
 
 /// Comments of the source that document items, each beside what it is about.
@@ -208,22 +198,9 @@ impl DocComments {
             global_variables: List::new(alloc),
         }
     }
-
-    /// Whether there is none.
-    pub fn is_empty(&self) -> bool
-        ensures { IsTrue result ↔ HasNoComments self.now }
-    {
-        self.module.is_empty()
-            && self.types.is_empty()
-            && self.struct_members.is_empty()
-            && self.entry_points.is_empty()
-            && self.functions.is_empty()
-            && self.constants.is_empty()
-            && self.global_variables.is_empty()
-    }
 }
 
-/// A shader module. The file `triangle.rt` builds one by hand.
+/// A shader module. `triangle.rt`, among the tests, builds one by hand.
 ///
 /// Nothing is known of a module that was built by hand or read from outside: a validator says
 /// whether it keeps the rules.

@@ -19,6 +19,3 @@ pub use naga_arena::{
 pub use naga_ir_types::{
     alignment as alignment, parts as parts, types as types, unique_arena as unique_arena,
 };
-
-#[cfg(test)]
-mod triangle;

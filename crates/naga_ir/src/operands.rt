@@ -10,9 +10,6 @@ use naga_arena::handle::Handle;
 use naga_arena::tags::{ExpressionTag, TypeTag};
 use std::marker::Model;
 
-#[cfg(test)]
-mod tests;
-
 /// The operands that have fields of their own. Contracts see those that are left.
 #[derive(Drop)]
 struct Fields {

@@ -17,9 +17,6 @@ use crate::statement::{
 use naga_arena::handle::Handle;
 use naga_arena::tags::ExpressionTag;
 
-#[cfg(test)]
-mod tests;
-
 impl Block {
     /// Hands each thing that the statements of the block refer to, at any depth and in order, to
     /// `check`, and stops at the first that it refuses.

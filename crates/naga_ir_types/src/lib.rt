@@ -5,7 +5,5 @@
 
 pub mod alignment;
 pub mod parts;
-#[cfg(test)]
-mod tests;
 pub mod types;
 pub mod unique_arena;

@@ -19,9 +19,6 @@ use naga_ir::types::{Type, TypeInner};
 use naga_ir::unique_arena::UniqueArena;
 use std::alloc::{AllocError, Global};
 
-#[cfg(test)]
-mod tests;
-
 /// What a text says.
 #[derive(Drop)]
 pub struct Contents {

@@ -1,5 +1,5 @@
 mod Composing
 mod Firsts
-mod HoldsBefore
+pub mod HoldsBefore
 mod Members
 mod Parts

@@ -18,9 +18,6 @@ use naga_ir::unique_arena::UniqueArena;
 use naga_typing::context::GlobalCtx;
 use naga_typing::typifier::{TypeResolution, compare_types};
 
-#[cfg(test)]
-mod tests;
-
 /// What a value is composed of.
 #[derive(Clone, Copy)]
 enum Components<'a> {

@@ -7,7 +7,5 @@ pub mod error;
 pub mod exchange;
 pub mod info;
 mod structs;
-#[cfg(test)]
-mod tests;
 pub mod type_methods;
 pub mod validate;

@@ -7,6 +7,5 @@ pub mod PlainLaws
 pub mod PlainTyping
 pub mod Resolutions
 pub mod Sameness
-pub mod tests
 pub mod Typings
 pub mod WorkedOut

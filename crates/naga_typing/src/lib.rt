@@ -7,8 +7,6 @@ pub mod expression_kind;
 pub mod index;
 pub mod layouter;
 pub mod plain_typing;
-#[cfg(test)]
-mod tests;
 pub mod type_methods;
 pub mod typifier;
 pub mod typing;

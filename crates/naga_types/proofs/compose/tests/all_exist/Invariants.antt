@@ -1,7 +1,0 @@
-use Rattle.naga_types.proofs.HoldsBefore.{HoldsBefore}
-use Rattle.naga_types.proofs.compose.tests.all_exist.Given as goal
-use Rattle.naga_typing.specs.Resolutions.{ResolutionExists}
-
--- what those so far name is there
-abbrev pub invariant-loop-index : goal.invariant-loop-index
-invariant-loop-index l = HoldsBefore (ResolutionExists l.types) l.resolutions l.index
