@@ -33,7 +33,7 @@ impl Typing for DeclaredTyping {
 
     ghost lawful = { λ _. declared_lawful };
 
-    #[tactic(auto, unfolding(naga_typing_tests::specs::DeclaredTyping::declared_resolves))]
+    #[tactic(auto, unfolding(crate::specs::DeclaredTyping::declared_resolves))]
     fn resolve(
         &self,
         alloc: Global,
