@@ -1,5 +1,4 @@
 mod Composing
 mod Firsts
-pub mod HoldsBefore
 mod Members
 mod Parts

@@ -1,6 +1,6 @@
 use Rattle.std.proofs.Common.{◌<◌, ◌≤◌, length, refl, rules}
 use Rattle.std.proofs.lemmas.Option.{slice_get_read}
-use Rattle.naga_types.proofs.HoldsBefore.{all_hold, one_holds}
+use Rattle.naga_types_tests.proofs.HoldsBefore.{all_hold, one_holds}
 use Rattle.naga_types_tests.proofs.tests.compose.all_exist.Goals as goal
 use Rattle.naga_typing.specs.Resolutions.{ResolutionExists}
 

@@ -1,4 +1,4 @@
-use Rattle.naga_types.proofs.HoldsBefore.{HoldsBefore}
+use Rattle.naga_types_tests.proofs.HoldsBefore.{HoldsBefore}
 use Rattle.naga_types_tests.proofs.tests.compose.all_exist.Given as goal
 use Rattle.naga_typing.specs.Resolutions.{ResolutionExists}
 

@@ -1,6 +1,6 @@
 use Rattle.std.specs.Prelude.{◌<◌, length}
 use Rattle.naga_ir_types.specs.declared.types.StructMember.{StructMember}
-use Rattle.naga_types.proofs.HoldsBefore.{HoldsBefore}
+use Rattle.naga_types_tests.proofs.HoldsBefore.{HoldsBefore}
 use Rattle.naga_types_tests.proofs.tests.forms.all_typed.Given as goal
 
 -- the types of those so far are there
