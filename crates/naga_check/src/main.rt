@@ -2,14 +2,8 @@
 //! output.
 #![tactic(auto)]
 
-mod counted;
-#[cfg(test)]
-mod refused_memory;
-mod report;
-mod run;
-
-use counted::Counted;
-use run::{run, status};
+use naga_report::counted::Counted;
+use naga_report::run::{run, status};
 use std::io;
 use std::process::ExitCode;
 

@@ -15,8 +15,8 @@ use Rattle.naga_valid.specs.declared.error.ValidationError.{ValidationError}
 use Rattle.naga_valid.specs.declared.error.ValidationError.TheVariants.{InvalidHandle, Layouter, Type_, OutOfMemory as NoMemory}
 use Rattle.naga_text.specs.Text.{IsFirstUnreadable, IsText}
 use Rattle.naga_text.specs.Words.{lines_of}
-use Rattle.naga_check.specs.declared.report.Outcome.{Outcome}
-use Rattle.naga_check.specs.declared.report.Outcome.TheVariants.{Accepted, Refused, Unreadable}
+use Rattle.naga_report.specs.declared.report.Outcome.{Outcome}
+use Rattle.naga_report.specs.declared.report.Outcome.TheVariants.{Accepted, Refused, Unreadable}
 use Rattle.naga_text.specs.declared.text.Contents.{Contents}
 
 -- two lower case hexadecimal digits of a byte

@@ -5,7 +5,7 @@ use Rattle.std.proofs.lemmas.Option.{same_Some, slice_get_within}
 use Rattle.naga_arena.proofs.Progress.{slice_get-seam}
 use Rattle.naga_ir_types.specs.declared.types.«Type».{«Type»}
 use Rattle.naga_types.specs.declared.info.TypeInfo.{TypeInfo}
-use Rattle.naga_check.specs.Report.{type_line, type_lines}
+use Rattle.naga_report.specs.Report.{type_line, type_lines}
 
 -- the text and the lines of the infos that are left are all lines, and a type is left for each
 pub record IsWritten (text : List ℕ) (infos : List TypeInfo) (left : List (ℕ × «Type»)) : Type 0 where

@@ -1,11 +1,11 @@
 -- What a run leaves with its writer.
 use Rattle.std.specs.Prelude.{ℕ, List, codes, take, Option, Result, Ok, Err}
 use Rattle.std.specs.Io.KnownBytes.{Appends}
-use Rattle.naga_check.specs.Report.{IsReport}
-use Rattle.naga_check.specs.declared.report.Outcome.{Outcome}
-use Rattle.naga_check.specs.declared.report.Outcome.TheVariants.{Accepted, Refused, Unreadable}
-use Rattle.naga_check.specs.declared.run.RunFault.{RunFault}
-use Rattle.naga_check.specs.declared.run.RunFault.TheVariants as fault
+use Rattle.naga_report.specs.Report.{IsReport}
+use Rattle.naga_report.specs.declared.report.Outcome.{Outcome}
+use Rattle.naga_report.specs.declared.report.Outcome.TheVariants.{Accepted, Refused, Unreadable}
+use Rattle.naga_report.specs.declared.run.RunFault.{RunFault}
+use Rattle.naga_report.specs.declared.run.RunFault.TheVariants as fault
 
 -- the bytes grew by a report on the input, of this kind
 abbrev pub Reports : List ℕ → Outcome → Option (List ℕ) → Option (List ℕ) → Type 0

@@ -1,8 +1,8 @@
 //! Runs over memory, and failures of each call in turn.
 
-use crate::counted::Counted;
-use crate::report::Outcome;
-use crate::run::{RunFault, run, status};
+use naga_report::counted::Counted;
+use naga_report::report::Outcome;
+use naga_report::run::{RunFault, run, status};
 use std::alloc::Global;
 use std::io;
 use std::io::{Error, ErrorKind, Read, Write};

@@ -1,6 +1,6 @@
 use Rattle.std.proofs.Common.{rules}
-use Rattle.naga_check.proofs.Writes.{Appends-more}
-use Rattle.naga_check.proofs.run.write_whole.Goals as goal
+use Rattle.naga_report.proofs.Writes.{Appends-more}
+use Rattle.naga_report.proofs.run.write_whole.Goals as goal
 
 pub writes-preserved : goal.writes-preserved
 writes-preserved g c = record {

@@ -1,12 +1,12 @@
 use Rattle.std.proofs.Common.{◌≡◌, ◌⊎◌, ℕ, inl, inr, refl, subst}
 use Rattle.std.proofs.lemmas.Result.{IfOk-weaker}
-use Rattle.naga_check.specs.Report.{readable, unreadable}
+use Rattle.naga_report.specs.Report.{readable, unreadable}
 use Rattle.naga_text.specs.Results.{NamesLine}
 use Rattle.naga_text.specs.Text.{IsFirstUnreadable}
 use Rattle.naga_text.specs.Words.{lines_of}
 use Rattle.naga_text.specs.declared.text.TextError.{TextError}
 use Rattle.naga_text.specs.declared.text.TextError.TheVariants.{Line, OutOfMemory}
-use Rattle.naga_check.proofs.report.respond.Goals as goal
+use Rattle.naga_report.proofs.report.respond.Goals as goal
 
 -- an error that is a line names it
 named : (e : TextError) (n : ℕ) (P : ℕ → Type 0) → e ≡ Line n → (e ≡ OutOfMemory) ⊎ NamesLine e P → P n

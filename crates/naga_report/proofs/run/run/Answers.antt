@@ -1,7 +1,7 @@
 use Rattle.std.proofs.Common.{◌≡◌, string_bytes}
-use Rattle.naga_check.specs.Run.{BeginsReport, Reports}
-use Rattle.naga_check.proofs.Runs.{holds_told}
-use Rattle.naga_check.proofs.run.run.Goals as goal
+use Rattle.naga_report.specs.Run.{BeginsReport, Reports}
+use Rattle.naga_report.proofs.Runs.{holds_told}
+use Rattle.naga_report.proofs.run.run.Goals as goal
 
 pub returns-clause-report : goal.returns-clause-report
 returns-clause-report g c =

@@ -1,6 +1,6 @@
 use Rattle.std.proofs.Common.{◌≡◌, ◌-◌, ◌≤◌, length, take}
 use Rattle.std.specs.Io.KnownBytes.{Appends}
-use Rattle.naga_check.proofs.run.write_whole.Given as goal
+use Rattle.naga_report.proofs.run.write_whole.Given as goal
 
 -- what went out is the front of the text
 abbrev pub invariant-writes : goal.invariant-writes

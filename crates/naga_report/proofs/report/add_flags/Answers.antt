@@ -2,8 +2,8 @@ use Rattle.std.proofs.Common.{◌≡◌, ◌^◌, ◌-◌, [], Some, false, ap, 
 use Rattle.std.specs.Option.{option_map}
 use Rattle.std.specs.Fmt.{styled_digits_output, padded_integral, format_spec}
 use Rattle.std.proofs.lemmas.Fmt.{hex_byte as hex_byte_lem}
-use Rattle.naga_check.specs.Report.{hex_byte}
-use Rattle.naga_check.proofs.report.add_flags.Goals as goal
+use Rattle.naga_report.specs.Report.{hex_byte}
+use Rattle.naga_report.proofs.report.add_flags.Goals as goal
 
 pub returns : goal.returns
 returns c =

@@ -4,7 +4,7 @@ ghost use Rattle.naga_arena.specs.Memory.{AnsweredOrRefused};
 ghost use Rattle.naga_arena.specs.Span.{inner_of};
 ghost use Rattle.naga_valid.specs.Accepted.{AcceptsWith, HasNoValues, IsRefusal, settings_of};
 ghost use Rattle.naga_valid.specs.declared.error.ValidationError.TheVariants as error;
-ghost use Rattle.naga_check.specs.Report.{IsReport, IsReportOn, accepted_text, disalignment_name, handle_error_name, hex_byte, layout_error_name, layout_text, refused_text, type_error_name, type_line};
+ghost use Rattle.naga_report.specs.Report.{IsReport, IsReportOn, accepted_text, disalignment_name, handle_error_name, hex_byte, layout_error_name, layout_text, refused_text, type_error_name, type_line};
 ghost use Rattle.std.specs.Prelude.{◌≡◌, ◌++◌, IfOk, OnOk, codes, decimal, length, string_bytes};
 
 use bitflags::Flags;

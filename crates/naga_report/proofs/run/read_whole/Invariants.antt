@@ -1,6 +1,6 @@
 use Rattle.std.proofs.Common.{◌≡◌, ◌-◌, ◌^◌, vec_len}
 use Rattle.std.specs.Io.KnownBytes.{Consumes}
-use Rattle.naga_check.proofs.run.read_whole.Given as goal
+use Rattle.naga_report.proofs.run.read_whole.Given as goal
 
 -- the input so far is what the reader gave
 abbrev pub invariant-reads : goal.invariant-reads

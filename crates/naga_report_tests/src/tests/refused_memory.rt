@@ -4,9 +4,9 @@
 //! refused and changed nothing; the other, that none was refused. `scripts/refused-memory` runs both
 //! with one request after another refused, until the second kind passes too.
 
-use crate::counted::Counted;
-use crate::report::Outcome;
-use crate::run::{RunFault, run};
+use naga_report::counted::Counted;
+use naga_report::report::Outcome;
+use naga_report::run::{RunFault, run};
 use naga_valid::{
     Arena, Capabilities, Module, ModuleInfo, OutOfMemory, Scalar, ScalarKind, Span, Text, Type,
     TypeFlags, TypeInfos, TypeInner, TypeTag, UniqueArena, ValidationError, ValidationFlags,

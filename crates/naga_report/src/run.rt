@@ -1,6 +1,6 @@
 //! From what a reader gives to what a writer takes.
 
-ghost use Rattle.naga_check.specs.Run.{AppendsFront, BeginsReport, Reports, status_of};
+ghost use Rattle.naga_report.specs.Run.{AppendsFront, BeginsReport, Reports, status_of};
 ghost use Rattle.std.specs.Io.KnownBytes.{Appends, IsAtEnd, Keeps};
 ghost use Rattle.std.specs.Prelude.{◌≡◌, ◌+◌, ◌-◌, ◌^◌, ◌<◌, ◌⊎◌, ℕ, List, ◌++◌, IfErr, IfOk, IfSome, OnOk, IsErrOf};
 
@@ -9,9 +9,6 @@ use crate::report::{Outcome, respond};
 use std::alloc::Global;
 use std::fmt;
 use std::io::{Read, Write};
-
-#[cfg(test)]
-mod tests;
 
 /// Why a run gave no whole report.
 #[derive(Clone, Copy, Debug, PartialEq)]
@@ -27,7 +24,7 @@ pub enum RunFault {
 
 impl fmt::Display for RunFault {
     ghost use Rattle.std.specs.Prelude.{Some};
-    ghost use Rattle.naga_check.specs.Run.{fault_text};
+    ghost use Rattle.naga_report.specs.Run.{fault_text};
 
     ghost output = { λ fault. Some (fault_text fault) };
 

@@ -1,0 +1,4 @@
+//! Runs from texts to reports.
+
+mod refused_memory;
+mod run;
