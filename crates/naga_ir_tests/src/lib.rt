@@ -1,9 +1,5 @@
-//! The tests of `naga_ir`.
+//! The tests of what a module is: arenas, types, expressions, statements.
 #![tactic(auto)]
 
 #[cfg(test)]
-mod operands;
-#[cfg(test)]
-mod triangle;
-#[cfg(test)]
-mod walk;
+mod tests;

@@ -3,7 +3,6 @@
 ghost use Rattle.std.specs.Prelude.{◌<◌, All, IsTrue, length};
 ghost use Rattle.naga_ir_types.specs.declared.types.StructMember as member;
 
-use super::rules::STORAGE;
 use super::structs::member;
 use super::{add_type, with_module};
 use naga_ir::handle::Handle;
@@ -12,8 +11,8 @@ use naga_ir::list::List;
 use naga_ir::memory::OutOfMemory;
 use naga_ir::text::Text;
 use naga_ir::types::{
-    ArraySize, CooperativeRole, CooperativeSize, ImageClass, ImageDimension, Scalar, ScalarKind,
-    StructMember, TypeInner, VectorSize,
+    AddressSpace, ArraySize, CooperativeRole, CooperativeSize, ImageClass, ImageDimension, Scalar,
+    ScalarKind, StructMember, TypeInner, VectorSize,
 };
 use naga_ir::unique_arena::UniqueArena;
 use naga_types::exchange::validate_atomic_compare_exchange_struct;
@@ -51,7 +50,7 @@ fn numbers_of(size: Option<VectorSize>, scalar: Scalar) -> TypeInner {
 /// A form of each kind of value but scalars, vectors and arrays.
 fn forms_of_values(alloc: Global) -> [TypeInner; 6] {
     let scalar = Scalar::U32;
-    let space = STORAGE;
+    let space = AddressSpace::Function;
     [
         TypeInner::Matrix {
             columns: VectorSize::Bi,

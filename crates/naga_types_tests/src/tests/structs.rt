@@ -1,7 +1,7 @@
-//! Answers that the rule of structs gives, by hand.
+//! What the rule says of structs: of the last type of a text, or of structs whose members have names or
+//! are built in, as those of no text are.
 
-use super::rules::{aligned, array_of};
-use super::{add_type, judged, said_of, with_module};
+use super::{add_type, aligned, judged, judged_text, with_module};
 use bitflags::Flags;
 use naga_flags::flags::Capabilities;
 use naga_flags::width::ImmediateError;
@@ -11,20 +11,12 @@ use naga_ir::list::List;
 use naga_ir::memory::OutOfMemory;
 use naga_ir::tags::TypeTag;
 use naga_ir::text::Text;
-use naga_ir::types::{Binding, Scalar, StructMember, TypeInner};
+use naga_ir::types::{ArraySize, Binding, Scalar, StructMember, TypeInner};
 use naga_types::error::{Disalignment, TypeError, VaryingError};
 use naga_types::info::TypeInfo;
 use std::alloc::Global;
 use std::process::Abort;
 use std::test::Fail;
-
-/// A source of blending, or another output.
-fn at(location: u32, blend_src: Option<u32>) -> Option<Binding> {
-    Some(Binding::Location {
-        location,
-        blend_src,
-    })
-}
 
 /// A member without a name.
 pub(super) fn member(ty: Handle<TypeTag>, offset: u32, binding: Option<Binding>) -> StructMember {
@@ -36,146 +28,188 @@ pub(super) fn member(ty: Handle<TypeTag>, offset: u32, binding: Option<Binding>)
     }
 }
 
-/// What is said of a struct of members of one type, at these offsets.
-fn said_of_words(
-    rt: &impl Abort,
-    alloc: Global,
-    capabilities: Capabilities,
-    places: &[(u32, Option<Binding>)],
-    span: u32,
-) -> Result<Result<TypeInfo, TypeError>, OutOfMemory> {
-    with_module(alloc, |module| {
-        let word = add_type(rt, module, TypeInner::Scalar(Scalar::U32))?;
-        let mut members = List::new(alloc);
-        for (offset, binding) in places {
-            members.push(member(word, *offset, *binding))?;
-        }
-        add_type(rt, module, TypeInner::Struct { members, span })?;
-        judged(rt, alloc, capabilities, module)
-    })
-}
-
-/// What is said of a struct of members of these types at these offsets, added behind the other types.
-pub(super) fn said_of_struct(
-    rt: &impl Abort,
-    alloc: Global,
-    module: &mut Module,
-    places: &[(Handle<TypeTag>, u32)],
-    span: u32,
-) -> Result<Result<TypeInfo, TypeError>, OutOfMemory> {
-    let mut members = List::new(alloc);
-    for (ty, offset) in places {
-        members.push(member(*ty, *offset, None))?;
-    }
-    add_type(rt, module, TypeInner::Struct { members, span })?;
-    let capabilities = Capabilities::SHADER_FLOAT16.union(Capabilities::SHADER_INT16);
-    judged(rt, alloc, capabilities, module)
-}
-
 #[test]
-fn a_struct_has_the_greatest_alignment(rt: HostRuntime) -> Result<(), Fail> {
-    let none = Capabilities::default();
-    let places = [(0, None), (4, None)];
-    let info = said_of_words(&rt, rt.alloc(), none, &places, 8)??;
-    assert_eq!(rt; info.flags.bits(), 0xf7);
-    assert_eq!(rt; info.uniform_layout, Ok(aligned(&rt, 16)));
-    assert_eq!(rt; info.storage_layout, Ok(aligned(&rt, 4)));
-    assert_eq!(rt; info.immediates_compatibility, Ok(()));
-    Ok(())
-}
-
-#[test]
-fn members_stand_one_after_another(rt: HostRuntime) -> Result<(), Fail> {
-    let none = Capabilities::default();
-    let places = [(0, None), (2, None)];
-    let answer = said_of_words(&rt, rt.alloc(), none, &places, 8)?;
-    let refused = TypeError::MemberOverlap {
+fn a_struct_has_the_layouts_that_its_members_allow(rt: HostRuntime) -> Result<(), Fail> {
+    let third = Handle::new(2);
+    let open = Disalignment::UnsizedMember { index: 1 };
+    let near = Disalignment::MemberOffsetAfterStruct {
         index: 1,
-        offset: 2,
+        offset: 8,
+        expected: 16,
     };
-    assert_eq!(rt; answer, Err(refused));
-    let places = [(0, None), (8, None), (10, None)];
-    let answer = said_of_words(&rt, rt.alloc(), none, &places, 16)?;
-    let refused = TypeError::MemberOverlap {
+    let nearer = Disalignment::MemberOffsetAfterStruct {
         index: 2,
-        offset: 10,
+        offset: 16,
+        expected: 24,
     };
-    assert_eq!(rt; answer, Err(refused));
+    for (text, flags, uniform) in [
+        (
+            "type scalar uint 4\ntype struct 8 0:0 0:4",
+            0xf7,
+            Ok(aligned(&rt, 16)),
+        ),
+        (
+            "type scalar uint 4\ntype array 0 dyn 16\ntype struct 32 0:0 1:16",
+            0x35,
+            Err((third, open)),
+        ),
+        (
+            "type scalar uint 4\ntype struct 8 0:0 0:4\ntype struct 12 1:0 0:8",
+            0xf7,
+            Err((third, near)),
+        ),
+        (
+            "type scalar uint 4\ntype struct 8 0:0 0:4\ntype struct 20 1:0 1:8 0:16",
+            0xf7,
+            Err((third, nearer)),
+        ),
+    ] {
+        let info = judged_text(&rt, rt.alloc(), Capabilities::default(), text)??;
+        assert_eq!(rt; info.flags.bits(), flags, "{text}");
+        assert_eq!(rt; info.uniform_layout, uniform, "{text}");
+        assert_eq!(rt; info.storage_layout, Ok(aligned(&rt, 4)), "{text}");
+        assert_eq!(rt; info.immediates_compatibility, Ok(()), "{text}");
+    }
     Ok(())
 }
 
 #[test]
-fn members_end_within_the_struct(rt: HostRuntime) -> Result<(), Fail> {
-    let none = Capabilities::default();
-    let places = [(4294967295, None)];
-    let answer = said_of_words(&rt, rt.alloc(), none, &places, 4294967295)?;
-    let refused = TypeError::MemberOutOfBounds {
-        index: 0,
-        offset: 4294967295,
-        size: 4,
-        span: 4294967295,
-    };
-    assert_eq!(rt; answer, Err(refused));
-    let places = [(0, None), (4294967292, None)];
-    let answer = said_of_words(&rt, rt.alloc(), none, &places, 4294967295)?;
-    let refused = TypeError::MemberOutOfBounds {
-        index: 1,
-        offset: 4294967292,
-        size: 4,
-        span: 4294967295,
-    };
-    assert_eq!(rt; answer, Err(refused));
+fn members_stand_one_after_another_within_the_struct(rt: HostRuntime) -> Result<(), Fail> {
+    for (text, refused) in [
+        (
+            "type scalar uint 4\ntype struct 8 0:0 0:2",
+            TypeError::MemberOverlap {
+                index: 1,
+                offset: 2,
+            },
+        ),
+        (
+            "type scalar uint 4\ntype struct 16 0:0 0:8 0:10",
+            TypeError::MemberOverlap {
+                index: 2,
+                offset: 10,
+            },
+        ),
+        (
+            "type scalar uint 4\ntype struct 4294967295 0:4294967295",
+            TypeError::MemberOutOfBounds {
+                index: 0,
+                offset: 4294967295,
+                size: 4,
+                span: 4294967295,
+            },
+        ),
+        (
+            "type scalar uint 4\ntype struct 4294967295 0:0 0:4294967292",
+            TypeError::MemberOutOfBounds {
+                index: 1,
+                offset: 4294967292,
+                size: 4,
+                span: 4294967295,
+            },
+        ),
+        ("type struct 4", TypeError::EmptyStruct),
+    ] {
+        let answer = judged_text(&rt, rt.alloc(), Capabilities::default(), text)?;
+        assert_eq!(rt; answer, Err(refused), "{text}");
+    }
     Ok(())
-}
-
-#[test]
-fn a_struct_has_members(rt: HostRuntime) -> Result<(), Fail> {
-    let inner = TypeInner::Struct {
-        members: List::new(rt.alloc()),
-        span: 4,
-    };
-    let answer = said_of(&rt, rt.alloc(), Capabilities::default(), inner)?;
-    assert_eq!(rt; answer, Err(TypeError::EmptyStruct));
-    Ok(())
-}
-
-#[test]
-fn immediates_hold_no_struct_with_16_bits(rt: HostRuntime) -> Result<(), Fail> {
-    with_module(rt.alloc(), |module| {
-        let word = add_type(&rt, module, TypeInner::Scalar(Scalar::U32))?;
-        let half = add_type(&rt, module, TypeInner::Scalar(Scalar::F16))?;
-        let info = said_of_struct(&rt, rt.alloc(), module, &[(half, 0), (word, 4)], 8)??;
-        let refused = ImmediateError::InvalidScalar(Scalar::F16);
-        assert_eq!(rt; info.immediates_compatibility, Err(refused));
-        assert_eq!(rt; info.storage_layout, Ok(aligned(&rt, 4)));
-        Ok(())
-    })
 }
 
 #[test]
 fn immediates_name_the_last_member_that_they_cannot_hold(rt: HostRuntime) -> Result<(), Fail> {
-    with_module(rt.alloc(), |module| {
-        let word = add_type(&rt, module, TypeInner::Scalar(Scalar::U32))?;
-        let half = add_type(&rt, module, TypeInner::Scalar(Scalar::F16))?;
-        let short = add_type(&rt, module, TypeInner::Scalar(Scalar::I16))?;
-        let places = [(half, 0), (short, 2), (word, 4)];
-        let info = said_of_struct(&rt, rt.alloc(), module, &places, 8)??;
-        let refused = ImmediateError::InvalidScalar(Scalar::I16);
-        assert_eq!(rt; info.immediates_compatibility, Err(refused));
-        Ok(())
+    let given = Capabilities::SHADER_FLOAT16.union(Capabilities::SHADER_INT16);
+    for (text, last) in [
+        (
+            "type scalar uint 4\ntype scalar float 2\ntype struct 8 1:0 0:4",
+            Scalar::F16,
+        ),
+        (
+            "type scalar uint 4\ntype scalar float 2\ntype scalar sint 2\ntype struct 8 1:0 2:2 0:4",
+            Scalar::I16,
+        ),
+    ] {
+        let info = judged_text(&rt, rt.alloc(), given, text)??;
+        let refused = ImmediateError::InvalidScalar(last);
+        assert_eq!(rt; info.immediates_compatibility, Err(refused), "{text}");
+        assert_eq!(rt; info.storage_layout, Ok(aligned(&rt, 4)), "{text}");
+    }
+    Ok(())
+}
+
+#[test]
+fn sources_of_blending_come_in_pairs(rt: HostRuntime) -> Result<(), Fail> {
+    for (members, refused) in [
+        (
+            "0:0:0:0 0:4",
+            VaryingError::IncompleteBlendSrcUsage {
+                present_blend_src: 0,
+            },
+        ),
+        (
+            "0:0:0:0 0:4:0:0",
+            VaryingError::BindingCollisionBlendSrc { blend_src: 0 },
+        ),
+        (
+            "0:0:1:0 0:4:0:1",
+            VaryingError::InvalidBlendSrcIndex {
+                location: 1,
+                blend_src: 0,
+            },
+        ),
+        (
+            "0:0:0:0 0:4:7 0:8:0:1 0:12:3",
+            VaryingError::InvalidBlendSrcWithOtherBindings { location: 3 },
+        ),
+    ] {
+        let text = format!(in rt.alloc(); "type scalar uint 4\ntype struct 16 {members}")?;
+        let given = Capabilities::DUAL_SOURCE_BLENDING;
+        let answer = judged_text(&rt, rt.alloc(), given, text.as_str())?;
+        assert_eq!(rt;
+            answer,
+            Err(TypeError::InvalidBlendSrc(refused)),
+            "{members}"
+        );
+    }
+    Ok(())
+}
+
+#[test]
+fn both_sources_of_blending_are_shared_by_stages(rt: HostRuntime) -> Result<(), Fail> {
+    let given = Capabilities::DUAL_SOURCE_BLENDING;
+    let text = "type scalar uint 4\ntype struct 8 0:0:0:0 0:4:0:1";
+    let info = judged_text(&rt, rt.alloc(), given, text)??;
+    assert_eq!(rt; info.flags.bits(), 0xff);
+    let answer = judged_text(&rt, rt.alloc(), Capabilities::default(), text)?;
+    assert_eq!(rt; answer, Err(TypeError::MissingCapability(given)));
+    Ok(())
+}
+
+/// A source of blending at location 0.
+fn source(blend_src: u32) -> Option<Binding> {
+    Some(Binding::Location {
+        location: 0,
+        blend_src: Some(blend_src),
     })
 }
 
 #[test]
-fn an_array_without_a_length_is_the_last_member(rt: HostRuntime) -> Result<(), Fail> {
-    with_module(rt.alloc(), |module| {
+fn what_is_built_in_stands_beside_sources_of_blending(rt: HostRuntime) -> Result<(), Fail> {
+    let info = with_module(rt.alloc(), |module| {
         let word = add_type(&rt, module, TypeInner::Scalar(Scalar::U32))?;
-        let array = add_type(&rt, module, array_of(0, 4))?;
-        let answer = said_of_struct(&rt, rt.alloc(), module, &[(array, 0), (word, 4)], 8)?;
-        let refused = TypeError::InvalidDynamicArray(Text::new(rt.alloc()), array);
-        assert_eq!(rt; answer, Err(refused));
-        Ok(())
-    })
+        let mut members = List::new(rt.alloc());
+        for (offset, binding) in [
+            (0, source(0)),
+            (4, source(1)),
+            (8, Some(Binding::BuiltIn(0))),
+        ] {
+            members.push(member(word, offset, binding))?;
+        }
+        add_type(&rt, module, TypeInner::Struct { members, span: 12 })?;
+        judged(&rt, rt.alloc(), Capabilities::DUAL_SOURCE_BLENDING, module)
+    })?;
+    assert_eq!(rt; info?.flags.bits(), 0xff);
+    Ok(())
 }
 
 /// Adds an integer, an array without a length, and a struct that begins with the array. That member
@@ -187,7 +221,12 @@ pub(super) fn add_lights(
     name: Option<&str>,
 ) -> Result<Handle<TypeTag>, OutOfMemory> {
     let word = add_type(rt, module, TypeInner::Scalar(Scalar::U32))?;
-    let array = add_type(rt, module, array_of(0, 4))?;
+    let array = TypeInner::Array {
+        base: word,
+        size: ArraySize::Dynamic,
+        stride: 4,
+    };
+    let array = add_type(rt, module, array)?;
     let name = match name {
         Some(name) => Some(Text::from_string(String::from_str(alloc, name)?)),
         None => None,
@@ -215,119 +254,12 @@ fn said_of_lights(
 }
 
 #[test]
-fn an_array_without_a_length_is_refused_by_name(rt: HostRuntime) -> Result<(), Fail> {
+fn an_array_without_a_length_is_the_last_member(rt: HostRuntime) -> Result<(), Fail> {
     for (name, want) in [(None, ""), (Some(""), ""), (Some("lights"), "lights")] {
         let answer = said_of_lights(&rt, rt.alloc(), name)?;
         let want = Text::from_string(String::from_str(rt.alloc(), want)?);
         let refused = TypeError::InvalidDynamicArray(want, Handle::new(1));
         assert_eq!(rt; answer, Err(refused), "{name:?}");
     }
-    Ok(())
-}
-
-#[test]
-fn uniform_structs_are_sized(rt: HostRuntime) -> Result<(), Fail> {
-    with_module(rt.alloc(), |module| {
-        let word = add_type(&rt, module, TypeInner::Scalar(Scalar::U32))?;
-        let array = add_type(&rt, module, array_of(0, 16))?;
-        let info = said_of_struct(&rt, rt.alloc(), module, &[(word, 0), (array, 16)], 32)??;
-        assert_eq!(rt; info.flags.bits(), 0x35);
-        let refused = Disalignment::UnsizedMember { index: 1 };
-        assert_eq!(rt; info.uniform_layout, Err((Handle::new(2), refused)));
-        assert_eq!(rt; info.storage_layout, Ok(aligned(&rt, 4)));
-        Ok(())
-    })
-}
-
-#[test]
-fn uniform_members_leave_room_after_structs(rt: HostRuntime) -> Result<(), Fail> {
-    with_module(rt.alloc(), |module| {
-        let word = add_type(&rt, module, TypeInner::Scalar(Scalar::U32))?;
-        said_of_struct(&rt, rt.alloc(), module, &[(word, 0), (word, 4)], 8)??;
-        let inner = Handle::new(1);
-        let info = said_of_struct(&rt, rt.alloc(), module, &[(inner, 0), (word, 8)], 12)??;
-        let refused = Disalignment::MemberOffsetAfterStruct {
-            index: 1,
-            offset: 8,
-            expected: 16,
-        };
-        assert_eq!(rt; info.uniform_layout, Err((Handle::new(2), refused)));
-        assert_eq!(rt; info.storage_layout, Ok(aligned(&rt, 4)));
-        Ok(())
-    })
-}
-
-#[test]
-fn the_last_member_without_room_after_a_struct_is_named(rt: HostRuntime) -> Result<(), Fail> {
-    with_module(rt.alloc(), |module| {
-        let word = add_type(&rt, module, TypeInner::Scalar(Scalar::U32))?;
-        said_of_struct(&rt, rt.alloc(), module, &[(word, 0), (word, 4)], 8)??;
-        let inner = Handle::new(1);
-        let places = [(inner, 0), (inner, 8), (word, 16)];
-        let info = said_of_struct(&rt, rt.alloc(), module, &places, 20)??;
-        let refused = Disalignment::MemberOffsetAfterStruct {
-            index: 2,
-            offset: 16,
-            expected: 24,
-        };
-        assert_eq!(rt; info.uniform_layout, Err((Handle::new(2), refused)));
-        assert_eq!(rt; info.storage_layout, Ok(aligned(&rt, 4)));
-        Ok(())
-    })
-}
-
-#[test]
-fn both_sources_of_blending_are_shared_by_stages(rt: HostRuntime) -> Result<(), Fail> {
-    let given = Capabilities::DUAL_SOURCE_BLENDING;
-    let both = [(0, at(0, Some(0))), (4, at(0, Some(1)))];
-    let info = said_of_words(&rt, rt.alloc(), given, &both, 8)??;
-    assert_eq!(rt; info.flags.bits(), 0xff);
-    let answer = said_of_words(&rt, rt.alloc(), Capabilities::default(), &both, 8)?;
-    assert_eq!(rt; answer, Err(TypeError::MissingCapability(given)));
-    Ok(())
-}
-
-#[test]
-fn other_sources_of_blending_are_refused(rt: HostRuntime) -> Result<(), Fail> {
-    let given = Capabilities::DUAL_SOURCE_BLENDING;
-    let one = [(0, at(0, Some(0))), (4, None)];
-    let answer = said_of_words(&rt, rt.alloc(), given, &one, 8)?;
-    let refused = VaryingError::IncompleteBlendSrcUsage {
-        present_blend_src: 0,
-    };
-    assert_eq!(rt; answer, Err(TypeError::InvalidBlendSrc(refused)));
-    let same = [(0, at(0, Some(0))), (4, at(0, Some(0)))];
-    let answer = said_of_words(&rt, rt.alloc(), given, &same, 8)?;
-    let refused = VaryingError::BindingCollisionBlendSrc { blend_src: 0 };
-    assert_eq!(rt; answer, Err(TypeError::InvalidBlendSrc(refused)));
-    let elsewhere = [(0, at(1, Some(0))), (4, at(0, Some(1)))];
-    let answer = said_of_words(&rt, rt.alloc(), given, &elsewhere, 8)?;
-    let refused = VaryingError::InvalidBlendSrcIndex {
-        location: 1,
-        blend_src: 0,
-    };
-    assert_eq!(rt; answer, Err(TypeError::InvalidBlendSrc(refused)));
-    Ok(())
-}
-
-#[test]
-fn sources_of_blending_have_no_output_beside_them(rt: HostRuntime) -> Result<(), Fail> {
-    let given = Capabilities::DUAL_SOURCE_BLENDING;
-    let beside = [
-        (0, at(0, Some(0))),
-        (4, at(7, None)),
-        (8, at(0, Some(1))),
-        (12, at(3, None)),
-    ];
-    let answer = said_of_words(&rt, rt.alloc(), given, &beside, 16)?;
-    let refused = VaryingError::InvalidBlendSrcWithOtherBindings { location: 3 };
-    assert_eq!(rt; answer, Err(TypeError::InvalidBlendSrc(refused)));
-    let built_in = [
-        (0, at(0, Some(0))),
-        (4, at(0, Some(1))),
-        (8, Some(Binding::BuiltIn(0))),
-    ];
-    let info = said_of_words(&rt, rt.alloc(), given, &built_in, 12)??;
-    assert_eq!(rt; info.flags.bits(), 0xff);
     Ok(())
 }

@@ -1,0 +1,5 @@
+use Rattle.std.proofs.Common.{refl}
+use Rattle.naga_ir_tests.proofs.tests.ir_types.alignments_are_powers_of_two.Goals as goal
+
+pub from_width-requires : goal.from_width-requires
+from_width-requires g c = (3, refl)

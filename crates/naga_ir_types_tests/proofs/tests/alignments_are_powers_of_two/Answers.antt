@@ -1,5 +1,0 @@
-use Rattle.std.proofs.Common.{refl}
-use Rattle.naga_ir_types_tests.proofs.tests.alignments_are_powers_of_two.Goals as goal
-
-pub from_width-requires : goal.from_width-requires
-from_width-requires g c = (3, refl)

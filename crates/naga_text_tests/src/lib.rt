@@ -1,5 +1,0 @@
-//! The tests of `naga_text`.
-#![tactic(auto)]
-
-#[cfg(test)]
-mod tests;

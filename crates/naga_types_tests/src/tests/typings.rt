@@ -1,0 +1,211 @@
+//! The types that two typings work out.
+
+ghost use Rattle.naga_ir.specs.Handles.{GlobalReferencesOk};
+ghost use Rattle.naga_ir.specs.ItemReferences.{global_lists};
+
+use super::{add, add_type, assert_references_ok, with_module};
+use naga_ir::expression::{BinaryOperator, Expression, Literal, MathFunction};
+use naga_ir::handle::Handle;
+use naga_ir::ir::Module;
+use naga_ir::list::List;
+use naga_ir::tags::ExpressionTag;
+use naga_ir::types::{Scalar, TypeInner, VectorSize};
+use naga_typing::plain_typing::PlainTyping;
+use naga_typing::typifier::{ResolveError, TypeResolution};
+use naga_typing::typing::Typing;
+use std::alloc::Global;
+use std::process::Abort;
+use std::test::Fail;
+
+/// A typing that knows no type but those that the laws name.
+#[derive(Clone, Copy)]
+struct DeclaredTyping;
+
+impl Typing for DeclaredTyping {
+    ghost use Rattle.naga_types_tests.specs.DeclaredTyping.{declared_lawful, declared_resolves};
+    ghost use Rattle.std.specs.Prelude.{false};
+
+    ghost resolves = { λ _. declared_resolves };
+
+    ghost accepts_types = { λ _ _ _. false };
+
+    ghost least_arguments = { λ _ _ _. 0 };
+
+    ghost lawful = { λ _. declared_lawful };
+
+    #[tactic(auto, unfolding(crate::specs::DeclaredTyping::declared_resolves))]
+    fn resolve(
+        &self,
+        alloc: Global,
+        module: &Module,
+        expression: &Expression,
+        earlier: &[TypeResolution],
+    ) -> Result<TypeResolution, ResolveError> {
+        match expression {
+            Expression::Literal(_)
+            | Expression::Constant(_)
+            | Expression::Override(_)
+            | Expression::ZeroValue(_)
+            | Expression::Compose { .. }
+            | Expression::Splat { .. } => PlainTyping.resolve(alloc, module, expression, earlier),
+            _ => Err(ResolveError::NotResolvable),
+        }
+    }
+
+    fn accepts(&self, _fun: MathFunction, _types: &[&TypeInner]) -> bool {
+        false
+    }
+
+    fn min_arguments(&self, _fun: MathFunction, _types: &[&TypeInner]) -> usize {
+        0
+    }
+}
+
+/// The types of all global expressions, each from those before: for any typing, by its laws.
+fn resolve_all<T: Typing>(
+    typing: &T,
+    alloc: Global,
+    module: &Module,
+) -> Result<List<TypeResolution>, ResolveError>
+    requires { GlobalReferencesOk (global_lists «module».now) }
+{
+    let mut resolutions = List::new(alloc);
+    for (_, expression) in module.global_expressions.iter() {
+        let resolution = typing.resolve(alloc, module, expression, resolutions.as_slice())?;
+        resolutions.push(resolution)?;
+    }
+    Ok(resolutions)
+}
+
+/// The type of the last global expression of a module.
+fn last_type<T: Typing>(
+    rt: &impl Abort,
+    alloc: Global,
+    typing: &T,
+    module: &Module,
+) -> Result<TypeResolution, ResolveError> {
+    assert_references_ok(rt, alloc, module);
+    let resolutions = resolve_all(typing, alloc, module)?;
+    let last = resolutions.as_slice().last().expect(rt, "an expression");
+    Ok(last.try_clone()?)
+}
+
+/// The zeros of a matrix of two columns and three rows, of a vector of two and of one of three.
+fn add_zeros(rt: &impl Abort, module: &mut Module) -> Result<[Handle<ExpressionTag>; 3], Fail> {
+    let scalar = Scalar::F32;
+    let matrix = TypeInner::Matrix {
+        columns: VectorSize::Bi,
+        rows: VectorSize::Tri,
+        scalar,
+    };
+    let matrix = add_type(rt, module, matrix)?;
+    let matrix = add(rt, module, Expression::ZeroValue(matrix))?;
+    let size = VectorSize::Bi;
+    let two = add_type(rt, module, TypeInner::Vector { size, scalar })?;
+    let two = add(rt, module, Expression::ZeroValue(two))?;
+    let size = VectorSize::Tri;
+    let three = add_type(rt, module, TypeInner::Vector { size, scalar })?;
+    let three = add(rt, module, Expression::ZeroValue(three))?;
+    Ok([matrix, two, three])
+}
+
+/// A vector of 32-bit floating-point numbers.
+fn vector(size: VectorSize) -> TypeResolution {
+    TypeResolution::Value(TypeInner::Vector {
+        size,
+        scalar: Scalar::F32,
+    })
+}
+
+/// The product of the matrix and the vector of two, or of the vector of three and the matrix.
+fn product(
+    rt: &impl Abort,
+    alloc: Global,
+    matrix_is_left: bool,
+) -> Result<Result<TypeResolution, ResolveError>, Fail> {
+    with_module(alloc, |module| {
+        let [matrix, two, three] = add_zeros(rt, module)?;
+        let (left, right) = if matrix_is_left {
+            (matrix, two)
+        } else {
+            (three, matrix)
+        };
+        let op = BinaryOperator::Multiply;
+        add(rt, module, Expression::Binary { op, left, right })?;
+        Ok(last_type(rt, alloc, &PlainTyping, module))
+    })
+}
+
+#[test]
+fn a_matrix_times_a_vector_has_as_many_components_as_rows(rt: HostRuntime) -> Result<(), Fail> {
+    let product = product(&rt, rt.alloc(), true)?;
+    assert_eq!(rt; product, Ok(vector(VectorSize::Tri)));
+    Ok(())
+}
+
+#[test]
+fn a_vector_times_a_matrix_has_as_many_components_as_columns(rt: HostRuntime) -> Result<(), Fail> {
+    let product = product(&rt, rt.alloc(), false)?;
+    assert_eq!(rt; product, Ok(vector(VectorSize::Bi)));
+    Ok(())
+}
+
+/// A choice between the first zero and the second.
+fn choice<T: Typing>(
+    rt: &impl Abort,
+    alloc: Global,
+    typing: &T,
+) -> Result<Result<TypeResolution, ResolveError>, Fail> {
+    with_module(alloc, |module| {
+        let [accept, reject, _] = add_zeros(rt, module)?;
+        let condition = add(rt, module, Expression::Literal(Literal::Bool(true)))?;
+        let select = Expression::Select {
+            condition,
+            accept,
+            reject,
+        };
+        add(rt, module, select)?;
+        Ok(last_type(rt, alloc, typing, module))
+    })
+}
+
+#[test]
+fn a_choice_has_the_type_of_what_is_accepted(rt: HostRuntime) -> Result<(), Fail> {
+    let plain = choice(&rt, rt.alloc(), &PlainTyping)?;
+    assert_eq!(rt; plain, Ok(TypeResolution::Handle(Handle::new(0))));
+    let declared = choice(&rt, rt.alloc(), &DeclaredTyping)?;
+    assert_eq!(rt; declared, Err(ResolveError::NotResolvable));
+    Ok(())
+}
+
+/// The type of what stands at a place.
+fn load(rt: &impl Abort, alloc: Global) -> Result<Result<TypeResolution, ResolveError>, Fail> {
+    with_module(alloc, |module| {
+        let pointer = add(rt, module, Expression::Literal(Literal::F32(0)))?;
+        add(rt, module, Expression::Load { pointer })?;
+        Ok(last_type(rt, alloc, &PlainTyping, module))
+    })
+}
+
+#[test]
+fn what_stands_at_a_place_has_no_type(rt: HostRuntime) -> Result<(), Fail> {
+    let load = load(&rt, rt.alloc())?;
+    assert_eq!(rt; load, Err(ResolveError::NotResolvable));
+    Ok(())
+}
+
+#[test]
+fn errors_of_types_read_as_sentences(rt: HostRuntime) -> Result<(), Fail> {
+    for (error, want) in [
+        (ResolveError::IncompatibleOperands, "Incompatible operands"),
+        (
+            ResolveError::NotResolvable,
+            "The type of the expression can't be resolved",
+        ),
+        (ResolveError::OutOfMemory, "Out of memory"),
+    ] {
+        let shown = format!(in rt.alloc(); "{error}")?;
+        assert_eq!(rt; shown.as_str(), want);
+    }
+    Ok(())
+}
