@@ -1,4 +1,4 @@
-//! The tests of `naga_report`.
+//! The tests of the validator, and of the report on what it says.
 #![tactic(auto)]
 
 #[cfg(test)]

@@ -1,4 +1,5 @@
-//! Runs from texts to reports.
+//! The tests of `naga_valid` and `naga_report`.
 
 mod refused_memory;
 mod run;
+mod valid;

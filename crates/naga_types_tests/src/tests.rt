@@ -37,6 +37,7 @@ use naga_types::validate::validate_type;
 use naga_typing::context::to_ctx;
 use naga_typing::layouter::{LayoutErrorInner, Layouter};
 use std::alloc::Global;
+use std::fmt::{Debug, Display};
 use std::process::Abort;
 
 /// What `judge` makes of a module, which is empty at first. No other function here owns a module, since
@@ -59,6 +60,18 @@ pub(crate) fn with_text<R, F: FnOnce(&Module) -> R>(
 {
     let contents = read_text(alloc, text.as_bytes()).expect(rt, "readable");
     judge(&contents.module)
+}
+
+/// Makes sure that a value is as wanted. Each `assert_eq!` in a test is proved anew, text and all; this one
+/// is proved once.
+pub(crate) fn assert_same<T: Debug + PartialEq>(rt: &impl Abort, of: &str, got: &T, want: &T) {
+    assert!(rt; *got == *want, "{of}: {got:?}, and not {want:?}");
+}
+
+/// Makes sure that a value is shown as this text.
+pub(crate) fn assert_shown<T: Display>(rt: &(impl AllocGlobal + Abort), value: &T, want: &str) {
+    let shown = format!(in rt.alloc(); "{value}").expect(rt, "memory");
+    assert!(rt; shown.as_str() == want, "{shown}");
 }
 
 /// Adds a type without a name.

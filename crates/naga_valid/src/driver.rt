@@ -34,9 +34,6 @@ use naga_typing::layouter::{LayoutError, LayoutErrorInner, Layouter};
 use std::alloc::Global;
 use std::marker::Model;
 
-#[cfg(test)]
-mod tests;
-
 /// Validates modules, one after another, under settings of its own.
 ///
 /// Its answers depend on the settings and the module alone. Contracts see the settings, and the infos

@@ -138,5 +138,3 @@ pub use naga_typing::typifier::TypeResolution;
 pub use naga_typing::typifier::compare_types;
 pub use naga_typing::typing::Typing;
 
-#[cfg(test)]
-mod tests;

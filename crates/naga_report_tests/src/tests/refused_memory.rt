@@ -1,8 +1,9 @@
-//! What is answered where memory is refused.
+//! What is returned if memory is refused.
 //!
-//! Each scenario is run by two tests. One asks that every answer is right, or says that memory was
-//! refused and changed nothing; the other, that none was refused. `scripts/refused-memory` runs both
-//! with one request after another refused, until the second kind passes too.
+//! Each scenario makes sure that every answer is right, or says that memory was refused and changed
+//! nothing, and returns whether it was. Two tests run them all, and the second asks that nothing was
+//! refused. `scripts/refused-memory` runs both with one request after another refused, until the second
+//! passes too.
 
 use naga_report::counted::Counted;
 use naga_report::report::Outcome;
@@ -206,62 +207,25 @@ fn is_refused_in_lists(rt: &(impl AllocGlobal + Abort)) -> bool {
     refused
 }
 
-#[test]
-fn refusals_are_told_in_an_accepted_run(rt: HostRuntime) {
-    is_refused_in_accepted_run(&rt);
+/// Runs all scenarios, and returns whether memory was refused in one.
+fn is_refused(rt: &(impl AllocGlobal + Abort)) -> bool {
+    let scenarios = [
+        is_refused_in_accepted_run(rt),
+        is_refused_in_refused_run(rt),
+        is_refused_in_unreadable_run(rt),
+        is_refused_in_arenas(rt),
+        is_refused_in_validation(rt),
+        is_refused_in_lists(rt),
+    ];
+    scenarios != [false; 6]
 }
 
 #[test]
-fn memory_is_ample_in_an_accepted_run(rt: HostRuntime) {
-    assert!(rt; !is_refused_in_accepted_run(&rt));
+fn refusals_are_reported(rt: HostRuntime) {
+    is_refused(&rt);
 }
 
 #[test]
-fn refusals_are_told_in_a_refused_run(rt: HostRuntime) {
-    is_refused_in_refused_run(&rt);
-}
-
-#[test]
-fn memory_is_ample_in_a_refused_run(rt: HostRuntime) {
-    assert!(rt; !is_refused_in_refused_run(&rt));
-}
-
-#[test]
-fn refusals_are_told_in_an_unreadable_run(rt: HostRuntime) {
-    is_refused_in_unreadable_run(&rt);
-}
-
-#[test]
-fn memory_is_ample_in_an_unreadable_run(rt: HostRuntime) {
-    assert!(rt; !is_refused_in_unreadable_run(&rt));
-}
-
-#[test]
-fn refusals_are_told_in_arenas(rt: HostRuntime) {
-    is_refused_in_arenas(&rt);
-}
-
-#[test]
-fn memory_is_ample_in_arenas(rt: HostRuntime) {
-    assert!(rt; !is_refused_in_arenas(&rt));
-}
-
-#[test]
-fn refusals_are_told_in_validation(rt: HostRuntime) {
-    is_refused_in_validation(&rt);
-}
-
-#[test]
-fn memory_is_ample_in_validation(rt: HostRuntime) {
-    assert!(rt; !is_refused_in_validation(&rt));
-}
-
-#[test]
-fn refusals_are_told_in_lists(rt: HostRuntime) {
-    is_refused_in_lists(&rt);
-}
-
-#[test]
-fn memory_is_ample_in_lists(rt: HostRuntime) {
-    assert!(rt; !is_refused_in_lists(&rt));
+fn memory_is_ample(rt: HostRuntime) {
+    assert!(rt; !is_refused(&rt));
 }

@@ -68,251 +68,268 @@ fn run_counted<R: Read + Drop, W: Write + Drop>(
     (ended, (reader.failed, writer.failed), writer.inner)
 }
 
-#[test]
-fn texts_are_reported_on(rt: HostRuntime) {
-    for (text, want, code) in [
-        (
-            "type scalar float 4\ntype vector 4 float 4\ntype matrix 2 3 float 4\n",
-            "T0 ff 4 4\nT1 ff 16 16\nT2 f7 16 16\nok\n",
-            0,
-        ),
-        ("type scalar float 2", "refused type T0 WidthError\n", 1),
-        ("caps 67108864\ntype scalar float 2", "T0 ff 2 2\nok\n", 0),
-        (
-            "type scalar float 3",
-            "refused layout T0 NonPowerOfTwoWidth\n",
-            1,
-        ),
-        (
-            "type matrix 2 2 sint 4",
-            "refused type T0 MatrixElementNotFloat\n",
-            1,
-        ),
-        ("type scalar bool 1", "T0 e7 1 1\nok\n", 0),
-        ("", "ok\n", 0),
-        (
-            "type scalar uint 4\ntype scalar uint 4",
-            "line 2 not readable\n",
-            2,
-        ),
-        ("type scalar float 1\n", "refused type T0 WidthError\n", 1),
-        (
-            "flags 0\nresolved\ntype scalar uint 4\ntype vector 2 bool 1\ntype matrix 4 2 float 4\n",
-            "T0 ff 4 4\nT1 e7 2 2\nT2 f7 8 8\nok\n",
-            0,
-        ),
-        (
-            "type scalar uint 4\ntype scalar bool 4\ntype scalar sint 0\n",
-            "refused layout T2 NonPowerOfTwoWidth\n",
-            1,
-        ),
-        (
-            "type scalar uint 4\ntype scalar bool 4\ntype scalar aint 8\n",
-            "refused type T1 WidthError\n",
-            1,
-        ),
-        (TEXT, REPORT, 0),
-    ] {
-        assert!(rt; is_reported(&rt, rt.alloc(), text, want, code), "{text:?}");
+/// Makes sure that the run on each text reports this, ends with this status, and has no failure.
+fn assert_reported(rt: &impl Abort, alloc: Global, rows: &[(&str, &str, u8)]) {
+    for (text, want, code) in rows {
+        let (ended, failed, output) = run_counted(alloc, text.as_bytes(), Vec::new(alloc));
+        assert!(rt; failed == (0, 0), "{text:?}");
+        assert_eq!(rt; status(&ended), *code, "{text:?}");
+        assert!(rt; output.as_slice() == want.as_bytes(), "{text:?}");
     }
 }
 
-/// Whether the run on a text reports this, ends with this status, and has no failure.
-fn is_reported(rt: &impl Abort, alloc: Global, text: &str, want: &str, code: u8) -> bool {
-    let (ended, failed, output) = run_counted(alloc, text.as_bytes(), Vec::new(alloc));
-    assert!(rt; failed == (0, 0));
-    status(&ended) == code && output.as_slice() == want.as_bytes()
+#[test]
+fn texts_are_reported_on(rt: HostRuntime) {
+    assert_reported(
+        &rt,
+        rt.alloc(),
+        &[
+            (
+                "type scalar float 4\ntype vector 4 float 4\ntype matrix 2 3 float 4\n",
+                "T0 ff 4 4\nT1 ff 16 16\nT2 f7 16 16\nok\n",
+                0,
+            ),
+            ("type scalar float 2", "refused type T0 WidthError\n", 1),
+            ("caps 67108864\ntype scalar float 2", "T0 ff 2 2\nok\n", 0),
+            (
+                "type scalar float 3",
+                "refused layout T0 NonPowerOfTwoWidth\n",
+                1,
+            ),
+            (
+                "type matrix 2 2 sint 4",
+                "refused type T0 MatrixElementNotFloat\n",
+                1,
+            ),
+            ("type scalar bool 1", "T0 e7 1 1\nok\n", 0),
+            ("", "ok\n", 0),
+            (
+                "type scalar uint 4\ntype scalar uint 4",
+                "line 2 not readable\n",
+                2,
+            ),
+            ("type scalar float 1\n", "refused type T0 WidthError\n", 1),
+            (
+                "flags 0\nresolved\ntype scalar uint 4\ntype vector 2 bool 1\ntype matrix 4 2 float 4\n",
+                "T0 ff 4 4\nT1 e7 2 2\nT2 f7 8 8\nok\n",
+                0,
+            ),
+            (
+                "type scalar uint 4\ntype scalar bool 4\ntype scalar sint 0\n",
+                "refused layout T2 NonPowerOfTwoWidth\n",
+                1,
+            ),
+            (
+                "type scalar uint 4\ntype scalar bool 4\ntype scalar aint 8\n",
+                "refused type T1 WidthError\n",
+                1,
+            ),
+            (TEXT, REPORT, 0),
+        ],
+    );
 }
 
 #[test]
 fn arrays_are_reported_on(rt: HostRuntime) {
-    for (text, want, code) in [
-        (
-            "type atomic uint 4\ntype array 0 4 4\n",
-            "T0 33 4 4\nT1 33 ArrayStride 4\nok\n",
-            0,
-        ),
-        (
-            "type scalar uint 4\ntype array 0 o3 4\n",
-            "refused handle BadHandle\n",
-            1,
-        ),
-        (
-            "type scalar uint 4\ntype array 0 536870911 4\n",
-            "T0 ff 4 4\nT1 f7 ArrayStride 4\nok\n",
-            0,
-        ),
-        (
-            "type scalar uint 4\ntype array 0 536870912 4\n",
-            "refused layout T1 TooLarge\n",
-            1,
-        ),
-        (
-            "type scalar float 4\ntype array 0 4 4\n",
-            "T0 ff 4 4\nT1 f7 ArrayStride 4\nok\n",
-            0,
-        ),
-        (
-            "type scalar float 4\ntype array 0 4 0\n",
-            "T0 ff 4 4\nT1 f7 16 4\nok\n",
-            0,
-        ),
-    ] {
-        assert!(rt; is_reported(&rt, rt.alloc(), text, want, code), "{text:?}");
-    }
+    assert_reported(
+        &rt,
+        rt.alloc(),
+        &[
+            (
+                "type atomic uint 4\ntype array 0 4 4\n",
+                "T0 33 4 4\nT1 33 ArrayStride 4\nok\n",
+                0,
+            ),
+            (
+                "type scalar uint 4\ntype array 0 o3 4\n",
+                "refused handle BadHandle\n",
+                1,
+            ),
+            (
+                "type scalar uint 4\ntype array 0 536870911 4\n",
+                "T0 ff 4 4\nT1 f7 ArrayStride 4\nok\n",
+                0,
+            ),
+            (
+                "type scalar uint 4\ntype array 0 536870912 4\n",
+                "refused layout T1 TooLarge\n",
+                1,
+            ),
+            (
+                "type scalar float 4\ntype array 0 4 4\n",
+                "T0 ff 4 4\nT1 f7 ArrayStride 4\nok\n",
+                0,
+            ),
+            (
+                "type scalar float 4\ntype array 0 4 0\n",
+                "T0 ff 4 4\nT1 f7 16 4\nok\n",
+                0,
+            ),
+        ],
+    );
 }
 
 #[test]
 fn pointers_and_binding_arrays_are_reported_on(rt: HostRuntime) {
-    for (text, want, code) in [
-        (
-            "type scalar uint 4\ntype array 0 dyn 4\ntype pointer 1 storage\ntype pointer 0 function\n",
-            "T0 ff 4 4\nT1 35 ArrayStride 4\nT2 26 1 1\nT3 66 1 1\nok\n",
-            0,
-        ),
-        (
-            "type scalar uint 4\ntype array 0 dyn 4\ntype pointer 1 private\n",
-            "refused type T2 InvalidPointerToUnsized\n",
-            1,
-        ),
-        (
-            "type scalar float 4\ntype struct 4 0:0\ntype bindingarray 1 4\n",
-            "T0 ff 4 4\nT1 f7 16 4\nT2 32 1 1\nok\n",
-            0,
-        ),
-        (
-            "type scalar float 4\ntype struct 4 0:0\ntype bindingarray 0 4\n",
-            "refused type T2 BindingArrayBaseTypeNotStruct\n",
-            1,
-        ),
-    ] {
-        assert!(rt; is_reported(&rt, rt.alloc(), text, want, code), "{text:?}");
-    }
+    assert_reported(
+        &rt,
+        rt.alloc(),
+        &[
+            (
+                "type scalar uint 4\ntype array 0 dyn 4\ntype pointer 1 storage\ntype pointer 0 function\n",
+                "T0 ff 4 4\nT1 35 ArrayStride 4\nT2 26 1 1\nT3 66 1 1\nok\n",
+                0,
+            ),
+            (
+                "type scalar uint 4\ntype array 0 dyn 4\ntype pointer 1 private\n",
+                "refused type T2 InvalidPointerToUnsized\n",
+                1,
+            ),
+            (
+                "type scalar float 4\ntype struct 4 0:0\ntype bindingarray 1 4\n",
+                "T0 ff 4 4\nT1 f7 16 4\nT2 32 1 1\nok\n",
+                0,
+            ),
+            (
+                "type scalar float 4\ntype struct 4 0:0\ntype bindingarray 0 4\n",
+                "refused type T2 BindingArrayBaseTypeNotStruct\n",
+                1,
+            ),
+        ],
+    );
 }
 
 #[test]
 fn structs_are_reported_on(rt: HostRuntime) {
-    for (text, want, code) in [
-        (
-            "type scalar float 4\ntype vector 3 float 4\ntype struct 16 1:0 0:12\n",
-            "T0 ff 4 4\nT1 ff 16 16\nT2 f7 16 16\nok\n",
-            0,
-        ),
-        (
-            "type scalar float 4\ntype vector 4 float 4\ntype struct 32 0:0 1:16\n",
-            "T0 ff 4 4\nT1 ff 16 16\nT2 f7 16 16\nok\n",
-            0,
-        ),
-        (
-            "type scalar uint 4\ntype array 0 dyn 16\ntype struct 32 0:0 1:16\n",
-            "T0 ff 4 4\nT1 35 16 4\nT2 35 UnsizedMember 4\nok\n",
-            0,
-        ),
-        (
-            "type scalar float 4\ntype struct 8 0:0 0:0\n",
-            "T0 ff 4 4\nT1 e7 16 4\nok\n",
-            0,
-        ),
-        (
-            "type scalar float 4\ntype vector 4 float 4\ntype struct 16 1:0\ntype struct 32 2:16 0:0\n",
-            "T0 ff 4 4\nT1 ff 16 16\nT2 f7 16 16\nT3 e7 MemberOffsetAfterStruct 16\nok\n",
-            0,
-        ),
-    ] {
-        assert!(rt; is_reported(&rt, rt.alloc(), text, want, code), "{text:?}");
-    }
+    assert_reported(
+        &rt,
+        rt.alloc(),
+        &[
+            (
+                "type scalar float 4\ntype vector 3 float 4\ntype struct 16 1:0 0:12\n",
+                "T0 ff 4 4\nT1 ff 16 16\nT2 f7 16 16\nok\n",
+                0,
+            ),
+            (
+                "type scalar float 4\ntype vector 4 float 4\ntype struct 32 0:0 1:16\n",
+                "T0 ff 4 4\nT1 ff 16 16\nT2 f7 16 16\nok\n",
+                0,
+            ),
+            (
+                "type scalar uint 4\ntype array 0 dyn 16\ntype struct 32 0:0 1:16\n",
+                "T0 ff 4 4\nT1 35 16 4\nT2 35 UnsizedMember 4\nok\n",
+                0,
+            ),
+            (
+                "type scalar float 4\ntype struct 8 0:0 0:0\n",
+                "T0 ff 4 4\nT1 e7 16 4\nok\n",
+                0,
+            ),
+            (
+                "type scalar float 4\ntype vector 4 float 4\ntype struct 16 1:0\ntype struct 32 2:16 0:0\n",
+                "T0 ff 4 4\nT1 ff 16 16\nT2 f7 16 16\nT3 e7 MemberOffsetAfterStruct 16\nok\n",
+                0,
+            ),
+        ],
+    );
 }
 
 #[test]
 fn refused_structs_are_reported_on(rt: HostRuntime) {
-    for (text, want, code) in [
-        (
-            "type scalar uint 4\ntype array 0 dyn 4\ntype struct 8 1:0 0:4\n",
-            "refused type T2 InvalidDynamicArray\n",
-            1,
-        ),
-        (
-            "type scalar uint 4\ntype struct 4294967295 0:4294967292\n",
-            "refused type T1 MemberOutOfBounds\n",
-            1,
-        ),
-        (
-            "type scalar uint 4\ntype struct 4294967295 0:4294967295\n",
-            "refused type T1 MemberOutOfBounds\n",
-            1,
-        ),
-        (
-            "type scalar float 4\ntype struct 8 0:0 0:2\n",
-            "refused type T1 MemberOverlap\n",
-            1,
-        ),
-        ("type struct 4\n", "refused type T0 EmptyStruct\n", 1),
-    ] {
-        assert!(rt; is_reported(&rt, rt.alloc(), text, want, code), "{text:?}");
-    }
+    assert_reported(
+        &rt,
+        rt.alloc(),
+        &[
+            (
+                "type scalar uint 4\ntype array 0 dyn 4\ntype struct 8 1:0 0:4\n",
+                "refused type T2 InvalidDynamicArray\n",
+                1,
+            ),
+            (
+                "type scalar uint 4\ntype struct 4294967295 0:4294967292\n",
+                "refused type T1 MemberOutOfBounds\n",
+                1,
+            ),
+            (
+                "type scalar uint 4\ntype struct 4294967295 0:4294967295\n",
+                "refused type T1 MemberOutOfBounds\n",
+                1,
+            ),
+            (
+                "type scalar float 4\ntype struct 8 0:0 0:2\n",
+                "refused type T1 MemberOverlap\n",
+                1,
+            ),
+            ("type struct 4\n", "refused type T0 EmptyStruct\n", 1),
+        ],
+    );
 }
 
 #[test]
 fn sources_of_blending_are_reported_on(rt: HostRuntime) {
-    for (text, want, code) in [
-        (
-            "caps 53248\ntype vector 4 float 4\ntype struct 32 0:0:0:0 0:16:0:1\n",
-            "T0 ff 16 16\nT1 ff 16 16\nok\n",
-            0,
-        ),
-        (
-            "type vector 4 float 4\ntype struct 32 0:0:0:0 0:16:0:1\n",
-            "refused type T1 MissingCapability\n",
-            1,
-        ),
-        (
-            "caps 53248\ntype vector 4 float 4\ntype struct 16 0:0:0:0\n",
-            "refused type T1 InvalidBlendSrc\n",
-            1,
-        ),
-    ] {
-        assert!(rt; is_reported(&rt, rt.alloc(), text, want, code), "{text:?}");
-    }
+    assert_reported(
+        &rt,
+        rt.alloc(),
+        &[
+            (
+                "caps 53248\ntype vector 4 float 4\ntype struct 32 0:0:0:0 0:16:0:1\n",
+                "T0 ff 16 16\nT1 ff 16 16\nok\n",
+                0,
+            ),
+            (
+                "type vector 4 float 4\ntype struct 32 0:0:0:0 0:16:0:1\n",
+                "refused type T1 MissingCapability\n",
+                1,
+            ),
+            (
+                "caps 53248\ntype vector 4 float 4\ntype struct 16 0:0:0:0\n",
+                "refused type T1 InvalidBlendSrc\n",
+                1,
+            ),
+        ],
+    );
 }
 
 #[test]
 fn opaque_types_are_reported_on(rt: HostRuntime) {
-    for (text, want, code) in [
-        (
-            "type image cube 1 float\ntype sampler 1\n",
-            "T0 60 1 1\nT1 60 1 1\nok\n",
-            0,
-        ),
-        (
-            "type image 3 1 float\n",
-            "refused type T0 UnsupportedImageType\n",
-            1,
-        ),
-        ("caps 8192\ntype rayquery 0\n", "T0 a3 1 1\nok\n", 0),
-        (
-            "caps 0\ntype accel 0\n",
-            "refused type T0 MissingCapability\n",
-            1,
-        ),
-        (
-            "caps 68719476736\ntype coop 8 8 float 2 A\n",
-            "T0 f7 2 2\nok\n",
-            0,
-        ),
-        (
-            "caps 68719476736\ntype coop 8 8 float 2 A\ntype scalar float 2\n",
-            "refused type T1 WidthError\n",
-            1,
-        ),
-        (
-            "type valuepointer 0 float 4 uniform\n",
-            "T0 26 1 1\nok\n",
-            0,
-        ),
-        ("type scal\n", "line 1 not readable\n", 2),
-    ] {
-        assert!(rt; is_reported(&rt, rt.alloc(), text, want, code), "{text:?}");
-    }
+    assert_reported(
+        &rt,
+        rt.alloc(),
+        &[
+            (
+                "type image cube 1 float\ntype sampler 1\n",
+                "T0 60 1 1\nT1 60 1 1\nok\n",
+                0,
+            ),
+            (
+                "type image 3 1 float\n",
+                "refused type T0 UnsupportedImageType\n",
+                1,
+            ),
+            ("caps 8192\ntype rayquery 0\n", "T0 a3 1 1\nok\n", 0),
+            (
+                "caps 0\ntype accel 0\n",
+                "refused type T0 MissingCapability\n",
+                1,
+            ),
+            (
+                "caps 68719476736\ntype coop 8 8 float 2 A\n",
+                "T0 f7 2 2\nok\n",
+                0,
+            ),
+            (
+                "caps 68719476736\ntype coop 8 8 float 2 A\ntype scalar float 2\n",
+                "refused type T1 WidthError\n",
+                1,
+            ),
+            (
+                "type valuepointer 0 float 4 uniform\n",
+                "T0 26 1 1\nok\n",
+                0,
+            ),
+            ("type scal\n", "line 1 not readable\n", 2),
+        ],
+    );
 }
 
 #[test]

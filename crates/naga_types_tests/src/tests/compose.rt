@@ -3,19 +3,17 @@
 ghost use Rattle.std.specs.Prelude.{All, IsTrue};
 ghost use Rattle.naga_typing.specs.Resolutions.{ResolutionExists};
 
-use super::{add_type, assert_references_ok, with_module};
+use super::{assert_references_ok, with_text};
 use naga_ir::handle::Handle;
 use naga_ir::ir::Module;
 use naga_ir::list::List;
 use naga_ir::tags::{ExpressionTag, TypeTag};
-use naga_ir::types::{ArraySize, Scalar, StructMember, TypeInner, VectorSize};
+use naga_ir::types::{Scalar, TypeInner, VectorSize};
 use naga_ir::unique_arena::UniqueArena;
 use naga_types::compose::{validate_compose, validate_compose_at};
 use naga_types::error::ComposeError;
 use naga_typing::context::to_ctx;
 use naga_typing::typifier::TypeResolution;
-use std::alloc::Global;
-use std::num::NonZeroU32;
 use std::process::Abort;
 use std::test::Fail;
 
@@ -70,192 +68,124 @@ fn said_at(
     validate_compose_at(ty, to_ctx(module), &[first, second], types)
 }
 
-/// The resolution of a type of a module.
-fn of(ty: Handle<TypeTag>) -> TypeResolution {
-    TypeResolution::Handle(ty)
-}
+/// Types whose composition is tried, in the order of their handles.
+const TYPES: &str = "type scalar float 4
+type scalar sint 4
+type vector 2 float 4
+type vector 3 float 4
+type matrix 2 3 float 4
+type array 0 2 4
+type struct 16 0:0 2:8
+type array 0 dyn 4
+";
+const FLOAT: u32 = 0;
+const INT: u32 = 1;
+const PAIR: u32 = 2;
+const TRIPLE: u32 = 3;
+const MATRIX: u32 = 4;
+const ARRAY: u32 = 5;
+const STRUCT: u32 = 6;
+const OPEN_ARRAY: u32 = 7;
 
-/// What is said of two components of a type of a module.
-fn said_of_two(
+/// What is said of components of these types, for a type of a module.
+fn said_of_types(
     rt: &(impl AllocGlobal + Abort),
     module: &Module,
-    ty: Handle<TypeTag>,
-    first: Handle<TypeTag>,
-    second: Handle<TypeTag>,
+    ty: u32,
+    components: &[u32],
 ) -> Result<(), ComposeError> {
-    said_of(rt, module, ty, &[of(first), of(second)])
+    let mut resolutions = List::new(rt.alloc());
+    for component in components {
+        assert!(rt; *component < 100);
+        let resolution = TypeResolution::Handle(Handle::new(*component));
+        assert!(rt; resolutions.push(resolution).is_ok());
+    }
+    assert!(rt; ty < 100);
+    said_of(rt, module, Handle::new(ty), resolutions.as_slice())
 }
 
-fn vector_of(size: VectorSize) -> TypeInner {
-    TypeInner::Vector {
-        size,
-        scalar: Scalar::F32,
+/// Components that fit.
+fn assert_fits(rt: &(impl AllocGlobal + Abort), module: &Module) {
+    for (ty, components) in [
+        (PAIR, &[PAIR][..]),
+        (TRIPLE, &[PAIR, FLOAT]),
+        (TRIPLE, &[FLOAT, PAIR]),
+        (TRIPLE, &[FLOAT, FLOAT, FLOAT]),
+        (MATRIX, &[TRIPLE, TRIPLE]),
+        (ARRAY, &[FLOAT, FLOAT]),
+        (STRUCT, &[FLOAT, PAIR]),
+    ] {
+        let said = said_of_types(rt, module, ty, components);
+        assert_eq!(rt; said, Ok(()), "{ty} of {components:?}");
     }
 }
 
-/// Adds f32, i32, and vectors of two and three f32.
-fn add_vectors(rt: &impl Abort, module: &mut Module) -> Result<[Handle<TypeTag>; 4], Fail> {
-    let float = add_type(rt, module, TypeInner::Scalar(Scalar::F32))?;
-    let int = add_type(rt, module, TypeInner::Scalar(Scalar::I32))?;
-    let pair = add_type(rt, module, vector_of(VectorSize::Bi))?;
-    let triple = add_type(rt, module, vector_of(VectorSize::Tri))?;
-    Ok([float, int, pair, triple])
-}
-
-#[test]
-fn a_vector_takes_scalars_and_vectors(rt: HostRuntime) -> Result<(), Fail> {
-    with_module(rt.alloc(), |module| {
-        let [float, int, pair, triple] = add_vectors(&rt, module)?;
-        let answer = said_of_two(&rt, module, triple, pair, float);
-        assert_eq!(rt; answer, Ok(()));
-        let answer = said_of_two(&rt, module, triple, pair, pair);
-        let count = ComposeError::ComponentCount {
-            given: 4,
-            expected: 3,
-        };
-        assert_eq!(rt; answer, Err(count));
-        let answer = said_of_two(&rt, module, triple, float, int);
-        assert_eq!(rt; answer, Err(ComposeError::ComponentType { index: 1 }));
-        let answer = said_of(
-            &rt,
-            module,
-            pair,
-            &[TypeResolution::Value(vector_of(VectorSize::Bi))],
-        );
-        assert_eq!(rt; answer, Ok(()));
-        Ok(())
-    })
-}
-
-#[test]
-fn a_matrix_takes_its_columns(rt: HostRuntime) -> Result<(), Fail> {
-    with_module(rt.alloc(), |module| {
-        let [float, _, pair, triple] = add_vectors(&rt, module)?;
-        let matrix = TypeInner::Matrix {
-            columns: VectorSize::Bi,
-            rows: VectorSize::Tri,
-            scalar: Scalar::F32,
-        };
-        let matrix = add_type(&rt, module, matrix)?;
-        let answer = said_of_two(&rt, module, matrix, triple, triple);
-        assert_eq!(rt; answer, Ok(()));
-        let answer = said_of(&rt, module, matrix, &[of(float), of(triple), of(triple)]);
-        let count = ComposeError::ComponentCount {
-            given: 3,
-            expected: 2,
-        };
-        assert_eq!(rt; answer, Err(count));
-        let answer = said_of_two(&rt, module, matrix, triple, pair);
-        assert_eq!(rt; answer, Err(ComposeError::ComponentType { index: 1 }));
-        Ok(())
-    })
-}
-
-#[test]
-fn an_array_takes_its_elements(rt: HostRuntime) -> Result<(), Fail> {
-    with_module(rt.alloc(), |module| {
-        let [float, int, ..] = add_vectors(&rt, module)?;
-        let two = NonZeroU32::new(2).ok_or("a count above 0")?;
-        let array = TypeInner::Array {
-            base: float,
-            size: ArraySize::Constant(two),
-            stride: 4,
-        };
-        let array = add_type(&rt, module, array)?;
-        let answer = said_of_two(&rt, module, array, float, float);
-        assert_eq!(rt; answer, Ok(()));
-        let answer = said_of_two(&rt, module, array, int, float);
-        assert_eq!(rt; answer, Err(ComposeError::ComponentType { index: 0 }));
-        let answer = said_of(&rt, module, array, &[]);
-        let count = ComposeError::ComponentCount {
-            given: 0,
-            expected: 2,
-        };
-        assert_eq!(rt; answer, Err(count));
-        Ok(())
-    })
-}
-
-/// Adds a struct of two members.
-fn add_struct(
-    rt: &impl Abort,
-    alloc: Global,
-    module: &mut Module,
-    first: Handle<TypeTag>,
-    second: Handle<TypeTag>,
-) -> Result<Handle<TypeTag>, Fail> {
-    let mut members = List::new(alloc);
-    for (ty, offset) in [(first, 0), (second, 8)] {
-        members.push(StructMember {
-            name: None,
-            ty,
-            binding: None,
-            offset,
-        })?;
+/// Components of another number than is expected.
+fn assert_counted(rt: &(impl AllocGlobal + Abort), module: &Module) {
+    for (ty, components, given, expected) in [
+        (TRIPLE, &[PAIR, PAIR][..], 4, 3),
+        (TRIPLE, &[PAIR], 2, 3),
+        (MATRIX, &[FLOAT, TRIPLE, TRIPLE], 3, 2),
+        (ARRAY, &[], 0, 2),
+        (STRUCT, &[PAIR], 1, 2),
+    ] {
+        let said = said_of_types(rt, module, ty, components);
+        let count = ComposeError::ComponentCount { given, expected };
+        assert_eq!(rt; said, Err(count), "{ty} of {components:?}");
     }
-    Ok(add_type(rt, module, TypeInner::Struct { members, span: 16 })?)
+}
+
+/// Components of which one has another type than is expected.
+fn assert_typed(rt: &(impl AllocGlobal + Abort), module: &Module) {
+    for (ty, components, index) in [
+        (TRIPLE, &[FLOAT, INT][..], 1),
+        (TRIPLE, &[TRIPLE], 0),
+        (MATRIX, &[TRIPLE, PAIR], 1),
+        (ARRAY, &[INT, FLOAT], 0),
+        (STRUCT, &[FLOAT, FLOAT], 1),
+    ] {
+        let said = said_of_types(rt, module, ty, components);
+        assert_eq!(rt; said, Err(ComposeError::ComponentType { index }), "{ty} of {components:?}");
+    }
 }
 
 #[test]
-fn a_struct_takes_its_members(rt: HostRuntime) -> Result<(), Fail> {
-    with_module(rt.alloc(), |module| {
-        let [float, _, pair, _] = add_vectors(&rt, module)?;
-        let structure = add_struct(&rt, rt.alloc(), module, float, pair)?;
-        let answer = said_of_two(&rt, module, structure, float, pair);
-        assert_eq!(rt; answer, Ok(()));
-        let answer = said_of_two(&rt, module, structure, float, float);
-        assert_eq!(rt; answer, Err(ComposeError::ComponentType { index: 1 }));
-        let answer = said_of(&rt, module, structure, &[of(pair)]);
-        let count = ComposeError::ComponentCount {
-            given: 1,
-            expected: 2,
-        };
-        assert_eq!(rt; answer, Err(count));
-        Ok(())
-    })
-}
-
-#[test]
-fn other_types_are_not_composed(rt: HostRuntime) -> Result<(), Fail> {
-    with_module(rt.alloc(), |module| {
-        let [float, ..] = add_vectors(&rt, module)?;
-        let array = TypeInner::Array {
-            base: float,
-            size: ArraySize::Dynamic,
-            stride: 4,
-        };
-        let array = add_type(&rt, module, array)?;
-        for ty in [float, array] {
-            let answer = said_of(&rt, module, ty, &[of(float)]);
-            assert_eq!(rt; answer, Err(ComposeError::Type_(ty)));
+fn types_are_composed_of_what_they_are_made_of(rt: HostRuntime) {
+    with_text(&rt, rt.alloc(), TYPES, |module| {
+        assert_fits(&rt, module);
+        assert_counted(&rt, module);
+        assert_typed(&rt, module);
+        for ty in [FLOAT, OPEN_ARRAY] {
+            let said = said_of_types(&rt, module, ty, &[FLOAT]);
+            assert_eq!(rt; said, Err(ComposeError::Type_(Handle::new(ty))));
         }
-        Ok(())
-    })
+    });
+}
+
+/// Components whose types are given as values, or as those of expressions.
+fn assert_resolved(rt: &(impl AllocGlobal + Abort), module: &Module) {
+    let value = TypeInner::Vector {
+        size: VectorSize::Bi,
+        scalar: Scalar::F32,
+    };
+    let said = said_of(rt, module, Handle::new(PAIR), &[TypeResolution::Value(value)]);
+    assert_eq!(rt; said, Ok(()));
+    let [int, float, pair] = [Handle::new(INT), Handle::new(FLOAT), Handle::new(PAIR)];
+    let types = [
+        TypeResolution::Handle(int),
+        TypeResolution::Handle(float),
+        TypeResolution::Handle(pair),
+    ];
+    let triple = Handle::new(TRIPLE);
+    let said = said_at(rt, module, triple, [Handle::new(2), Handle::new(1)], &types);
+    assert_eq!(rt; said, Ok(()));
+    let said = said_at(rt, module, triple, [Handle::new(1), Handle::new(0)], &types);
+    assert_eq!(rt; said, Err(ComposeError::ComponentType { index: 1 }));
 }
 
 #[test]
-fn components_may_be_expressions(rt: HostRuntime) -> Result<(), Fail> {
-    with_module(rt.alloc(), |module| {
-        let [float, int, pair, triple] = add_vectors(&rt, module)?;
-        let types = [of(int), of(float), of(pair)];
-        let answer = said_at(
-            &rt,
-            module,
-            triple,
-            [Handle::new(2), Handle::new(1)],
-            &types,
-        );
-        assert_eq!(rt; answer, Ok(()));
-        let answer = said_at(
-            &rt,
-            module,
-            triple,
-            [Handle::new(1), Handle::new(0)],
-            &types,
-        );
-        assert_eq!(rt; answer, Err(ComposeError::ComponentType { index: 1 }));
-        Ok(())
-    })
+fn components_may_be_values_or_expressions(rt: HostRuntime) {
+    with_text(&rt, rt.alloc(), TYPES, |module| { assert_resolved(&rt, module) });
 }
 
 #[test]

@@ -67,25 +67,23 @@ fn each_form_has_its_size_and_alignment(rt: HostRuntime) {
 
 #[test]
 fn the_first_type_without_a_layout_is_named(rt: HostRuntime) -> Result<(), Fail> {
-    for (text, ty, inner, shown) in [
+    for (text, inner, shown) in [
         (
             "type scalar uint 4\ntype array 0 536870912 4",
-            Handle::new(1),
             LayoutErrorInner::TooLarge,
             "Error laying out type [1]: The array is larger than 2147483647 bytes",
         ),
         (
             "type scalar uint 3",
-            Handle::new(0),
             LayoutErrorInner::NonPowerOfTwoWidth,
             "Error laying out type [0]: The scalar width is not a power of two",
         ),
     ] {
-        let error = with_text(&rt, rt.alloc(), text, |module| {
+        let layout = with_text(&rt, rt.alloc(), text, |module| {
             last_layout(&rt, rt.alloc(), module)
         });
-        let error = error.err().ok_or("a layout")?;
-        assert_eq!(rt; error, LayoutError { ty, inner });
+        let error = layout.err().ok_or("a layout")?;
+        assert_eq!(rt; error.inner, inner);
         assert_eq!(rt; format!(in rt.alloc(); "{error}")?.as_str(), shown);
     }
     Ok(())

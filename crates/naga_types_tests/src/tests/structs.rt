@@ -29,44 +29,48 @@ pub(super) fn member(ty: Handle<TypeTag>, offset: u32, binding: Option<Binding>)
 }
 
 #[test]
-fn a_struct_has_the_layouts_that_its_members_allow(rt: HostRuntime) -> Result<(), Fail> {
-    let third = Handle::new(2);
-    let open = Disalignment::UnsizedMember { index: 1 };
-    let near = Disalignment::MemberOffsetAfterStruct {
-        index: 1,
-        offset: 8,
-        expected: 16,
-    };
-    let nearer = Disalignment::MemberOffsetAfterStruct {
-        index: 2,
-        offset: 16,
-        expected: 24,
-    };
-    for (text, flags, uniform) in [
-        (
-            "type scalar uint 4\ntype struct 8 0:0 0:4",
-            0xf7,
-            Ok(aligned(&rt, 16)),
-        ),
+fn a_struct_is_aligned_to_its_members_and_in_uniform_buffers_to_16(
+    rt: HostRuntime,
+) -> Result<(), Fail> {
+    let text = "type scalar uint 4\ntype struct 8 0:0 0:4";
+    let info = judged_text(&rt, rt.alloc(), Capabilities::default(), text)??;
+    assert_eq!(rt; info.flags.bits(), 0xf7);
+    assert_eq!(rt; info.uniform_layout, Ok(aligned(&rt, 16)));
+    assert_eq!(rt; info.storage_layout, Ok(aligned(&rt, 4)));
+    assert_eq!(rt; info.immediates_compatibility, Ok(()));
+    Ok(())
+}
+
+#[test]
+fn uniform_members_have_sizes_and_leave_room_after_structs(rt: HostRuntime) -> Result<(), Fail> {
+    for (text, flags, why) in [
         (
             "type scalar uint 4\ntype array 0 dyn 16\ntype struct 32 0:0 1:16",
             0x35,
-            Err((third, open)),
+            Disalignment::UnsizedMember { index: 1 },
         ),
         (
             "type scalar uint 4\ntype struct 8 0:0 0:4\ntype struct 12 1:0 0:8",
             0xf7,
-            Err((third, near)),
+            Disalignment::MemberOffsetAfterStruct {
+                index: 1,
+                offset: 8,
+                expected: 16,
+            },
         ),
         (
             "type scalar uint 4\ntype struct 8 0:0 0:4\ntype struct 20 1:0 1:8 0:16",
             0xf7,
-            Err((third, nearer)),
+            Disalignment::MemberOffsetAfterStruct {
+                index: 2,
+                offset: 16,
+                expected: 24,
+            },
         ),
     ] {
         let info = judged_text(&rt, rt.alloc(), Capabilities::default(), text)??;
         assert_eq!(rt; info.flags.bits(), flags, "{text}");
-        assert_eq!(rt; info.uniform_layout, uniform, "{text}");
+        assert_eq!(rt; info.uniform_layout, Err((Handle::new(2), why)), "{text}");
         assert_eq!(rt; info.storage_layout, Ok(aligned(&rt, 4)), "{text}");
         assert_eq!(rt; info.immediates_compatibility, Ok(()), "{text}");
     }
@@ -139,37 +143,34 @@ fn immediates_name_the_last_member_that_they_cannot_hold(rt: HostRuntime) -> Res
 
 #[test]
 fn sources_of_blending_come_in_pairs(rt: HostRuntime) -> Result<(), Fail> {
-    for (members, refused) in [
+    for (text, refused) in [
         (
-            "0:0:0:0 0:4",
-            VaryingError::IncompleteBlendSrcUsage {
+            "type scalar uint 4\ntype struct 8 0:0:0:0 0:4",
+            TypeError::InvalidBlendSrc(VaryingError::IncompleteBlendSrcUsage {
                 present_blend_src: 0,
-            },
+            }),
         ),
         (
-            "0:0:0:0 0:4:0:0",
-            VaryingError::BindingCollisionBlendSrc { blend_src: 0 },
+            "type scalar uint 4\ntype struct 8 0:0:0:0 0:4:0:0",
+            TypeError::InvalidBlendSrc(VaryingError::BindingCollisionBlendSrc { blend_src: 0 }),
         ),
         (
-            "0:0:1:0 0:4:0:1",
-            VaryingError::InvalidBlendSrcIndex {
+            "type scalar uint 4\ntype struct 8 0:0:1:0 0:4:0:1",
+            TypeError::InvalidBlendSrc(VaryingError::InvalidBlendSrcIndex {
                 location: 1,
                 blend_src: 0,
-            },
+            }),
         ),
         (
-            "0:0:0:0 0:4:7 0:8:0:1 0:12:3",
-            VaryingError::InvalidBlendSrcWithOtherBindings { location: 3 },
+            "type scalar uint 4\ntype struct 16 0:0:0:0 0:4:7 0:8:0:1 0:12:3",
+            TypeError::InvalidBlendSrc(VaryingError::InvalidBlendSrcWithOtherBindings {
+                location: 3,
+            }),
         ),
     ] {
-        let text = format!(in rt.alloc(); "type scalar uint 4\ntype struct 16 {members}")?;
         let given = Capabilities::DUAL_SOURCE_BLENDING;
-        let answer = judged_text(&rt, rt.alloc(), given, text.as_str())?;
-        assert_eq!(rt;
-            answer,
-            Err(TypeError::InvalidBlendSrc(refused)),
-            "{members}"
-        );
+        let answer = judged_text(&rt, rt.alloc(), given, text)?;
+        assert_eq!(rt; answer, Err(refused), "{text}");
     }
     Ok(())
 }

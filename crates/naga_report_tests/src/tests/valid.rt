@@ -1,65 +1,60 @@
-//! Modules built by hand, and what the rules say of them.
+//! Modules read from texts, or built by hand, and what the rules say of them.
 
 ghost use Rattle.naga_valid.specs.Accepted.{HasNoValues};
+ghost use Rattle.std.specs.Prelude.{◌≡◌};
 
-use crate::{
+use naga_text::text::read_text;
+use naga_valid::{
     Alignment, BadHandle, BadRangeError, Capabilities, FunctionTag, FwdDepError, Handle,
-    InvalidHandleError, LayoutError, LayoutErrorInner, List, Module, OutOfMemory, Scalar,
-    ScalarKind, Span, StaticText, Text, Type, TypeError, TypeFlags, TypeInner, TypeTag,
-    ValidationError, ValidationFlags, Validator, VectorSize, WidthError, WithSpan,
+    ImmediateError, InvalidHandleError, LayoutError, LayoutErrorInner, List, Module, OutOfMemory,
+    Scalar, ShaderStages, Span, StaticText, SubgroupOperationSet, Text, Type, TypeError, TypeFlags,
+    TypeInner, TypeTag, ValidationError, ValidationFlags, Validator, WidthError, WithSpan,
 };
 use std::alloc::Global;
 use std::process::Abort;
 use std::test::Fail;
 
-/// What `judge` makes of a module, which is empty at first. No other function here owns a module, since
+/// What `judge` makes of the module that a text describes. No other function here owns a module, since
 /// each exit of a function drops what it owns, and the proof goes through each.
-pub(crate) fn with_module<R, F: FnOnce(&mut Module) -> R>(alloc: Global, judge: F) -> R
+fn with_text<R, F: FnOnce(&mut Module) -> R>(
+    rt: &impl Abort,
+    alloc: Global,
+    text: &str,
+    judge: F,
+) -> R
     requires { F.IsAlwaysCallable judge }
 {
-    let mut module = Module::new(alloc);
-    judge(&mut module)
+    let mut contents = read_text(alloc, text.as_bytes()).expect(rt, "readable");
+    judge(&mut contents.module)
 }
 
 /// A validator of whole modules.
-pub(crate) fn validator_under(alloc: Global, capabilities: Capabilities) -> Validator {
+fn validator_under(alloc: Global, capabilities: Capabilities) -> Validator {
     Validator::new(alloc, ValidationFlags::default(), capabilities)
 }
 
-/// A scalar type of floating-point numbers of `width` bytes.
-fn float(width: u8) -> TypeInner {
-    TypeInner::Scalar(Scalar {
-        kind: ScalarKind::Float,
-        width,
-    })
-}
-
-/// Adds a type with no name.
-fn add(
+/// Adds a type of floating-point numbers of `width` bytes, without a name.
+fn add_float(
     rt: &impl Abort,
     module: &mut Module,
-    inner: TypeInner,
+    width: u8,
     span: Span,
 ) -> Result<Handle<TypeTag>, OutOfMemory> {
     assert!(rt; module.types.len() < 100);
+    let inner = TypeInner::Scalar(Scalar {
+        width,
+        ..Scalar::F32
+    });
     module.types.insert(Type { name: None, inner }, span)
 }
 
 /// Makes sure that a module is of the kind that is judged so far.
-pub(crate) fn assert_valueless(rt: &impl Abort, module: &Module)
+fn assert_valueless(rt: &impl Abort, module: &Module)
     ensures { HasNoValues «module».now }
 {
     assert!(rt; module.constants.is_empty());
     assert!(rt; module.overrides.is_empty());
     assert!(rt; module.global_expressions.is_empty());
-}
-
-/// Adds scalar types, of floating-point numbers of these widths in bytes.
-fn add_floats(rt: &impl Abort, module: &mut Module, widths: &[u8]) -> Result<(), OutOfMemory> {
-    for width in widths {
-        add(rt, module, float(*width), Span::default())?;
-    }
-    Ok(())
 }
 
 /// The refusal of a type without a name whose width wants `SHADER_FLOAT16`.
@@ -82,7 +77,7 @@ fn no_layout(handle: Handle<TypeTag>) -> ValidationError {
     })
 }
 
-/// The refusal of a module, as both calls answer it.
+/// The refusal of a module, as both calls return it.
 fn refusal_of(
     rt: &impl Abort,
     alloc: Global,
@@ -96,9 +91,18 @@ fn refusal_of(
     Ok(error.ok_or("accepted")?)
 }
 
+/// The same of the module of a text.
+fn refusal_of_text(
+    rt: &impl Abort,
+    alloc: Global,
+    text: &str,
+) -> Result<WithSpan<ValidationError>, Fail> {
+    with_text(rt, alloc, text, |module| refusal_of(rt, alloc, module))
+}
+
 #[test]
 fn an_empty_module_is_accepted(rt: HostRuntime) -> Result<(), Fail> {
-    with_module(rt.alloc(), |module| {
+    with_text(&rt, rt.alloc(), "", |module| {
         is_accepted_empty(&rt, rt.alloc(), module)
     })
 }
@@ -120,33 +124,13 @@ fn is_accepted_empty(rt: &impl Abort, alloc: Global, module: &Module) -> Result<
 
 #[test]
 fn types_of_f32_are_accepted(rt: HostRuntime) -> Result<(), Fail> {
-    with_module(rt.alloc(), |module| {
-        add_types_of_f32(&rt, module)?;
+    let text = "type scalar float 4\ntype vector 4 float 4\ntype matrix 2 3 float 4";
+    with_text(&rt, rt.alloc(), text, |module| {
         are_accepted_as_f32(&rt, rt.alloc(), module)
     })
 }
 
-/// Adds a scalar, a vector and a matrix.
-fn add_types_of_f32(rt: &impl Abort, module: &mut Module) -> Result<(), OutOfMemory> {
-    let scalar = Scalar::F32;
-    for inner in [
-        TypeInner::Scalar(scalar),
-        TypeInner::Vector {
-            size: VectorSize::Quad,
-            scalar,
-        },
-        TypeInner::Matrix {
-            columns: VectorSize::Bi,
-            rows: VectorSize::Tri,
-            scalar,
-        },
-    ] {
-        add(rt, module, inner, Span::default())?;
-    }
-    Ok(())
-}
-
-/// Makes sure that those three are accepted, and what is known of them then.
+/// Makes sure that a scalar, a vector and a matrix are accepted, and what is known of them then.
 fn are_accepted_as_f32(rt: &impl Abort, alloc: Global, module: &Module) -> Result<(), Fail> {
     let matrix_flags = TypeFlags::DATA
         | TypeFlags::SIZED
@@ -177,37 +161,30 @@ fn are_accepted_as_f32(rt: &impl Abort, alloc: Global, module: &Module) -> Resul
     Ok(())
 }
 
-/// The refusal of a module of scalar types, of floating-point numbers of these widths in bytes.
-fn refusal_of_floats(
-    rt: &impl Abort,
-    alloc: Global,
-    widths: &[u8],
-) -> Result<WithSpan<ValidationError>, Fail> {
-    with_module(alloc, |module| {
-        add_floats(rt, module, widths)?;
-        refusal_of(rt, alloc, module)
-    })
-}
-
 #[test]
-fn a_missing_capability_refuses_the_first_type_that_wants_it(rt: HostRuntime) -> Result<(), Fail> {
-    let error = refusal_of_floats(&rt, rt.alloc(), &[2])?;
-    assert_eq!(rt;
-        error.into_inner(),
-        refused_half(rt.alloc(), Handle::new(0))
-    );
-    let error = refusal_of_floats(&rt, rt.alloc(), &[4, 2, 8])?;
-    assert_eq!(rt;
-        error.into_inner(),
-        refused_half(rt.alloc(), Handle::new(1))
-    );
+fn a_missing_capability_refuses_the_first_type_that_asks_for_it(
+    rt: HostRuntime,
+) -> Result<(), Fail> {
+    for (text, handle) in [
+        ("type scalar float 2", Handle::new(0)),
+        (
+            "type scalar float 4\ntype scalar float 2\ntype scalar float 8",
+            Handle::new(1),
+        ),
+    ] {
+        let error = refusal_of_text(&rt, rt.alloc(), text)?;
+        assert_eq!(rt;
+            error.into_inner(),
+            refused_half(rt.alloc(), handle),
+            "{text}"
+        );
+    }
     Ok(())
 }
 
 #[test]
 fn a_given_capability_lets_the_type_in(rt: HostRuntime) -> Result<(), Fail> {
-    with_module(rt.alloc(), |module| {
-        add_floats(&rt, module, &[2])?;
+    with_text(&rt, rt.alloc(), "type scalar float 2", |module| {
         is_accepted_with_halves(&rt, rt.alloc(), module)
     })
 }
@@ -225,13 +202,13 @@ fn is_accepted_with_halves(rt: &impl Abort, alloc: Global, module: &Module) -> R
 
 #[test]
 fn a_type_without_layout_is_refused_before_all_else(rt: HostRuntime) -> Result<(), Fail> {
-    for (widths, refused) in [
-        ([3, 4], Handle::new(0)),
-        ([2, 3], Handle::new(1)),
-        ([4, 0], Handle::new(1)),
+    for (text, refused) in [
+        ("type scalar float 3\ntype scalar float 4", Handle::new(0)),
+        ("type scalar float 2\ntype scalar float 3", Handle::new(1)),
+        ("type scalar float 4\ntype scalar float 0", Handle::new(1)),
     ] {
-        let error = refusal_of_floats(&rt, rt.alloc(), &widths)?;
-        assert_eq!(rt; error.into_inner(), no_layout(refused), "{widths:?}");
+        let error = refusal_of_text(&rt, rt.alloc(), text)?;
+        assert_eq!(rt; error.into_inner(), no_layout(refused), "{text}");
     }
     Ok(())
 }
@@ -240,14 +217,14 @@ fn a_type_without_layout_is_refused_before_all_else(rt: HostRuntime) -> Result<(
 fn add_named_half(rt: &impl Abort, alloc: Global, module: &mut Module) -> Result<(), OutOfMemory> {
     let name = Some(Text::from_string(String::from_str(alloc, "Half")?));
     assert!(rt; module.types.is_empty());
-    let inner = float(2);
+    let inner = TypeInner::Scalar(Scalar::F16);
     let half = module.types.insert(Type { name, inner }, Span::default());
     half.map(|_| ())
 }
 
 #[test]
 fn a_refusal_has_the_name_of_the_type(rt: HostRuntime) -> Result<(), Fail> {
-    let error = with_module(rt.alloc(), |module| {
+    let error = with_text(&rt, rt.alloc(), "", |module| {
         add_named_half(&rt, rt.alloc(), module)?;
         refusal_of(&rt, rt.alloc(), module)
     })?;
@@ -258,13 +235,6 @@ fn a_refusal_has_the_name_of_the_type(rt: HostRuntime) -> Result<(), Fail> {
     Ok(())
 }
 
-/// Adds a type of four bytes, and one of this width at this place.
-fn add_two(rt: &impl Abort, module: &mut Module, width: u8, span: Span) -> Result<(), OutOfMemory> {
-    add(rt, module, float(4), Span::new(1, 2))?;
-    add(rt, module, float(width), span)?;
-    Ok(())
-}
-
 /// The refusal of a module whose second type has this width and stands at this place.
 fn refusal_at(
     rt: &impl Abort,
@@ -272,8 +242,9 @@ fn refusal_at(
     width: u8,
     span: Span,
 ) -> Result<WithSpan<ValidationError>, Fail> {
-    with_module(alloc, |module| {
-        add_two(rt, module, width, span)?;
+    with_text(rt, alloc, "", |module| {
+        add_float(rt, module, 4, Span::new(1, 2))?;
+        add_float(rt, module, width, span)?;
         refusal_of(rt, alloc, module)
     })
 }
@@ -308,7 +279,7 @@ fn comment_on_function(alloc: Global, module: &mut Module) -> Result<(), Fail> {
 
 #[test]
 fn a_missing_function_has_no_comment(rt: HostRuntime) -> Result<(), Fail> {
-    let error = with_module(rt.alloc(), |module| {
+    let error = with_text(&rt, rt.alloc(), "", |module| {
         comment_on_function(rt.alloc(), module)?;
         refusal_of(&rt, rt.alloc(), module)
     })?;
@@ -322,14 +293,14 @@ fn a_missing_function_has_no_comment(rt: HostRuntime) -> Result<(), Fail> {
 
 /// Adds a type at a place, and comments on its first member.
 fn comment_on_member(rt: &impl Abort, alloc: Global, module: &mut Module) -> Result<(), Fail> {
-    let ty = add(rt, module, float(4), Span::new(5, 9))?;
+    let ty = add_float(rt, module, 4, Span::new(5, 9))?;
     let comment = ((ty, 0), List::new(alloc));
     Ok(module.doc_comments.struct_members.push(comment)?)
 }
 
 #[test]
 fn a_missing_member_has_no_comment(rt: HostRuntime) -> Result<(), Fail> {
-    let error = with_module(rt.alloc(), |module| {
+    let error = with_text(&rt, rt.alloc(), "", |module| {
         comment_on_member(&rt, rt.alloc(), module)?;
         refusal_of(&rt, rt.alloc(), module)
     })?;
@@ -346,19 +317,18 @@ fn a_missing_member_has_no_comment(rt: HostRuntime) -> Result<(), Fail> {
 
 #[test]
 fn each_answer_is_of_its_own_module(rt: HostRuntime) -> Result<(), Fail> {
-    with_module(rt.alloc(), |good| {
-        add_floats(&rt, good, &[4])?;
-        judge_beside(&rt, rt.alloc(), good, &[4, 3])?;
-        judge_beside(&rt, rt.alloc(), good, &[4, 2])
-    })
-}
-
-/// Judges a good module in turn with one that is refused, of types of these widths.
-fn judge_beside(rt: &impl Abort, alloc: Global, good: &Module, widths: &[u8]) -> Result<(), Fail> {
-    with_module(alloc, |refused| {
-        add_floats(rt, refused, widths)?;
-        are_judged_in_turn(rt, alloc, good, refused)
-    })
+    let good = "type scalar float 4";
+    for refused in [
+        "type scalar float 4\ntype scalar float 3",
+        "type scalar float 4\ntype scalar float 2",
+    ] {
+        with_text(&rt, rt.alloc(), good, |good| {
+            with_text(&rt, rt.alloc(), refused, |refused| {
+                are_judged_in_turn(&rt, rt.alloc(), good, refused)
+            })
+        })?;
+    }
+    Ok(())
 }
 
 /// Makes sure that one validator accepts the one module and refuses the other, again and again.
@@ -384,17 +354,10 @@ fn are_judged_in_turn(
 
 #[test]
 fn a_reset_forgets_the_module_alone(rt: HostRuntime) -> Result<(), Fail> {
-    with_module(rt.alloc(), |half| {
-        add_floats(&rt, half, &[2])?;
-        reset_after(&rt, rt.alloc(), half)
-    })
-}
-
-/// Resets a validator that has judged a module of halves, and asks it for doubles.
-fn reset_after(rt: &impl Abort, alloc: Global, half: &Module) -> Result<(), Fail> {
-    with_module(alloc, |double| {
-        add_floats(rt, double, &[8])?;
-        settings_outlast_a_reset(rt, alloc, half, double)
+    with_text(&rt, rt.alloc(), "type scalar float 2", |half| {
+        with_text(&rt, rt.alloc(), "type scalar float 8", |double| {
+            settings_outlast_a_reset(&rt, rt.alloc(), half, double)
+        })
     })
 }
 
@@ -480,4 +443,37 @@ fn errors_read_as_sentences(rt: HostRuntime) -> Result<(), Fail> {
         assert_eq!(rt; text.as_str(), want);
     }
     Ok(())
+}
+
+/// Sets both at once: what the calls return is the validator itself.
+fn set_both(validator: &mut Validator, stages: ShaderStages, operations: SubgroupOperationSet)
+    ensures { validator.new ≡ record validator.old { subgroup_stages = stages; subgroup_operations = operations } }
+{
+    validator
+        .subgroup_stages(stages)
+        .subgroup_operations(operations);
+}
+
+/// Validates a module after settings were given, and resets the validator: the settings stay. Nothing
+/// shows them but the contract, so this is proved and not run.
+fn settings_outlast(validator: &mut Validator, module: &Module)
+    requires { HasNoValues «module».now }
+    ensures stages { validator.new.subgroup_stages ≡ record { 0 = 8 } }
+    ensures operations { validator.new.subgroup_operations ≡ record { 0 = 2 } }
+    ensures capabilities { validator.new.capabilities ≡ validator.old.capabilities }
+    ensures flags { validator.new.flags ≡ validator.old.flags }
+{
+    set_both(validator, ShaderStages::MESH, SubgroupOperationSet::VOTE);
+    let _ = validator.validate(module);
+    validator.reset();
+}
+
+#[test]
+fn widths_are_judged_by_the_capabilities(rt: HostRuntime) {
+    let validator = validator_under(rt.alloc(), Capabilities::default());
+    assert_eq!(rt; validator.check_width(Scalar::F32), Ok(Ok(())));
+    assert!(rt; validator.check_width(Scalar::F16).is_err());
+    let halves = validator_under(rt.alloc(), Capabilities::SHADER_FLOAT16);
+    let refused = ImmediateError::InvalidScalar(Scalar::F16);
+    assert_eq!(rt; halves.check_width(Scalar::F16), Ok(Err(refused)));
 }
