@@ -62,10 +62,20 @@ pub(crate) fn with_text<R, F: FnOnce(&Module) -> R>(
     judge(&contents.module)
 }
 
-/// Makes sure that a value is as wanted. Each `assert_eq!` in a test is proved anew, text and all; this one
+/// Makes sure that a value is as wanted. Each `assert_eq!` is proved where it stands, with its message; this
 /// is proved once.
-pub(crate) fn assert_same<T: Debug + PartialEq>(rt: &impl Abort, of: &str, got: &T, want: &T) {
-    assert!(rt; *got == *want, "{of}: {got:?}, and not {want:?}");
+pub(crate) fn assert_same<T: Debug + PartialEq>(rt: &impl Abort, got: &T, want: &T) {
+    assert!(rt; *got == *want, "{got:?}, and not {want:?}");
+}
+
+/// The same for one row of a table.
+pub(crate) fn assert_same_for<R: Debug, T: Debug + PartialEq>(
+    rt: &impl Abort,
+    row: &R,
+    got: &T,
+    want: &T,
+) {
+    assert!(rt; *got == *want, "{row:?}: {got:?}, and not {want:?}");
 }
 
 /// Makes sure that a value is shown as this text.
@@ -189,12 +199,32 @@ pub(crate) fn judged(
 
 /// The same of the types of a text.
 pub(crate) fn judged_text(
-    rt: &impl Abort,
-    alloc: Global,
+    rt: &(impl AllocGlobal + Abort),
     capabilities: Capabilities,
     text: &str,
-) -> Result<Result<TypeInfo, TypeError>, OutOfMemory> {
-    with_text(rt, alloc, text, |module| {
-        judged(rt, alloc, capabilities, module)
+) -> Result<TypeInfo, TypeError> {
+    with_text(rt, rt.alloc(), text, |module| {
+        judged(rt, rt.alloc(), capabilities, module)
     })
+    .expect(rt, "memory")
+}
+
+/// The info of the last type of a text.
+pub(crate) fn info_of(
+    rt: &(impl AllocGlobal + Abort),
+    capabilities: Capabilities,
+    text: &str,
+) -> TypeInfo {
+    judged_text(rt, capabilities, text).expect(rt, "an accepted type")
+}
+
+/// Makes sure that the first type that is refused of each text is refused so.
+pub(crate) fn assert_refused(
+    rt: &(impl AllocGlobal + Abort),
+    rows: &[(Capabilities, &str, TypeError)],
+) {
+    for (capabilities, text, want) in rows {
+        let refused = judged_text(rt, *capabilities, text).expect_err(rt, "a refused type");
+        assert_same_for(rt, text, &refused, want);
+    }
 }

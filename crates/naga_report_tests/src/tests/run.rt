@@ -1,5 +1,6 @@
 //! Runs over memory, and failures of each call in turn.
 
+use super::{assert_same, assert_same_for, assert_shown};
 use naga_report::counted::Counted;
 use naga_report::report::Outcome;
 use naga_report::run::{RunFault, run, status};
@@ -73,7 +74,7 @@ fn assert_reported(rt: &impl Abort, alloc: Global, rows: &[(&str, &str, u8)]) {
     for (text, want, code) in rows {
         let (ended, failed, output) = run_counted(alloc, text.as_bytes(), Vec::new(alloc));
         assert!(rt; failed == (0, 0), "{text:?}");
-        assert_eq!(rt; status(&ended), *code, "{text:?}");
+        assert_same_for(rt, &text, &status(&ended), code);
         assert!(rt; output.as_slice() == want.as_bytes(), "{text:?}");
     }
 }
@@ -336,7 +337,7 @@ fn opaque_types_are_reported_on(rt: HostRuntime) {
 fn any_bytes_have_a_report(rt: HostRuntime) {
     let text = b"#\xff\x00\n\xff\n".as_slice();
     let (ended, _, output) = run_counted(rt.alloc(), text, Vec::new(rt.alloc()));
-    assert_eq!(rt; ended, Ok(Outcome::Unreadable));
+    assert_same(&rt, &ended, &Ok(Outcome::Unreadable));
     assert!(rt; output.as_slice() == b"line 2 not readable\n".as_slice());
 }
 
@@ -353,13 +354,13 @@ fn each_read_fails_in_turn(rt: HostRuntime) {
         };
         let (ended, (failed, _), output) = run_counted(rt.alloc(), reader, Vec::new(rt.alloc()));
         if bad <= reads {
-            assert_eq!(rt; ended, Err(RunFault::Read), "{bad}");
-            assert_eq!(rt; status(&ended), 3);
-            assert_eq!(rt; failed, 1);
+            assert_same_for(&rt, &bad, &ended, &Err(RunFault::Read));
+            assert_same(&rt, &status(&ended), &3);
+            assert_same(&rt, &failed, &1);
             assert!(rt; output.is_empty());
         } else {
-            assert_eq!(rt; ended, Ok(Outcome::Accepted), "{bad}");
-            assert_eq!(rt; failed, 0);
+            assert_same_for(&rt, &bad, &ended, &Ok(Outcome::Accepted));
+            assert_same(&rt, &failed, &0);
         }
     }
 }
@@ -380,12 +381,12 @@ fn each_write_and_the_flush_fail_in_turn(rt: HostRuntime) {
         let len = out.len().min(bad.saturating_mul(5));
         assert!(rt; writer.inner.as_slice() == &out[..len], "{bad}");
         if bad <= writes {
-            assert_eq!(rt; ended, Err(RunFault::Write), "{bad}");
-            assert_eq!(rt; status(&ended), 3);
-            assert_eq!(rt; failed, 1);
+            assert_same_for(&rt, &bad, &ended, &Err(RunFault::Write));
+            assert_same(&rt, &status(&ended), &3);
+            assert_same(&rt, &failed, &1);
         } else {
-            assert_eq!(rt; ended, Ok(Outcome::Accepted), "{bad}");
-            assert_eq!(rt; failed, 0);
+            assert_same_for(&rt, &bad, &ended, &Ok(Outcome::Accepted));
+            assert_same(&rt, &failed, &0);
         }
     }
 }
@@ -394,20 +395,18 @@ fn each_write_and_the_flush_fail_in_turn(rt: HostRuntime) {
 fn a_writer_that_takes_nothing_more_is_a_fault(rt: HostRuntime) {
     let mut room = [0u8; 7];
     let (ended, (_, failed), left) = run_counted(rt.alloc(), TEXT.as_bytes(), &mut room[..]);
-    assert_eq!(rt; ended, Err(RunFault::Write));
-    assert_eq!(rt; failed, 1);
+    assert_same(&rt, &ended, &Err(RunFault::Write));
+    assert_same(&rt, &failed, &1);
     assert!(rt; left.is_empty());
 }
 
 #[test]
-fn faults_have_messages(rt: HostRuntime) -> Result<(), Fail> {
+fn faults_have_messages(rt: HostRuntime) {
     for (fault, message) in [
         (RunFault::Read, "reading failed"),
         (RunFault::Write, "writing failed"),
         (RunFault::OutOfMemory, "out of memory"),
     ] {
-        let text = format!(in rt.alloc(); "{fault}")?;
-        assert_eq!(rt; text.as_str(), message);
+        assert_shown(&rt, &fault, message);
     }
-    Ok(())
 }

@@ -3,12 +3,14 @@
 ghost use Rattle.naga_valid.specs.Accepted.{HasNoValues};
 ghost use Rattle.std.specs.Prelude.{◌≡◌};
 
+use super::{assert_same, assert_same_for, assert_shown};
 use naga_text::text::read_text;
 use naga_valid::{
     Alignment, BadHandle, BadRangeError, Capabilities, FunctionTag, FwdDepError, Handle,
     ImmediateError, InvalidHandleError, LayoutError, LayoutErrorInner, List, Module, OutOfMemory,
     Scalar, ShaderStages, Span, StaticText, SubgroupOperationSet, Text, Type, TypeError, TypeFlags,
-    TypeInner, TypeTag, ValidationError, ValidationFlags, Validator, WidthError, WithSpan,
+    TypeInfo, TypeInner, TypeTag, ValidationError, ValidationFlags, Validator, WidthError,
+    WithSpan,
 };
 use std::alloc::Global;
 use std::process::Abort;
@@ -111,13 +113,13 @@ fn an_empty_module_is_accepted(rt: HostRuntime) -> Result<(), Fail> {
 fn is_accepted_empty(rt: &impl Abort, alloc: Global, module: &Module) -> Result<(), Fail> {
     assert_valueless(rt, module);
     let mut validator = validator_under(alloc, Capabilities::default());
-    assert_eq!(rt; validator.type_count(), 0);
+    assert_same(rt, &validator.type_count(), &0);
     let info = validator.validate(module)?;
     let resolved = validator.validate_resolved_overrides(module)?;
-    assert_eq!(rt; validator.type_count(), 0);
+    assert_same(rt, &validator.type_count(), &0);
     for info in [info, resolved] {
         let text = format!(in alloc; "{info:?}")?;
-        assert_eq!(rt; text.as_str(), "ModuleInfo { type_flags: [] }");
+        assert_same(rt, &text.as_str(), &"ModuleInfo { type_flags: [] }");
     }
     Ok(())
 }
@@ -143,7 +145,7 @@ fn are_accepted_as_f32(rt: &impl Abort, alloc: Global, module: &Module) -> Resul
     assert_valueless(rt, module);
     let mut validator = validator_under(alloc, Capabilities::default());
     let info = validator.validate(module)?;
-    assert_eq!(rt; validator.type_count(), 3);
+    assert_same(rt, &validator.type_count(), &3);
     for (handle, flags, bytes) in [
         (Handle::new(0), number_flags, 4),
         (Handle::new(1), number_flags, 16),
@@ -151,12 +153,12 @@ fn are_accepted_as_f32(rt: &impl Abort, alloc: Global, module: &Module) -> Resul
     ] {
         assert!(rt; handle.index() < validator.type_count());
         let alignment = Alignment::new(bytes).expect(rt, "a power of two");
-        let type_info = validator.type_info(handle);
-        assert_eq!(rt; type_info.flags, flags);
-        assert_eq!(rt; type_info.uniform_layout, Ok(alignment));
-        assert_eq!(rt; type_info.storage_layout, Ok(alignment));
-        assert_eq!(rt; type_info.immediates_compatibility, Ok(()));
-        assert_eq!(rt; info[handle], flags);
+        assert_same(
+            rt,
+            &validator.type_info(handle),
+            &TypeInfo::new(flags, alignment),
+        );
+        assert_same(rt, &info[handle], &flags);
     }
     Ok(())
 }
@@ -173,10 +175,11 @@ fn a_missing_capability_refuses_the_first_type_that_asks_for_it(
         ),
     ] {
         let error = refusal_of_text(&rt, rt.alloc(), text)?;
-        assert_eq!(rt;
-            error.into_inner(),
-            refused_half(rt.alloc(), handle),
-            "{text}"
+        assert_same_for(
+            &rt,
+            &text,
+            &error.into_inner(),
+            &refused_half(rt.alloc(), handle),
         );
     }
     Ok(())
@@ -194,9 +197,9 @@ fn is_accepted_with_halves(rt: &impl Abort, alloc: Global, module: &Module) -> R
     assert_valueless(rt, module);
     let mut validator = validator_under(alloc, Capabilities::SHADER_FLOAT16);
     validator.validate(module)?;
-    assert_eq!(rt; validator.type_count(), 1);
+    assert_same(rt, &validator.type_count(), &1);
     validator.validate_resolved_overrides(module)?;
-    assert_eq!(rt; validator.type_count(), 1);
+    assert_same(rt, &validator.type_count(), &1);
     Ok(())
 }
 
@@ -208,7 +211,7 @@ fn a_type_without_layout_is_refused_before_all_else(rt: HostRuntime) -> Result<(
         ("type scalar float 4\ntype scalar float 0", Handle::new(1)),
     ] {
         let error = refusal_of_text(&rt, rt.alloc(), text)?;
-        assert_eq!(rt; error.into_inner(), no_layout(refused), "{text}");
+        assert_same_for(&rt, &text, &error.into_inner(), &no_layout(refused));
     }
     Ok(())
 }
@@ -229,7 +232,7 @@ fn a_refusal_has_the_name_of_the_type(rt: HostRuntime) -> Result<(), Fail> {
         refusal_of(&rt, rt.alloc(), module)
     })?;
     match error.into_inner() {
-        ValidationError::Type_ { name, .. } => assert_eq!(rt; name.as_str(), "Half"),
+        ValidationError::Type_ { name, .. } => assert_same(&rt, &name.as_str(), &"Half"),
         _ => assert!(rt; false, "refused otherwise"),
     }
     Ok(())
@@ -257,7 +260,7 @@ fn a_refusal_has_the_place_of_the_type(rt: HostRuntime) -> Result<(), Fail> {
             (Span::default(), None),
         ] {
             let error = refusal_at(&rt, rt.alloc(), width, span)?;
-            assert_eq!(rt; error.span(), want, "width {width}");
+            assert_same_for(&rt, &width, &error.span(), &want);
         }
     }
     Ok(())
@@ -283,10 +286,11 @@ fn a_missing_function_has_no_comment(rt: HostRuntime) -> Result<(), Fail> {
         comment_on_function(rt.alloc(), module)?;
         refusal_of(&rt, rt.alloc(), module)
     })?;
-    assert_eq!(rt; error.span(), None);
-    assert_eq!(rt;
-        error.into_inner(),
-        ValidationError::from(missing_function())
+    assert_same(&rt, &error.span(), &None);
+    assert_same(
+        &rt,
+        &error.into_inner(),
+        &ValidationError::from(missing_function()),
     );
     Ok(())
 }
@@ -304,14 +308,14 @@ fn a_missing_member_has_no_comment(rt: HostRuntime) -> Result<(), Fail> {
         comment_on_member(&rt, rt.alloc(), module)?;
         refusal_of(&rt, rt.alloc(), module)
     })?;
-    assert_eq!(rt; error.span(), None);
+    assert_same(&rt, &error.span(), &None);
     let handle = Handle::new(0);
     let want = ValidationError::Type_ {
         handle,
         name: Text::from_string(String::from_str(rt.alloc(), "Unknown")?),
         source: TypeError::InvalidData(handle),
     };
-    assert_eq!(rt; error.into_inner(), want);
+    assert_same(&rt, &error.into_inner(), &want);
     Ok(())
 }
 
@@ -342,13 +346,13 @@ fn are_judged_in_turn(
     assert_valueless(rt, refused);
     let mut validator = validator_under(alloc, Capabilities::default());
     validator.validate(good)?;
-    assert_eq!(rt; validator.type_count(), 1);
+    assert_same(rt, &validator.type_count(), &1);
     assert!(rt; validator.validate(refused).is_err());
-    assert_eq!(rt; validator.type_count(), 0);
+    assert_same(rt, &validator.type_count(), &0);
     validator.validate_resolved_overrides(good)?;
-    assert_eq!(rt; validator.type_count(), 1);
+    assert_same(rt, &validator.type_count(), &1);
     assert!(rt; validator.validate_resolved_overrides(refused).is_err());
-    assert_eq!(rt; validator.type_count(), 0);
+    assert_same(rt, &validator.type_count(), &0);
     Ok(())
 }
 
@@ -373,9 +377,9 @@ fn settings_outlast_a_reset(
     let mut validator = validator_under(alloc, Capabilities::SHADER_FLOAT16);
     validator.validate(half)?;
     validator.reset();
-    assert_eq!(rt; validator.type_count(), 0);
+    assert_same(rt, &validator.type_count(), &0);
     validator.validate(half)?;
-    assert_eq!(rt; validator.type_count(), 1);
+    assert_same(rt, &validator.type_count(), &1);
     assert!(rt; validator.validate(double).is_err());
     Ok(())
 }
@@ -401,18 +405,25 @@ fn errors_come_from_those_below(rt: HostRuntime) {
         ty: Handle::new(7),
         inner: LayoutErrorInner::NonPowerOfTwoWidth,
     };
-    assert_eq!(rt; ValidationError::from(error), no_layout(Handle::new(7)));
-    assert_eq!(rt;
-        ValidationError::from(bad_range()),
-        ValidationError::InvalidHandle(InvalidHandleError::BadRange(bad_range()))
+    assert_same(
+        &rt,
+        &ValidationError::from(error),
+        &no_layout(Handle::new(7)),
     );
-    assert_eq!(rt;
-        ValidationError::from(late_function()),
-        ValidationError::InvalidHandle(InvalidHandleError::ForwardDependency(late_function()))
+    assert_same(
+        &rt,
+        &ValidationError::from(bad_range()),
+        &ValidationError::InvalidHandle(InvalidHandleError::BadRange(bad_range())),
     );
-    assert_eq!(rt;
-        ValidationError::from(OutOfMemory),
-        ValidationError::OutOfMemory
+    assert_same(
+        &rt,
+        &ValidationError::from(late_function()),
+        &ValidationError::InvalidHandle(InvalidHandleError::ForwardDependency(late_function())),
+    );
+    assert_same(
+        &rt,
+        &ValidationError::from(OutOfMemory),
+        &ValidationError::OutOfMemory,
     );
 }
 
@@ -439,8 +450,7 @@ fn errors_read_as_sentences(rt: HostRuntime) -> Result<(), Fail> {
         ),
         (ValidationError::OutOfMemory, "Out of memory"),
     ] {
-        let text = format!(in rt.alloc(); "{error}")?;
-        assert_eq!(rt; text.as_str(), want);
+        assert_shown(&rt, &error, want);
     }
     Ok(())
 }
@@ -471,9 +481,9 @@ fn settings_outlast(validator: &mut Validator, module: &Module)
 #[test]
 fn widths_are_judged_by_the_capabilities(rt: HostRuntime) {
     let validator = validator_under(rt.alloc(), Capabilities::default());
-    assert_eq!(rt; validator.check_width(Scalar::F32), Ok(Ok(())));
+    assert_same(&rt, &validator.check_width(Scalar::F32), &Ok(Ok(())));
     assert!(rt; validator.check_width(Scalar::F16).is_err());
     let halves = validator_under(rt.alloc(), Capabilities::SHADER_FLOAT16);
     let refused = ImmediateError::InvalidScalar(Scalar::F16);
-    assert_eq!(rt; halves.check_width(Scalar::F16), Ok(Err(refused)));
+    assert_same(&rt, &halves.check_width(Scalar::F16), &Ok(Err(refused)));
 }

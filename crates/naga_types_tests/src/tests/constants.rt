@@ -1,6 +1,9 @@
 //! Expressions that are indexes, and others.
 
-use super::{add, add_constant, add_type, assert_references_ok, with_module};
+use super::{
+    add, add_constant, add_type, assert_references_ok, assert_same, assert_same_for, assert_shown,
+    with_module,
+};
 use naga_ir::expression::{Expression, Literal};
 use naga_ir::handle::Handle;
 use naga_ir::ir::Module;
@@ -51,7 +54,7 @@ fn whole_numbers_of_two_or_four_bytes_are_indexes(rt: HostRuntime) -> Result<(),
         (Literal::AbstractInt(1), Err(ConstValueError::InvalidType)),
     ] {
         let index = index_of(&rt, rt.alloc(), literal)?;
-        assert_eq!(rt; index, want, "of {literal:?}");
+        assert_same_for(&rt, &literal, &index, &want);
     }
     Ok(())
 }
@@ -76,12 +79,12 @@ fn add_zeros(rt: &impl Abort, module: &mut Module) -> Result<[Handle<ExpressionT
 fn zeros_of_scalar_types_are_indexes(rt: HostRuntime) -> Result<(), Fail> {
     with_module(rt.alloc(), |module| {
         let [word, float, vector, splat] = add_zeros(&rt, module)?;
-        assert_eq!(rt; index_at(&rt, rt.alloc(), module, word), Ok(0));
+        assert_same(&rt, &index_at(&rt, rt.alloc(), module, word), &Ok(0));
         let error = index_at(&rt, rt.alloc(), module, float);
-        assert_eq!(rt; error, Err(ConstValueError::InvalidType));
+        assert_same(&rt, &error, &Err(ConstValueError::InvalidType));
         for other in [vector, splat] {
             let error = index_at(&rt, rt.alloc(), module, other);
-            assert_eq!(rt; error, Err(ConstValueError::NonConst));
+            assert_same(&rt, &error, &Err(ConstValueError::NonConst));
         }
         Ok(())
     })
@@ -102,15 +105,15 @@ fn add_constants(rt: &impl Abort, module: &mut Module) -> Result<[Handle<Express
 fn a_constant_of_a_constant_is_no_index(rt: HostRuntime) -> Result<(), Fail> {
     with_module(rt.alloc(), |module| {
         let [named, renamed] = add_constants(&rt, module)?;
-        assert_eq!(rt; index_at(&rt, rt.alloc(), module, named), Ok(5));
+        assert_same(&rt, &index_at(&rt, rt.alloc(), module, named), &Ok(5));
         let error = index_at(&rt, rt.alloc(), module, renamed);
-        assert_eq!(rt; error, Err(ConstValueError::NonConst));
+        assert_same(&rt, &error, &Err(ConstValueError::NonConst));
         Ok(())
     })
 }
 
 #[test]
-fn errors_of_indexes_read_as_sentences(rt: HostRuntime) -> Result<(), Fail> {
+fn errors_of_indexes_read_as_sentences(rt: HostRuntime) {
     for (error, want) in [
         (
             ConstValueError::NonConst,
@@ -122,8 +125,6 @@ fn errors_of_indexes_read_as_sentences(rt: HostRuntime) -> Result<(), Fail> {
             "The constant is not a whole number of 16 or 32 bits",
         ),
     ] {
-        let shown = format!(in rt.alloc(); "{error}")?;
-        assert_eq!(rt; shown.as_str(), want);
+        assert_shown(&rt, &error, want);
     }
-    Ok(())
 }

@@ -1,5 +1,6 @@
 //! Widths and flags as their tables have them, and the texts of errors.
 
+use super::{assert_same, assert_same_for, assert_shown};
 use bitflags::Flags;
 use naga_flags::extension::ImplementedEnableExtension;
 use naga_flags::flags::{
@@ -15,30 +16,33 @@ use std::test::Fail;
 
 #[test]
 fn all_flags_are_these(rt: HostRuntime) {
-    assert_eq!(rt; Capabilities::all().bits(), 17592186044415);
-    assert_eq!(rt; Capabilities::flags().len(), 44);
-    assert_eq!(rt; ValidationFlags::all().bits(), 0x3f);
-    assert_eq!(rt; TypeFlags::all().bits(), 0xff);
-    assert_eq!(rt; ShaderStages::all().bits(), 0x1ff);
-    assert_eq!(rt; ShaderStages::COMPUTE_LIKE.bits(), 0x1c);
-    assert_eq!(rt;
-        ShaderStages::COMPUTE_LIKE,
-        ShaderStages::COMPUTE | ShaderStages::MESH | ShaderStages::TASK
+    assert_same(&rt, &Capabilities::all().bits(), &17592186044415);
+    assert_same(&rt, &Capabilities::flags().len(), &44);
+    assert_same(&rt, &ValidationFlags::all().bits(), &0x3f);
+    assert_same(&rt, &TypeFlags::all().bits(), &0xff);
+    assert_same(&rt, &ShaderStages::all().bits(), &0x1ff);
+    assert_same(&rt, &ShaderStages::COMPUTE_LIKE.bits(), &0x1c);
+    assert_same(
+        &rt,
+        &ShaderStages::COMPUTE_LIKE,
+        &(ShaderStages::COMPUTE | ShaderStages::MESH | ShaderStages::TASK),
     );
-    assert_eq!(rt; SubgroupOperationSet::all().bits(), 0xbf);
+    assert_same(&rt, &SubgroupOperationSet::all().bits(), &0xbf);
 }
 
 #[test]
 fn flags_of_the_default_sets_are_these(rt: HostRuntime) {
-    assert_eq!(rt; Capabilities::default().bits(), 36864);
-    assert_eq!(rt;
-        Capabilities::default(),
-        Capabilities::MULTISAMPLED_SHADING | Capabilities::CUBE_ARRAY_TEXTURES
+    assert_same(&rt, &Capabilities::default().bits(), &36864);
+    assert_same(
+        &rt,
+        &Capabilities::default(),
+        &(Capabilities::MULTISAMPLED_SHADING | Capabilities::CUBE_ARRAY_TEXTURES),
     );
-    assert_eq!(rt; ValidationFlags::default(), ValidationFlags::all());
-    assert_eq!(rt;
-        SubgroupOperationSet::default(),
-        SubgroupOperationSet::empty()
+    assert_same(&rt, &ValidationFlags::default(), &ValidationFlags::all());
+    assert_same(
+        &rt,
+        &SubgroupOperationSet::default(),
+        &SubgroupOperationSet::empty(),
     );
 }
 
@@ -56,42 +60,47 @@ fn names_stand_for_their_bits(rt: HostRuntime) -> Result<(), Fail> {
     ];
     for (name, bits) in capabilities {
         let flag = Capabilities::from_name(name).ok_or("no such capability")?;
-        assert_eq!(rt; flag.bits(), bits, "of {name}");
+        assert_same_for(&rt, &name, &flag.bits(), &bits);
     }
-    assert_eq!(rt; Capabilities::from_name("FLOAT32"), None);
+    assert_same(&rt, &Capabilities::from_name("FLOAT32"), &None);
     let bindings = ValidationFlags::from_name("BINDINGS").ok_or("no such part")?;
-    assert_eq!(rt; bindings.bits(), 0x20);
+    assert_same(&rt, &bindings.bits(), &0x20);
     let constructible = TypeFlags::from_name("CONSTRUCTIBLE").ok_or("no such use")?;
-    assert_eq!(rt; constructible.bits(), 0x80);
+    assert_same(&rt, &constructible.bits(), &0x80);
     Ok(())
 }
 
 #[test]
 fn unknown_bits_are_kept_where_they_are_asked_for(rt: HostRuntime) {
     let unknown = 1_u64 << 63 | 2;
-    assert_eq!(rt; Capabilities::from_bits_retain(unknown).bits(), unknown);
-    assert_eq!(rt;
-        Capabilities::from_bits_truncate(unknown),
-        Capabilities::FLOAT64
+    assert_same(
+        &rt,
+        &Capabilities::from_bits_retain(unknown).bits(),
+        &unknown,
     );
-    assert_eq!(rt; Capabilities::from_bits(unknown), None);
-    assert_eq!(rt; ValidationFlags::from_bits_retain(0xc1).bits(), 0xc1);
+    assert_same(
+        &rt,
+        &Capabilities::from_bits_truncate(unknown),
+        &Capabilities::FLOAT64,
+    );
+    assert_same(&rt, &Capabilities::from_bits(unknown), &None);
+    assert_same(&rt, &ValidationFlags::from_bits_retain(0xc1).bits(), &0xc1);
 }
 
 #[test]
 fn sets_of_flags_are_joined_and_taken_apart(rt: HostRuntime) {
     let mut flags = TypeFlags::DATA | TypeFlags::SIZED;
-    assert_eq!(rt; flags.bits(), 3);
+    assert_same(&rt, &flags.bits(), &3);
     flags |= TypeFlags::COPY;
-    assert_eq!(rt; flags.bits(), 7);
+    assert_same(&rt, &flags.bits(), &7);
     flags.insert(TypeFlags::ARGUMENT);
-    assert_eq!(rt; flags.bits(), 0x47);
+    assert_same(&rt, &flags.bits(), &0x47);
     flags.remove(TypeFlags::SIZED | TypeFlags::HOST_SHAREABLE);
-    assert_eq!(rt; flags.bits(), 0x45);
+    assert_same(&rt, &flags.bits(), &0x45);
     flags.set(TypeFlags::DATA, false);
     flags.set(TypeFlags::CONSTRUCTIBLE, true);
-    assert_eq!(rt; flags.bits(), 0xc4);
-    assert_eq!(rt; flags.union(TypeFlags::DATA).bits(), 0xc5);
+    assert_same(&rt, &flags.bits(), &0xc4);
+    assert_same(&rt, &flags.union(TypeFlags::DATA).bits(), &0xc5);
 }
 
 #[test]
@@ -113,10 +122,11 @@ fn plain_widths_need_no_capability(rt: HostRuntime) {
         (ScalarKind::Sint, 4),
         (ScalarKind::Uint, 4),
     ] {
-        assert_eq!(rt;
-            check_width(none, Scalar { kind, width }),
-            Ok(Ok(())),
-            "of {kind:?}"
+        assert_same_for(
+            &rt,
+            &kind,
+            &check_width(none, Scalar { kind, width }),
+            &Ok(Ok(())),
         );
     }
 }
@@ -174,14 +184,14 @@ fn other_widths_need_the_capability_that_the_error_names(rt: HostRuntime) {
         } else {
             Ok(())
         };
-        assert_eq!(rt; check_width(needed, scalar), Ok(immediates), "of {name}");
+        assert_same_for(&rt, &name, &check_width(needed, scalar), &Ok(immediates));
         let mut others = Capabilities::all();
         others.remove(needed);
         let missing = WidthError::MissingCapability {
             name: StaticText::new(name),
             flag: StaticText::new(flag),
         };
-        assert_eq!(rt; check_width(others, scalar), Err(missing), "of {name}");
+        assert_same_for(&rt, &name, &check_width(others, scalar), &Err(missing));
     }
 }
 
@@ -197,10 +207,11 @@ fn odd_widths_are_refused_under_all_capabilities(rt: HostRuntime) {
         (ScalarKind::Uint, 3),
         (ScalarKind::Uint, 0),
     ] {
-        assert_eq!(rt;
-            check_width(all, Scalar { kind, width }),
-            Err(WidthError::Invalid(kind, width)),
-            "of {kind:?}"
+        assert_same_for(
+            &rt,
+            &kind,
+            &check_width(all, Scalar { kind, width }),
+            &Err(WidthError::Invalid(kind, width)),
         );
     }
     for (kind, width) in [
@@ -209,10 +220,11 @@ fn odd_widths_are_refused_under_all_capabilities(rt: HostRuntime) {
         (ScalarKind::AbstractFloat, 8),
         (ScalarKind::AbstractFloat, 2),
     ] {
-        assert_eq!(rt;
-            check_width(all, Scalar { kind, width }),
-            Err(WidthError::Abstract),
-            "of {kind:?}"
+        assert_same_for(
+            &rt,
+            &kind,
+            &check_width(all, Scalar { kind, width }),
+            &Err(WidthError::Abstract),
         );
     }
 }
@@ -238,16 +250,17 @@ fn errors_say_what_is_wrong(rt: HostRuntime) -> Result<(), Fail> {
         ),
     ];
     for (error, want) in rows {
-        assert_eq!(rt; format!(in rt.alloc(); "{error}")?.as_str(), want);
+        assert_shown(&rt, &error, want);
     }
     let half = Scalar {
         kind: ScalarKind::Float,
         width: 2,
     };
     let shown = format!(in rt.alloc(); "{}", ImmediateError::InvalidScalar(half))?;
-    assert_eq!(rt;
-        shown.as_str(),
-        "The scalar type Scalar { kind: Float, width: 2 } is not supported in immediates"
+    assert_same(
+        &rt,
+        &shown.as_str(),
+        &"The scalar type Scalar { kind: Float, width: 2 } is not supported in immediates",
     );
     Ok(())
 }
@@ -270,12 +283,12 @@ fn single_capabilities_stand_for_extensions(rt: HostRuntime) {
         ),
         (Capabilities::empty(), None),
     ] {
-        assert_eq!(rt; capabilities.extension(), extension, "of {capabilities:?}");
+        assert_same_for(&rt, &capabilities, &capabilities.extension(), &extension);
     }
     let standing = Capabilities::flags()
         .iter()
         .filter(|flag| flag.value().extension().is_some());
-    assert_eq!(rt; standing.count(), 18);
+    assert_same(&rt, &standing.count(), &18);
 }
 
 #[test]
@@ -284,7 +297,7 @@ fn operations_of_subgroups_are_these(rt: HostRuntime) {
         (SubgroupOperation::Any, SubgroupOperationSet::VOTE),
         (SubgroupOperation::Xor, SubgroupOperationSet::ARITHMETIC),
     ] {
-        assert_eq!(rt; required_operations(op), operations);
+        assert_same(&rt, &required_operations(op), &operations);
     }
     for (mode, operations) in [
         (GatherMode::BroadcastFirst, SubgroupOperationSet::BALLOT),
@@ -301,6 +314,6 @@ fn operations_of_subgroups_are_these(rt: HostRuntime) {
             SubgroupOperationSet::QUAD_FRAGMENT_COMPUTE,
         ),
     ] {
-        assert_eq!(rt; required_operations_of_gather(mode), operations);
+        assert_same(&rt, &required_operations_of_gather(mode), &operations);
     }
 }

@@ -4,7 +4,7 @@ ghost use Rattle.std.specs.Prelude.{◌<◌, All, IsTrue, length};
 ghost use Rattle.naga_ir_types.specs.declared.types.StructMember as member;
 
 use super::structs::member;
-use super::{add_type, with_module};
+use super::{add_type, assert_same_for, with_module};
 use naga_ir::handle::Handle;
 use naga_ir::ir::Module;
 use naga_ir::list::List;
@@ -115,7 +115,7 @@ fn values_and_arrays_of_a_written_count_are_sized(rt: HostRuntime) -> Result<(),
         (ArraySize::Pending(Handle::new(0)), false),
         (ArraySize::Dynamic, false),
     ] {
-        assert_eq!(rt; is_sized(&array_of(size)), want, "{size:?}");
+        assert_same_for(&rt, &size, &is_sized(&array_of(size)), &want);
         assert!(rt; !is_sized(&binding_array_of(size)), "{size:?}");
     }
     Ok(())
@@ -140,7 +140,7 @@ fn integers_are_coordinates_in_storage_images(rt: HostRuntime) {
         ] {
             let inner = numbers_of(size, scalar);
             let want = if is_integer { dim } else { None };
-            assert_eq!(rt; image_storage_coordinates(&inner), want, "{inner:?}");
+            assert_same_for(&rt, &inner, &image_storage_coordinates(&inner), &want);
         }
     }
 }
@@ -148,16 +148,16 @@ fn integers_are_coordinates_in_storage_images(rt: HostRuntime) {
 #[test]
 fn other_forms_are_coordinates_in_no_image(rt: HostRuntime) {
     for inner in forms_of_values(rt.alloc()) {
-        assert_eq!(rt; image_storage_coordinates(&inner), None, "{inner:?}");
+        assert_same_for(&rt, &inner, &image_storage_coordinates(&inner), &None);
     }
     for inner in forms_of_resources() {
-        assert_eq!(rt; image_storage_coordinates(&inner), None, "{inner:?}");
+        assert_same_for(&rt, &inner, &image_storage_coordinates(&inner), &None);
     }
     for inner in [
         array_of(ArraySize::Dynamic),
         binding_array_of(ArraySize::Dynamic),
     ] {
-        assert_eq!(rt; image_storage_coordinates(&inner), None, "{inner:?}");
+        assert_same_for(&rt, &inner, &image_storage_coordinates(&inner), &None);
     }
 }
 

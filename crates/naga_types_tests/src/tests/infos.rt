@@ -1,6 +1,6 @@
 //! Lists of infos, and the texts of errors.
 
-use super::aligned;
+use super::{aligned, assert_same, assert_shown};
 use naga_flags::flags::TypeFlags;
 use naga_flags::width::WidthError;
 use naga_ir::handle::Handle;
@@ -21,11 +21,9 @@ fn infos_fill_their_room(rt: HostRuntime) -> Result<(), Fail> {
     };
     infos.push(first)?;
     infos.push(second)?;
-    assert_eq!(rt; infos.room(), 2);
-    assert_eq!(rt; infos.len(), 2);
+    assert_same(&rt, &(infos.len(), infos.room()), &(2, 2));
     infos.clear();
-    assert_eq!(rt; infos.len(), 0);
-    assert_eq!(rt; infos.room(), 2);
+    assert_same(&rt, &(infos.len(), infos.room()), &(0, 2));
     Ok(())
 }
 
@@ -42,33 +40,28 @@ fn infos_are_found_by_handle(rt: HostRuntime) -> Result<(), Fail> {
         let info = TypeInfo::new(flags, alignment);
         infos.push(info)?;
         assert!(rt; handle.index() < infos.len());
-        assert_eq!(rt; infos.get(handle), info);
-        assert_eq!(rt; infos.get(handle).flags, flags);
+        assert_same(&rt, &infos.get(handle), &info);
+        assert_same(&rt, &infos.get(handle).flags, &flags);
     }
-    assert_eq!(rt; infos.len(), 3);
+    assert_same(&rt, &infos.len(), &3);
     Ok(())
 }
 
 #[test]
-fn errors_read_as_sentences(rt: HostRuntime) -> Result<(), Fail> {
+fn errors_read_as_sentences(rt: HostRuntime) {
+    let alignment = aligned(&rt, 16);
     let error = TypeError::MatrixElementNotFloat;
-    let text = format!(in rt.alloc(); "{error}")?;
-    assert_eq!(rt;
-        text.as_str(),
-        "Matrix elements must always be floating-point types"
+    assert_shown(
+        &rt,
+        &error,
+        "Matrix elements must always be floating-point types",
     );
     let error = TypeError::from(WidthError::Abstract);
-    let text = format!(in rt.alloc(); "{error}")?;
-    assert_eq!(rt;
-        text.as_str(),
-        "Abstract types may only appear in constant expressions"
+    assert_shown(
+        &rt,
+        &error,
+        "Abstract types may only appear in constant expressions",
     );
-    Ok(())
-}
-
-#[test]
-fn disalignments_read_as_sentences(rt: HostRuntime) -> Result<(), Fail> {
-    let alignment = aligned(&rt, 16);
     for (why, want) in [
         (
             Disalignment::ArrayStride {
@@ -109,8 +102,6 @@ fn disalignments_read_as_sentences(rt: HostRuntime) -> Result<(), Fail> {
             "The type is not host-shareable",
         ),
     ] {
-        let text = format!(in rt.alloc(); "{why}")?;
-        assert_eq!(rt; text.as_str(), want);
+        assert_shown(&rt, &why, want);
     }
-    Ok(())
 }

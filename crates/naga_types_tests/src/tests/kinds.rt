@@ -2,7 +2,9 @@
 
 ghost use Rattle.std.specs.Prelude.{◌≡◌, IfOk, length};
 
-use super::{add, add_override, add_type, assert_references_ok, with_module};
+use super::{
+    add, add_override, add_type, assert_references_ok, assert_same, assert_same_for, with_module,
+};
 use naga_ir::expression::{BinaryOperator, Expression, Literal};
 use naga_ir::handle::Handle;
 use naga_ir::ir::Module;
@@ -51,14 +53,15 @@ fn check_kinds(
     want: &[(bool, bool)],
 ) -> Result<(), Fail> {
     let tracker = kinds_of(rt, alloc, module)?;
-    assert_eq!(rt; module.global_expressions.len(), want.len());
+    assert_same(rt, &module.global_expressions.len(), &want.len());
     for (place, (is_const, is_const_or_override)) in want.iter().enumerate() {
         let handle = Handle::new(place as u32);
-        assert_eq!(rt; tracker.is_const(handle), *is_const, "at {place}");
-        assert_eq!(rt;
-            tracker.is_const_or_override(handle),
-            *is_const_or_override,
-            "at {place}"
+        assert_same_for(rt, &place, &tracker.is_const(handle), is_const);
+        assert_same_for(
+            rt,
+            &place,
+            &tracker.is_const_or_override(handle),
+            is_const_or_override,
         );
     }
     Ok(())

@@ -2,7 +2,10 @@
 
 ghost use Rattle.std.specs.Prelude.{◌≡◌, IfOk, length};
 
-use super::{add_type, assert_references_ok, with_module, with_text};
+use super::{
+    add_type, assert_references_ok, assert_same, assert_same_for, assert_shown, with_module,
+    with_text,
+};
 use naga_ir::handle::Handle;
 use naga_ir::ir::Module;
 use naga_ir::types::{Scalar, ScalarKind, TypeInner};
@@ -61,7 +64,7 @@ fn each_form_has_its_size_and_alignment(rt: HostRuntime) {
         let layout = with_text(&rt, rt.alloc(), text, |module| {
             last_layout(&rt, rt.alloc(), module)
         });
-        assert_eq!(rt; layout, Ok(want), "{text}");
+        assert_same_for(&rt, &text, &layout, &Ok(want));
     }
 }
 
@@ -83,8 +86,8 @@ fn the_first_type_without_a_layout_is_named(rt: HostRuntime) -> Result<(), Fail>
             last_layout(&rt, rt.alloc(), module)
         });
         let error = layout.err().ok_or("a layout")?;
-        assert_eq!(rt; error.inner, inner);
-        assert_eq!(rt; format!(in rt.alloc(); "{error}")?.as_str(), shown);
+        assert_same(&rt, &error.inner, &inner);
+        assert_shown(&rt, &error, shown);
     }
     Ok(())
 }
@@ -111,18 +114,19 @@ fn layouts_are_those_of_the_last_module(rt: HostRuntime) -> Result<(), Fail> {
         lay_out_width(&rt, rt.alloc(), &mut layouter, width)?;
     }
     let shown = format!(in rt.alloc(); "{layouter:?}")?;
-    assert_eq!(rt;
-        shown.as_str(),
-        "Layouter { layouts: [TypeLayout { size: 4, alignment: Alignment { bytes: 4 } }] }"
+    assert_same(
+        &rt,
+        &shown.as_str(),
+        &"Layouter { layouts: [TypeLayout { size: 4, alignment: Alignment { bytes: 4 } }] }",
     );
     layouter.clear();
     let shown = format!(in rt.alloc(); "{layouter:?}")?;
-    assert_eq!(rt; shown.as_str(), "Layouter { layouts: [] }");
+    assert_same(&rt, &shown.as_str(), &"Layouter { layouts: [] }");
     Ok(())
 }
 
 #[test]
-fn errors_of_layouts_read_as_sentences(rt: HostRuntime) -> Result<(), Fail> {
+fn errors_of_layouts_read_as_sentences(rt: HostRuntime) {
     for (error, want) in [
         (
             LayoutErrorInner::TooLarge,
@@ -130,8 +134,6 @@ fn errors_of_layouts_read_as_sentences(rt: HostRuntime) -> Result<(), Fail> {
         ),
         (LayoutErrorInner::OutOfMemory, "Out of memory"),
     ] {
-        let shown = format!(in rt.alloc(); "{error}")?;
-        assert_eq!(rt; shown.as_str(), want);
+        assert_shown(&rt, &error, want);
     }
-    Ok(())
 }

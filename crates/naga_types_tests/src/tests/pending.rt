@@ -1,6 +1,6 @@
 //! Arrays that overrides size.
 
-use super::{add_type, judged, judged_with, with_module};
+use super::{add_type, assert_same, assert_same_for, judged, judged_with, with_module};
 use bitflags::Flags;
 use naga_flags::flags::Capabilities;
 use naga_ir::expression::{Expression, Literal};
@@ -105,8 +105,8 @@ fn said_of_both(
 fn a_size_may_stand_behind_one_constant(rt: HostRuntime) -> Result<(), Fail> {
     for constants in [0, 1] {
         let (before, after) = said_behind(&rt, rt.alloc(), Literal::U32(3), constants)?;
-        assert_eq!(rt; before, after, "{constants}");
-        assert_eq!(rt; after?.flags.bits(), 0x57, "{constants}");
+        assert_same_for(&rt, &constants, &before, &after);
+        assert_same_for(&rt, &constants, &after?.flags.bits(), &0x57);
     }
     Ok(())
 }
@@ -121,9 +121,9 @@ fn resolved_overrides_size_arrays_by_counts(rt: HostRuntime) -> Result<(), Fail>
         (Literal::F32(0), 0),
     ] {
         let (before, after) = said_behind(&rt, rt.alloc(), literal, constants)?;
-        assert_eq!(rt; before?.flags.bits(), 0x57, "{literal:?}");
+        assert_same_for(&rt, &literal, &before?.flags.bits(), &0x57);
         let want = Err(TypeError::InvalidArraySize(refused));
-        assert_eq!(rt; after, want, "{literal:?}");
+        assert_same_for(&rt, &literal, &after, &want);
     }
     Ok(())
 }
@@ -134,9 +134,9 @@ fn resolved_overrides_have_values(rt: HostRuntime) -> Result<(), Fail> {
         add_type(&rt, module, TypeInner::Scalar(Scalar::U32))?;
         add_array(&rt, module, None)?;
         let (before, after) = said_of_both(&rt, rt.alloc(), module)?;
-        assert_eq!(rt; before?.flags.bits(), 0x57);
+        assert_same(&rt, &before?.flags.bits(), &0x57);
         let refused = TypeError::InvalidArraySize(Handle::new(1));
-        assert_eq!(rt; after, Err(refused));
+        assert_same(&rt, &after, &Err(refused));
         Ok(())
     })
 }

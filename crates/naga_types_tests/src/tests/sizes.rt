@@ -1,7 +1,8 @@
 //! Sizes and lengths of arrays, and equal types.
 
 use super::{
-    add, add_constant, add_override, add_type, assert_references_ok, with_module, with_text,
+    add, add_constant, add_override, add_type, assert_references_ok, assert_same, assert_same_for,
+    assert_shown, with_module, with_text,
 };
 use naga_ir::expression::{Expression, Literal};
 use naga_ir::handle::Handle;
@@ -24,7 +25,7 @@ fn size_at(rt: &impl Abort, alloc: Global, module: &Module, ty: Handle<TypeTag>)
     assert_references_ok(rt, alloc, module);
     let inner = &module.types[ty].inner;
     let known = try_size(inner, to_ctx(module))?;
-    assert_eq!(rt; size(inner, to_ctx(module)), known);
+    assert_same(rt, &size(inner, to_ctx(module)), &known);
     Some(known)
 }
 
@@ -87,7 +88,7 @@ fn an_array_has_the_size_of_its_elements(rt: HostRuntime) {
         let known = with_text(&rt, rt.alloc(), text, |module| {
             size_at(&rt, rt.alloc(), module, last_type(&rt, module))
         });
-        assert_eq!(rt; known, want, "{text}");
+        assert_same_for(&rt, &text, &known, &want);
     }
 }
 
@@ -126,15 +127,15 @@ fn add_pending_constant(rt: &impl Abort, module: &mut Module) -> Result<Handle<T
 fn an_override_may_begin_with_a_constant(rt: HostRuntime) -> Result<(), Fail> {
     with_module(rt.alloc(), |module| {
         let array = add_pending_constant(&rt, module)?;
-        assert_eq!(rt; size_at(&rt, rt.alloc(), module, array), Some(24));
+        assert_same(&rt, &size_at(&rt, rt.alloc(), module, array), &Some(24));
         let lengths = [Ok(IndexableLength::Pending), Ok(IndexableLength::Known(3))];
-        assert_eq!(rt; lengths_at(&rt, rt.alloc(), module, array), lengths);
+        assert_same(&rt, &lengths_at(&rt, rt.alloc(), module, array), &lengths);
         Ok(())
     })
 }
 
 #[test]
-fn errors_of_lengths_read_as_sentences(rt: HostRuntime) -> Result<(), Fail> {
+fn errors_of_lengths_read_as_sentences(rt: HostRuntime) {
     for (error, want) in [
         (
             IndexableLengthError::TypeNotIndexable,
@@ -145,10 +146,8 @@ fn errors_of_lengths_read_as_sentences(rt: HostRuntime) -> Result<(), Fail> {
             "Array length is not a positive constant",
         ),
     ] {
-        let shown = format!(in rt.alloc(); "{error}")?;
-        assert_eq!(rt; shown.as_str(), want);
+        assert_shown(&rt, &error, want);
     }
-    Ok(())
 }
 
 #[test]
@@ -172,7 +171,11 @@ fn overrides_size_arrays_by_index_constants_above_0(rt: HostRuntime) -> Result<(
         (None, Some(0), Err(IndexableLengthError::InvalidArrayLength)),
     ] {
         let seen = pending(&rt, rt.alloc(), value)?;
-        assert_eq!(rt; seen, (size, [Ok(IndexableLength::Pending), resolved]));
+        assert_same(
+            &rt,
+            &seen,
+            &(size, [Ok(IndexableLength::Pending), resolved]),
+        );
     }
     Ok(())
 }
@@ -198,7 +201,7 @@ fn vectors_matrices_and_pointers_have_lengths(rt: HostRuntime) {
         let lengths = with_text(&rt, rt.alloc(), text, |module| {
             lengths_at(&rt, rt.alloc(), module, last_type(&rt, module))
         });
-        assert_eq!(rt; lengths, [want, want], "{text}");
+        assert_same_for(&rt, &text, &lengths, &[want, want]);
     }
 }
 
@@ -234,7 +237,7 @@ fn a_pointer_to_a_scalar_is_a_value_pointer(rt: HostRuntime) {
         ] {
             let (lhs, rhs) = (Handle::new(lhs), Handle::new(rhs));
             let answer = are_one(&rt, rt.alloc(), module, lhs, rhs);
-            assert_eq!(rt; answer, want, "{lhs:?} and {rhs:?}");
+            assert_same_for(&rt, &lhs, &answer, &want);
         }
     });
 }

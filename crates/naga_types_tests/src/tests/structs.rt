@@ -1,9 +1,9 @@
 //! What the rule says of structs: of the last type of a text, or of structs whose members have names or
 //! are built in, as those of no text are.
 
-use super::{add_type, aligned, judged, judged_text, with_module};
+use super::{add_type, aligned, assert_refused, assert_same_for, info_of, judged, with_module};
 use bitflags::Flags;
-use naga_flags::flags::Capabilities;
+use naga_flags::flags::{Capabilities, TypeFlags};
 use naga_flags::width::ImmediateError;
 use naga_ir::handle::Handle;
 use naga_ir::ir::Module;
@@ -13,7 +13,7 @@ use naga_ir::tags::TypeTag;
 use naga_ir::text::Text;
 use naga_ir::types::{ArraySize, Binding, Scalar, StructMember, TypeInner};
 use naga_types::error::{Disalignment, TypeError, VaryingError};
-use naga_types::info::TypeInfo;
+use naga_types::info::{LayoutCompatibility, TypeInfo};
 use std::alloc::Global;
 use std::process::Abort;
 use std::test::Fail;
@@ -28,100 +28,104 @@ pub(super) fn member(ty: Handle<TypeTag>, offset: u32, binding: Option<Binding>)
     }
 }
 
-#[test]
-fn a_struct_is_aligned_to_its_members_and_in_uniform_buffers_to_16(
-    rt: HostRuntime,
-) -> Result<(), Fail> {
-    let text = "type scalar uint 4\ntype struct 8 0:0 0:4";
-    let info = judged_text(&rt, rt.alloc(), Capabilities::default(), text)??;
-    assert_eq!(rt; info.flags.bits(), 0xf7);
-    assert_eq!(rt; info.uniform_layout, Ok(aligned(&rt, 16)));
-    assert_eq!(rt; info.storage_layout, Ok(aligned(&rt, 4)));
-    assert_eq!(rt; info.immediates_compatibility, Ok(()));
-    Ok(())
+/// Makes sure of the flags of structs, of an alignment of 4 bytes in storage buffers, and of this layout
+/// in uniform ones. Immediates may hold them.
+fn assert_laid_out(
+    rt: &(impl AllocGlobal + Abort),
+    text: &str,
+    flags: u8,
+    uniform: LayoutCompatibility,
+) {
+    let want = TypeInfo {
+        uniform_layout: uniform,
+        ..TypeInfo::new(TypeFlags::from_bits_retain(flags), aligned(rt, 4))
+    };
+    assert_same_for(
+        rt,
+        &text,
+        &info_of(rt, Capabilities::default(), text),
+        &want,
+    );
 }
 
 #[test]
-fn uniform_members_have_sizes_and_leave_room_after_structs(rt: HostRuntime) -> Result<(), Fail> {
-    for (text, flags, why) in [
-        (
-            "type scalar uint 4\ntype array 0 dyn 16\ntype struct 32 0:0 1:16",
-            0x35,
-            Disalignment::UnsizedMember { index: 1 },
-        ),
-        (
-            "type scalar uint 4\ntype struct 8 0:0 0:4\ntype struct 12 1:0 0:8",
-            0xf7,
-            Disalignment::MemberOffsetAfterStruct {
-                index: 1,
-                offset: 8,
-                expected: 16,
-            },
-        ),
-        (
-            "type scalar uint 4\ntype struct 8 0:0 0:4\ntype struct 20 1:0 1:8 0:16",
-            0xf7,
-            Disalignment::MemberOffsetAfterStruct {
-                index: 2,
-                offset: 16,
-                expected: 24,
-            },
-        ),
-    ] {
-        let info = judged_text(&rt, rt.alloc(), Capabilities::default(), text)??;
-        assert_eq!(rt; info.flags.bits(), flags, "{text}");
-        assert_eq!(rt; info.uniform_layout, Err((Handle::new(2), why)), "{text}");
-        assert_eq!(rt; info.storage_layout, Ok(aligned(&rt, 4)), "{text}");
-        assert_eq!(rt; info.immediates_compatibility, Ok(()), "{text}");
-    }
-    Ok(())
+fn structs_have_the_layouts_that_their_members_allow(rt: HostRuntime) {
+    let third = Handle::new(2);
+    let uniform = Ok(aligned(&rt, 16));
+    assert_laid_out(
+        &rt,
+        "type scalar uint 4\ntype struct 8 0:0 0:4",
+        0xf7,
+        uniform,
+    );
+    let why = Disalignment::UnsizedMember { index: 1 };
+    let text = "type scalar uint 4\ntype array 0 dyn 16\ntype struct 32 0:0 1:16";
+    assert_laid_out(&rt, text, 0x35, Err((third, why)));
+    let why = Disalignment::MemberOffsetAfterStruct {
+        index: 1,
+        offset: 8,
+        expected: 16,
+    };
+    let text = "type scalar uint 4\ntype struct 8 0:0 0:4\ntype struct 12 1:0 0:8";
+    assert_laid_out(&rt, text, 0xf7, Err((third, why)));
+    let why = Disalignment::MemberOffsetAfterStruct {
+        index: 2,
+        offset: 16,
+        expected: 24,
+    };
+    let text = "type scalar uint 4\ntype struct 8 0:0 0:4\ntype struct 20 1:0 1:8 0:16";
+    assert_laid_out(&rt, text, 0xf7, Err((third, why)));
 }
 
 #[test]
-fn members_stand_one_after_another_within_the_struct(rt: HostRuntime) -> Result<(), Fail> {
-    for (text, refused) in [
-        (
-            "type scalar uint 4\ntype struct 8 0:0 0:2",
-            TypeError::MemberOverlap {
-                index: 1,
-                offset: 2,
-            },
-        ),
-        (
-            "type scalar uint 4\ntype struct 16 0:0 0:8 0:10",
-            TypeError::MemberOverlap {
-                index: 2,
-                offset: 10,
-            },
-        ),
-        (
-            "type scalar uint 4\ntype struct 4294967295 0:4294967295",
-            TypeError::MemberOutOfBounds {
-                index: 0,
-                offset: 4294967295,
-                size: 4,
-                span: 4294967295,
-            },
-        ),
-        (
-            "type scalar uint 4\ntype struct 4294967295 0:0 0:4294967292",
-            TypeError::MemberOutOfBounds {
-                index: 1,
-                offset: 4294967292,
-                size: 4,
-                span: 4294967295,
-            },
-        ),
-        ("type struct 4", TypeError::EmptyStruct),
-    ] {
-        let answer = judged_text(&rt, rt.alloc(), Capabilities::default(), text)?;
-        assert_eq!(rt; answer, Err(refused), "{text}");
-    }
-    Ok(())
+fn members_stand_one_after_another_within_the_struct(rt: HostRuntime) {
+    let none = Capabilities::default();
+    assert_refused(
+        &rt,
+        &[
+            (
+                none,
+                "type scalar uint 4\ntype struct 8 0:0 0:2",
+                TypeError::MemberOverlap {
+                    index: 1,
+                    offset: 2,
+                },
+            ),
+            (
+                none,
+                "type scalar uint 4\ntype struct 16 0:0 0:8 0:10",
+                TypeError::MemberOverlap {
+                    index: 2,
+                    offset: 10,
+                },
+            ),
+            (
+                none,
+                "type scalar uint 4\ntype struct 4294967295 0:4294967295",
+                TypeError::MemberOutOfBounds {
+                    index: 0,
+                    offset: 4294967295,
+                    size: 4,
+                    span: 4294967295,
+                },
+            ),
+            (
+                none,
+                "type scalar uint 4\ntype struct 4294967295 0:0 0:4294967292",
+                TypeError::MemberOutOfBounds {
+                    index: 1,
+                    offset: 4294967292,
+                    size: 4,
+                    span: 4294967295,
+                },
+            ),
+            (none, "type struct 4", TypeError::EmptyStruct),
+        ],
+    );
 }
 
 #[test]
-fn immediates_name_the_last_member_that_they_cannot_hold(rt: HostRuntime) -> Result<(), Fail> {
+fn immediates_name_the_last_member_that_they_cannot_hold(rt: HostRuntime) {
     let given = Capabilities::SHADER_FLOAT16.union(Capabilities::SHADER_INT16);
     for (text, last) in [
         (
@@ -133,57 +137,55 @@ fn immediates_name_the_last_member_that_they_cannot_hold(rt: HostRuntime) -> Res
             Scalar::I16,
         ),
     ] {
-        let info = judged_text(&rt, rt.alloc(), given, text)??;
+        let info = info_of(&rt, given, text);
         let refused = ImmediateError::InvalidScalar(last);
-        assert_eq!(rt; info.immediates_compatibility, Err(refused), "{text}");
-        assert_eq!(rt; info.storage_layout, Ok(aligned(&rt, 4)), "{text}");
+        assert_same_for(&rt, &text, &info.immediates_compatibility, &Err(refused));
+        assert_same_for(&rt, &text, &info.storage_layout, &Ok(aligned(&rt, 4)));
     }
-    Ok(())
 }
 
 #[test]
-fn sources_of_blending_come_in_pairs(rt: HostRuntime) -> Result<(), Fail> {
-    for (text, refused) in [
-        (
-            "type scalar uint 4\ntype struct 8 0:0:0:0 0:4",
-            TypeError::InvalidBlendSrc(VaryingError::IncompleteBlendSrcUsage {
-                present_blend_src: 0,
-            }),
-        ),
-        (
-            "type scalar uint 4\ntype struct 8 0:0:0:0 0:4:0:0",
-            TypeError::InvalidBlendSrc(VaryingError::BindingCollisionBlendSrc { blend_src: 0 }),
-        ),
-        (
-            "type scalar uint 4\ntype struct 8 0:0:1:0 0:4:0:1",
-            TypeError::InvalidBlendSrc(VaryingError::InvalidBlendSrcIndex {
-                location: 1,
-                blend_src: 0,
-            }),
-        ),
-        (
-            "type scalar uint 4\ntype struct 16 0:0:0:0 0:4:7 0:8:0:1 0:12:3",
-            TypeError::InvalidBlendSrc(VaryingError::InvalidBlendSrcWithOtherBindings {
-                location: 3,
-            }),
-        ),
-    ] {
-        let given = Capabilities::DUAL_SOURCE_BLENDING;
-        let answer = judged_text(&rt, rt.alloc(), given, text)?;
-        assert_eq!(rt; answer, Err(refused), "{text}");
-    }
-    Ok(())
-}
-
-#[test]
-fn both_sources_of_blending_are_shared_by_stages(rt: HostRuntime) -> Result<(), Fail> {
+fn sources_of_blending_come_in_pairs(rt: HostRuntime) {
     let given = Capabilities::DUAL_SOURCE_BLENDING;
-    let text = "type scalar uint 4\ntype struct 8 0:0:0:0 0:4:0:1";
-    let info = judged_text(&rt, rt.alloc(), given, text)??;
-    assert_eq!(rt; info.flags.bits(), 0xff);
-    let answer = judged_text(&rt, rt.alloc(), Capabilities::default(), text)?;
-    assert_eq!(rt; answer, Err(TypeError::MissingCapability(given)));
-    Ok(())
+    let both = "type scalar uint 4\ntype struct 8 0:0:0:0 0:4:0:1";
+    assert_same_for(&rt, &both, &info_of(&rt, given, both).flags.bits(), &0xff);
+    assert_refused(
+        &rt,
+        &[
+            (
+                Capabilities::default(),
+                both,
+                TypeError::MissingCapability(given),
+            ),
+            (
+                given,
+                "type scalar uint 4\ntype struct 8 0:0:0:0 0:4",
+                TypeError::InvalidBlendSrc(VaryingError::IncompleteBlendSrcUsage {
+                    present_blend_src: 0,
+                }),
+            ),
+            (
+                given,
+                "type scalar uint 4\ntype struct 8 0:0:0:0 0:4:0:0",
+                TypeError::InvalidBlendSrc(VaryingError::BindingCollisionBlendSrc { blend_src: 0 }),
+            ),
+            (
+                given,
+                "type scalar uint 4\ntype struct 8 0:0:1:0 0:4:0:1",
+                TypeError::InvalidBlendSrc(VaryingError::InvalidBlendSrcIndex {
+                    location: 1,
+                    blend_src: 0,
+                }),
+            ),
+            (
+                given,
+                "type scalar uint 4\ntype struct 16 0:0:0:0 0:4:7 0:8:0:1 0:12:3",
+                TypeError::InvalidBlendSrc(VaryingError::InvalidBlendSrcWithOtherBindings {
+                    location: 3,
+                }),
+            ),
+        ],
+    );
 }
 
 /// A source of blending at location 0.

@@ -1,5 +1,6 @@
 //! Texts, and what is read of them.
 
+use super::{assert_same, assert_same_for};
 use bitflags::Flags;
 use naga_flags::flags::{Capabilities, ValidationFlags};
 use naga_text::text::{Contents, TextError, read_text};
@@ -52,9 +53,9 @@ fn texts_are_read(rt: HostRuntime) {
             0,
         ),
     ] {
-        assert_eq!(rt; types_of(rt, text.as_bytes()), Ok(want), "{text:?}");
+        assert_same_for(&rt, &text, &types_of(rt, text.as_bytes()), &Ok(want));
     }
-    assert_eq!(rt; types_of(rt, b"# any bytes \xff\n"), Ok(0));
+    assert_same(&rt, &types_of(rt, b"# any bytes \xff\n"), &Ok(0));
 }
 
 #[test]
@@ -85,10 +86,11 @@ fn lines_are_refused(rt: HostRuntime) {
         ("type vector 5 uint 4", 1),
         ("type matrix 2 float 4", 1),
     ] {
-        assert_eq!(rt;
-            types_of(rt, text.as_bytes()),
-            Err(TextError::Line(line)),
-            "{text:?}"
+        assert_same_for(
+            &rt,
+            &text,
+            &types_of(rt, text.as_bytes()),
+            &Err(TextError::Line(line)),
         );
     }
 }

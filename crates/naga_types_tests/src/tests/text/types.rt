@@ -2,6 +2,7 @@
 
 ghost use Rattle.std.specs.Prelude.{◌<◌};
 
+use super::assert_same_for;
 use naga_ir::handle::Handle;
 use naga_ir::list::List;
 use naga_ir::types::{
@@ -223,7 +224,7 @@ fn numbers_and_pointers_are_refused(rt: HostRuntime) {
         "type valuepointer 1 uint 4 function",
         "type valuepointer 5 uint 4 function",
     ] {
-        assert_eq!(rt; unreadable_line(rt, text), Some(1), "{text:?}");
+        assert_same_for(&rt, &text, &unreadable_line(rt, text), &Some(1));
     }
 }
 
@@ -252,7 +253,7 @@ fn arrays_and_structs_are_refused(rt: HostRuntime) {
         "type struct 16 0:0 0:",
         "type struct 16 ",
     ] {
-        assert_eq!(rt; unreadable_line(rt, text), Some(1), "{text:?}");
+        assert_same_for(&rt, &text, &unreadable_line(rt, text), &Some(1));
     }
 }
 
@@ -274,6 +275,6 @@ fn images_and_rays_are_refused(rt: HostRuntime) {
         "type rayquery 0 0",
         "type rayquery 2",
     ] {
-        assert_eq!(rt; unreadable_line(rt, text), Some(1), "{text:?}");
+        assert_same_for(&rt, &text, &unreadable_line(rt, text), &Some(1));
     }
 }
