@@ -53,7 +53,7 @@ fn check_kinds(
     want: &[(bool, bool)],
 ) -> Result<(), Fail> {
     let tracker = kinds_of(rt, alloc, module)?;
-    assert_same(rt, &module.global_expressions.len(), &want.len());
+    assert!(rt; module.global_expressions.len() == want.len());
     for (place, (is_const, is_const_or_override)) in want.iter().enumerate() {
         let handle = Handle::new(place as u32);
         assert_same_for(rt, &place, &tracker.is_const(handle), is_const);
