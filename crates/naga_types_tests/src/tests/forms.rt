@@ -115,8 +115,8 @@ fn values_and_arrays_of_a_written_count_are_sized(rt: HostRuntime) -> Result<(),
         (ArraySize::Pending(Handle::new(0)), false),
         (ArraySize::Dynamic, false),
     ] {
-        assert_same_for(&rt, &size, &is_sized(&array_of(size)), &want);
-        assert!(rt; !is_sized(&binding_array_of(size)), "{size:?}");
+        let sizes = (is_sized(&array_of(size)), is_sized(&binding_array_of(size)));
+        assert_same_for(&rt, &size, &sizes, &(want, false));
     }
     Ok(())
 }
