@@ -167,11 +167,11 @@ fn are_accepted_as_f32(rt: &impl Abort, alloc: Global, module: &Module) -> Resul
 fn a_missing_capability_refuses_the_first_type_that_asks_for_it(
     rt: HostRuntime,
 ) -> Result<(), Fail> {
-    for (text, handle) in [
-        ("type scalar float 2", Handle::new(0)),
+    for (text, index) in [
+        ("type scalar float 2", 0_u16),
         (
             "type scalar float 4\ntype scalar float 2\ntype scalar float 8",
-            Handle::new(1),
+            1,
         ),
     ] {
         let error = refusal_of_text(&rt, rt.alloc(), text)?;
@@ -179,7 +179,7 @@ fn a_missing_capability_refuses_the_first_type_that_asks_for_it(
             &rt,
             &text,
             &error.into_inner(),
-            &refused_half(rt.alloc(), handle),
+            &refused_half(rt.alloc(), Handle::new(u32::from(index))),
         );
     }
     Ok(())
@@ -205,13 +205,18 @@ fn is_accepted_with_halves(rt: &impl Abort, alloc: Global, module: &Module) -> R
 
 #[test]
 fn a_type_without_layout_is_refused_before_all_else(rt: HostRuntime) -> Result<(), Fail> {
-    for (text, refused) in [
-        ("type scalar float 3\ntype scalar float 4", Handle::new(0)),
-        ("type scalar float 2\ntype scalar float 3", Handle::new(1)),
-        ("type scalar float 4\ntype scalar float 0", Handle::new(1)),
+    for (text, index) in [
+        ("type scalar float 3\ntype scalar float 4", 0_u16),
+        ("type scalar float 2\ntype scalar float 3", 1),
+        ("type scalar float 4\ntype scalar float 0", 1),
     ] {
         let error = refusal_of_text(&rt, rt.alloc(), text)?;
-        assert_same_for(&rt, &text, &error.into_inner(), &no_layout(refused));
+        assert_same_for(
+            &rt,
+            &text,
+            &error.into_inner(),
+            &no_layout(Handle::new(u32::from(index))),
+        );
     }
     Ok(())
 }
