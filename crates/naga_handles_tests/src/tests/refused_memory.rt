@@ -1,11 +1,11 @@
 //! What is returned if memory is refused.
 //!
 //! Each scenario makes sure that every answer is right, or says that memory was refused, and returns
-//! whether it was; one whose module can't be built ends with `OutOfMemory`. Two tests run them all, and the
-//! second asks that nothing was refused. `scripts/refused-memory` runs both with one request after another
-//! refused, until the second passes too.
+//! whether it was. They share a module; if it can't be built, they end with `OutOfMemory`. Two tests run
+//! them all, and the second asks that nothing was refused. `scripts/refused-memory` runs both with one
+//! request after another refused, until the second passes too.
 
-use super::{add, add_override, add_sized_array, add_type, first};
+use super::{add, add_override, add_sized_array, first};
 use naga_handles::error::ValidationFault;
 use naga_handles::handles::validate_module_handles;
 use naga_handles::order::visit_order;
@@ -13,7 +13,6 @@ use naga_ir::expression::Expression;
 use naga_ir::ir::Module;
 use naga_ir::list::List;
 use naga_ir::memory::OutOfMemory;
-use naga_ir::types::{Scalar, TypeInner};
 use std::alloc::Global;
 use std::process::Abort;
 
@@ -51,16 +50,6 @@ fn fill(rt: &impl Abort, module: &mut Module) -> Result<(), OutOfMemory> {
     add_override(rt, module, first(), Some(first()))
 }
 
-fn is_refused_in_an_order(
-    rt: &(impl AllocGlobal + Abort),
-    module: &mut Module,
-) -> Result<bool, OutOfMemory> {
-    fill(rt, module)?;
-    let judgement = is_judgement_refused(rt, rt.alloc(), module);
-    let order = is_order_refused(rt, rt.alloc(), module);
-    Ok(judgement || order)
-}
-
 /// Whether a call was refused memory where the name of a type is due; then the next one has it.
 fn is_name_refused(rt: &impl Abort, alloc: Global, module: &Module) -> bool {
     let fault = validate_module_handles(alloc, module).err();
@@ -73,23 +62,24 @@ fn is_name_refused(rt: &impl Abort, alloc: Global, module: &Module) -> bool {
     true
 }
 
-/// Adds a comment on a member of type 0, which is a scalar.
-fn is_refused_in_a_name(
+/// Runs all scenarios in a module, and returns whether memory was refused in one.
+fn is_refused_in(
     rt: &(impl AllocGlobal + Abort),
     module: &mut Module,
 ) -> Result<bool, OutOfMemory> {
-    add_type(rt, module, TypeInner::Scalar(Scalar::U32))?;
+    fill(rt, module)?;
+    let judgement = is_judgement_refused(rt, rt.alloc(), module);
+    let order = is_order_refused(rt, rt.alloc(), module);
     let comment = ((first(), 0), List::new(rt.alloc()));
     module.doc_comments.struct_members.push(comment)?;
-    Ok(is_name_refused(rt, rt.alloc(), module))
+    let name = is_name_refused(rt, rt.alloc(), module);
+    Ok(judgement || order || name)
 }
 
 /// Runs all scenarios, and returns whether memory was refused in one.
 fn is_refused(rt: &(impl AllocGlobal + Abort)) -> bool {
     let mut module = Module::new(rt.alloc());
-    let order = is_refused_in_an_order(rt, &mut module);
-    let name = is_refused_in_a_name(rt, &mut module);
-    [order, name] != [Ok(false); 2]
+    is_refused_in(rt, &mut module) != Ok(false)
 }
 
 #[test]
