@@ -1,7 +1,42 @@
 //! The tests of `naga_arena`, `naga_ir_types` and `naga_ir`.
+//!
+//! Each exit of a function drops what it owns, and the proof goes through each. So what builds a value here
+//! ends the run if memory is refused.
 
 mod arena;
 mod ir_types;
 mod operands;
 mod triangle;
 mod walk;
+
+use naga_arena::text::Text;
+use std::fmt::{Debug, Display};
+use std::process::Abort;
+
+/// Makes sure that a value is as wanted. Each `assert_eq!` in a test is proved anew, text and all; this one
+/// is proved once.
+pub(crate) fn assert_same<T: Debug + PartialEq>(rt: &impl Abort, of: &str, got: &T, want: &T) {
+    assert!(rt; *got == *want, "{of}: {got:?}, and not {want:?}");
+}
+
+/// Makes sure that something holds.
+pub(crate) fn assert_holds(rt: &impl Abort, of: &str, holds: bool) {
+    assert!(rt; holds, "{of}");
+}
+
+/// Makes sure that a value is shown as this text.
+pub(crate) fn assert_shown<T: Display>(rt: &(impl AllocGlobal + Abort), value: &T, want: &str) {
+    let shown = format!(in rt.alloc(); "{value}").expect(rt, "memory");
+    assert!(rt; shown.as_str() == want, "{shown}");
+}
+
+/// Makes sure that the debug text of a value is this.
+pub(crate) fn assert_debugged<T: Debug>(rt: &(impl AllocGlobal + Abort), value: &T, want: &str) {
+    let shown = format!(in rt.alloc(); "{value:?}").expect(rt, "memory");
+    assert!(rt; shown.as_str() == want, "{shown}");
+}
+
+/// A text of these bytes.
+pub(crate) fn text(rt: &(impl AllocGlobal + Abort), text: &str) -> Text {
+    Text::from_string(String::from_str(rt.alloc(), text).expect(rt, "memory"))
+}

@@ -1,4 +1,4 @@
-//! How faults read, and what a forward dependency tells.
+//! How faults read, and what a forward dependency reports.
 
 use super::bad_handle;
 use naga_handles::error::{FwdDepError, InvalidHandleError, ValidationFault};
@@ -6,7 +6,7 @@ use naga_ir::handle::Handle;
 use naga_ir::range::BadRangeError;
 use naga_ir::tags::FunctionTag;
 use naga_ir::text::{StaticText, Text};
-use std::test::Fail;
+use std::process::Abort;
 
 /// The error on function 2, which calls function 3.
 fn late_function() -> FwdDepError {
@@ -14,46 +14,50 @@ fn late_function() -> FwdDepError {
 }
 
 #[test]
-fn a_forward_dependency_tells_both_ends(rt: HostRuntime) {
+fn a_forward_dependency_reports_both_ends(rt: HostRuntime) {
     let error = late_function();
-    assert_eq!(rt; error.subject(), 2);
-    assert_eq!(rt; error.subject_kind(), "Function");
-    assert_eq!(rt; error.depends_on(), 3);
-    assert_eq!(rt; error.depends_on_kind(), "Function");
+    assert!(rt; (error.subject(), error.depends_on()) == (2, 3));
+    let kinds = (error.subject_kind(), error.depends_on_kind());
+    assert!(rt; kinds == ("Function", "Function"));
+}
+
+/// Makes sure that a fault reads so.
+fn assert_reads(rt: &(impl AllocGlobal + Abort), fault: ValidationFault, want: &str) {
+    let text = format!(in rt.alloc(); "{fault}").expect(rt, "memory");
+    assert_eq!(rt; text.as_str(), want);
 }
 
 #[test]
-fn faults_read_as_sentences(rt: HostRuntime) -> Result<(), Fail> {
-    let missing_member = ValidationFault::MissingMember {
-        handle: Handle::new(1),
-        name: Text::from_string(String::from_str(rt.alloc(), "S")?),
-    };
+fn faults_read_as_sentences(rt: HostRuntime) {
+    assert_reads(
+        &rt,
+        bad_handle("Function", 5),
+        "Handle 5 of Function is either not present, or inaccessible yet",
+    );
+    assert_reads(
+        &rt,
+        ValidationFault::Invalid(InvalidHandleError::from(late_function())),
+        "[2] of kind \"Function\" depends on [3] of kind Function, which has not been processed yet",
+    );
     let range = BadRangeError {
         kind: StaticText::new("Expression"),
         start: 2,
         end: 5,
     };
-    for (fault, want) in [
-        (
-            bad_handle("Function", 5),
-            "Handle 5 of Function is either not present, or inaccessible yet",
-        ),
-        (
-            ValidationFault::Invalid(InvalidHandleError::from(late_function())),
-            "[2] of kind \"Function\" depends on [3] of kind Function, which has not been processed yet",
-        ),
-        (
-            ValidationFault::Invalid(InvalidHandleError::from(range)),
-            "Handle range [2..5] of Expression is either not present, or inaccessible yet",
-        ),
-        (
-            missing_member,
-            "Type [1] 'S' has no member that a comment is on",
-        ),
-        (ValidationFault::OutOfMemory, "Out of memory"),
-    ] {
-        let text = format!(in rt.alloc(); "{fault}")?;
-        assert_eq!(rt; text.as_str(), want);
-    }
-    Ok(())
+    assert_reads(
+        &rt,
+        ValidationFault::Invalid(InvalidHandleError::from(range)),
+        "Handle range [2..5] of Expression is either not present, or inaccessible yet",
+    );
+    let name = String::from_str(rt.alloc(), "S").expect(&rt, "memory");
+    let missing_member = ValidationFault::MissingMember {
+        handle: Handle::new(1),
+        name: Text::from_string(name),
+    };
+    assert_reads(
+        &rt,
+        missing_member,
+        "Type [1] 'S' has no member that a comment is on",
+    );
+    assert_reads(&rt, ValidationFault::OutOfMemory, "Out of memory");
 }

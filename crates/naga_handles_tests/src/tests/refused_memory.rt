@@ -1,25 +1,32 @@
-//! What is answered where memory is refused.
+//! What is returned if memory is refused.
 //!
-//! Each scenario is run by two tests. One asks that every answer is right, or says that memory was
-//! refused; the other, that none was refused. `scripts/refused-memory` runs both with one request after
-//! another refused, until the second kind passes too. A scenario whose module can't be built ends with
-//! `OutOfMemory`.
+//! Each scenario makes sure that every answer is right, or says that memory was refused, and returns
+//! whether it was. They share a module; if it can't be built, they end with `OutOfMemory`. Two tests run
+//! them all, and the second asks that nothing was refused. `scripts/refused-memory` runs both with one
+//! request after another refused, until the second passes too.
 
-use super::{add, add_override, add_sized_array, add_type, with_module};
+use super::{add, add_override, add_sized_array, first};
 use naga_handles::error::ValidationFault;
 use naga_handles::handles::validate_module_handles;
 use naga_handles::order::visit_order;
 use naga_ir::expression::Expression;
-use naga_ir::handle::Handle;
 use naga_ir::ir::Module;
 use naga_ir::list::List;
 use naga_ir::memory::OutOfMemory;
-use naga_ir::types::{Scalar, TypeInner};
 use std::alloc::Global;
 use std::process::Abort;
-use std::test::Fail;
 
-/// Whether a call was refused memory; then the next one succeeds.
+/// Whether the judgement of a right module was refused memory; then the next one succeeds.
+fn is_judgement_refused(rt: &impl Abort, alloc: Global, module: &Module) -> bool {
+    let Err(fault) = validate_module_handles(alloc, module) else {
+        return false;
+    };
+    assert!(rt; fault == ValidationFault::OutOfMemory);
+    assert!(rt; validate_module_handles(alloc, module).is_ok());
+    true
+}
+
+/// Whether an order was refused memory; then the next call has one.
 fn is_order_refused(rt: &impl Abort, alloc: Global, module: &Module) -> bool {
     match visit_order(alloc, module) {
         Ok(walk) => {
@@ -34,16 +41,13 @@ fn is_order_refused(rt: &impl Abort, alloc: Global, module: &Module) -> bool {
     }
 }
 
-fn is_refused_in_an_order(rt: &(impl AllocGlobal + Abort)) -> Result<bool, OutOfMemory> {
-    with_module(rt.alloc(), |module| {
-        add_sized_array(rt, module, 0)?;
-        for _ in 0..4 {
-            add(rt, module, Expression::ZeroValue(Handle::new(0)))?;
-        }
-        add_override(rt, module, 0, 0)?;
-        assert!(rt; validate_module_handles(rt.alloc(), module).is_ok());
-        Ok(is_order_refused(rt, rt.alloc(), module))
-    })
+/// Fills a module with an array, the expressions that size it, and their override.
+fn fill(rt: &impl Abort, module: &mut Module) -> Result<(), OutOfMemory> {
+    add_sized_array(rt, module, 0)?;
+    for _ in 0..4 {
+        add(rt, module, Expression::ZeroValue(first()))?;
+    }
+    add_override(rt, module, first(), Some(first()))
 }
 
 /// Whether a call was refused memory where the name of a type is due; then the next one has it.
@@ -58,35 +62,32 @@ fn is_name_refused(rt: &impl Abort, alloc: Global, module: &Module) -> bool {
     true
 }
 
-fn is_refused_in_a_name(rt: &(impl AllocGlobal + Abort)) -> Result<bool, OutOfMemory> {
-    with_module(rt.alloc(), |module| {
-        add_type(rt, module, TypeInner::Scalar(Scalar::F32))?;
-        let comment = ((Handle::new(0), 0), List::new(rt.alloc()));
-        module.doc_comments.struct_members.push(comment)?;
-        Ok(is_name_refused(rt, rt.alloc(), module))
-    })
+/// Runs all scenarios in a module, and returns whether memory was refused in one.
+fn is_refused_in(
+    rt: &(impl AllocGlobal + Abort),
+    module: &mut Module,
+) -> Result<bool, OutOfMemory> {
+    fill(rt, module)?;
+    let judgement = is_judgement_refused(rt, rt.alloc(), module);
+    let order = is_order_refused(rt, rt.alloc(), module);
+    let comment = ((first(), 0), List::new(rt.alloc()));
+    module.doc_comments.struct_members.push(comment)?;
+    let name = is_name_refused(rt, rt.alloc(), module);
+    Ok(judgement || order || name)
+}
+
+/// Runs all scenarios, and returns whether memory was refused in one.
+fn is_refused(rt: &(impl AllocGlobal + Abort)) -> bool {
+    let mut module = Module::new(rt.alloc());
+    is_refused_in(rt, &mut module) != Ok(false)
 }
 
 #[test]
-fn refusals_are_told_in_an_order(rt: HostRuntime) -> Result<(), Fail> {
-    let _ = is_refused_in_an_order(&rt);
-    Ok(())
+fn refusals_are_reported(rt: HostRuntime) {
+    is_refused(&rt);
 }
 
 #[test]
-fn memory_is_ample_in_an_order(rt: HostRuntime) -> Result<(), Fail> {
-    assert!(rt; is_refused_in_an_order(&rt) == Ok(false));
-    Ok(())
-}
-
-#[test]
-fn refusals_are_told_in_a_name(rt: HostRuntime) -> Result<(), Fail> {
-    let _ = is_refused_in_a_name(&rt);
-    Ok(())
-}
-
-#[test]
-fn memory_is_ample_in_a_name(rt: HostRuntime) -> Result<(), Fail> {
-    assert!(rt; is_refused_in_a_name(&rt) == Ok(false));
-    Ok(())
+fn memory_is_ample(rt: HostRuntime) {
+    assert!(rt; !is_refused(&rt));
 }

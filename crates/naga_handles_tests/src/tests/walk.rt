@@ -1,190 +1,128 @@
 //! Types and global expressions: whether they are accepted, and the order in which they are visited.
 
-use super::{add, add_constant, add_override, add_sized_array, bad_handle, forward, with_module};
+use super::{
+    add, add_constant, add_override, add_sized_array, assert_accepted, assert_refused, bad_handle,
+    first, forward,
+};
 use naga_handles::error::ValidationFault;
-use naga_handles::handles::validate_module_handles;
-use naga_handles::order::{Item, visit_order};
+use naga_handles::order::{Walk, visit_order};
 use naga_ir::expression::Expression;
 use naga_ir::handle::Handle;
 use naga_ir::ir::Module;
-use naga_ir::memory::OutOfMemory;
 use naga_ir::tags::{ExpressionTag, TypeTag};
-use std::alloc::Global;
 use std::process::Abort;
-use std::test::Fail;
-
-fn type_at(place: u16) -> Handle<TypeTag> {
-    Handle::new(u32::from(place))
-}
-
-fn expression_at(place: u16) -> Handle<ExpressionTag> {
-    Handle::new(u32::from(place))
-}
 
 /// The zero of a type.
-fn zero(ty: u16) -> Expression {
-    Expression::ZeroValue(type_at(ty))
+fn zero(ty: u8) -> Expression {
+    Expression::ZeroValue(Handle::new(u32::from(ty)))
 }
 
 /// The constant at place 0.
 fn constant() -> Expression {
-    Expression::Constant(Handle::new(0))
+    Expression::Constant(first())
 }
 
-/// Adds type 0 of four bytes, type 1, which is an array of it that override 0 sizes, two global
-/// expressions, and override 0, which begins with one of them.
-fn fill(
-    rt: &impl Abort,
-    module: &mut Module,
-    first: Expression,
-    second: Expression,
-    init: u16,
-) -> Result<(), OutOfMemory> {
-    add_sized_array(rt, module, 0)?;
-    add(rt, module, first)?;
-    add(rt, module, second)?;
-    add_override(rt, module, 0, init)
+/// A module of type 0 of four bytes, type 1, which is an array of it that override 0 sizes, a global
+/// expression, and override 0, which begins with the expression at a place.
+fn sized(rt: &(impl AllocGlobal + Abort), expression: Expression, init: u8) -> Module {
+    let mut module = Module::new(rt.alloc());
+    add_sized_array(rt, &mut module, 0).expect(rt, "memory");
+    add(rt, &mut module, expression).expect(rt, "memory");
+    let init = Handle::new(u32::from(init));
+    add_override(rt, &mut module, first(), Some(init)).expect(rt, "memory");
+    module
+}
+
+/// The same with a second global expression, and a constant of a type that begins with the first.
+fn sized_by_one_of_two(
+    rt: &(impl AllocGlobal + Abort),
+    expressions: (Expression, Expression),
+    init: u8,
+    ty: u8,
+) -> Module {
+    let mut module = sized(rt, expressions.0, init);
+    add(rt, &mut module, expressions.1).expect(rt, "memory");
+    add_constant(rt, &mut module, Handle::new(u32::from(ty)), first());
+    module
 }
 
 /// Makes sure that a module is accepted, and visited in this order.
-fn assert_order(
-    rt: &impl Abort,
-    alloc: Global,
-    module: &Module,
-    want: &[Item],
-) -> Result<(), Fail> {
-    assert!(rt; validate_module_handles(alloc, module).is_ok());
-    let walk = visit_order(alloc, module)?;
-    assert_eq!(rt; walk.order.as_slice(), want);
-    assert_eq!(rt; walk.looks, want.len() as u64);
-    Ok(())
+fn assert_order(rt: &(impl AllocGlobal + Abort), module: Module, want: &str) {
+    assert_visited(rt, &visit_order(rt.alloc(), &module), want);
+    assert_accepted(rt, module);
 }
 
-/// What both calls answer of a module.
-fn faults_of(
-    rt: &impl Abort,
-    alloc: Global,
-    module: &Module,
-) -> Result<Option<ValidationFault>, Fail> {
-    let fault = validate_module_handles(alloc, module).err();
-    assert!(rt; visit_order(alloc, module).err() == fault);
-    Ok(fault)
-}
-
-/// What is answered where the two expressions and what the override begins with are these. There is a
-/// constant of type 0, which begins with expression 0.
-fn fault_of(
-    rt: &impl Abort,
-    alloc: Global,
-    first: Expression,
-    second: Expression,
-    init: u16,
-) -> Result<Option<ValidationFault>, Fail> {
-    with_module(alloc, |module| {
-        fill(rt, module, first, second, init)?;
-        add_constant(rt, module, 0, 0)?;
-        faults_of(rt, alloc, module)
-    })
+/// Makes sure that a visit had this order.
+fn assert_visited(
+    rt: &(impl AllocGlobal + Abort),
+    visit: &Result<Walk, ValidationFault>,
+    want: &str,
+) {
+    let shown = format!(in rt.alloc(); "{visit:?}").expect(rt, "memory");
+    assert!(rt; shown.as_str() == want, "{shown}");
 }
 
 #[test]
-fn array_size_deps(rt: HostRuntime) -> Result<(), Fail> {
-    with_module(rt.alloc(), |module| {
-        add_sized_array(&rt, module, 0)?;
-        add(&rt, module, zero(0))?;
-        add_override(&rt, module, 0, 0)?;
-        let want = [
-            Item::Type_(type_at(0)),
-            Item::Expression(expression_at(0)),
-            Item::Type_(type_at(1)),
-        ];
-        assert_order(&rt, rt.alloc(), module, &want)
-    })
-}
-
-#[test]
-fn array_size_deps_on_itself(rt: HostRuntime) -> Result<(), Fail> {
-    let fault = fault_of(&rt, rt.alloc(), zero(1), zero(0), 0)?;
-    assert_eq!(rt; fault, Some(forward(type_at(1), type_at(1))));
-    Ok(())
-}
-
-#[test]
-fn override_init_deps(rt: HostRuntime) -> Result<(), Fail> {
-    with_module(rt.alloc(), |module| {
-        fill(&rt, module, zero(0), zero(1), 0)?;
-        let want = [
-            Item::Type_(type_at(0)),
-            Item::Expression(expression_at(0)),
-            Item::Type_(type_at(1)),
-            Item::Expression(expression_at(1)),
-        ];
-        assert_order(&rt, rt.alloc(), module, &want)
-    })
-}
-
-#[test]
-fn override_init_deps_on_what_it_sizes(rt: HostRuntime) -> Result<(), Fail> {
-    let fault = fault_of(&rt, rt.alloc(), zero(0), zero(1), 1)?;
-    assert_eq!(rt; fault, Some(forward(type_at(1), type_at(1))));
-    let before_it = fault_of(&rt, rt.alloc(), zero(1), zero(0), 1)?;
-    assert_eq!(rt; before_it, Some(forward(type_at(1), type_at(1))));
-    Ok(())
-}
-
-#[test]
-fn expressions_up_to_a_size_come_before_the_type(rt: HostRuntime) -> Result<(), Fail> {
-    with_module(rt.alloc(), |module| {
-        fill(&rt, module, zero(0), constant(), 1)?;
-        add_constant(&rt, module, 1, 0)?;
-        let want = [
-            Item::Type_(type_at(0)),
-            Item::Expression(expression_at(0)),
-            Item::Expression(expression_at(1)),
-            Item::Type_(type_at(1)),
-        ];
-        assert_order(&rt, rt.alloc(), module, &want)
-    })
-}
-
-#[test]
-fn constant_deps(rt: HostRuntime) -> Result<(), Fail> {
-    let fault = with_module(rt.alloc(), |module| {
-        add(&rt, module, constant())?;
-        add_constant(&rt, module, 0, 0)?;
-        faults_of(&rt, rt.alloc(), module)
-    })?;
-    assert_eq!(rt; fault, Some(forward(expression_at(0), expression_at(0))));
-    let fault = fault_of(&rt, rt.alloc(), constant(), zero(0), 0)?;
-    assert_eq!(rt; fault, Some(forward(expression_at(0), expression_at(0))));
-    Ok(())
-}
-
-#[test]
-fn what_is_named_is_there(rt: HostRuntime) -> Result<(), Fail> {
-    let fault = fault_of(
+fn items_come_after_what_they_depend_on(rt: HostRuntime) {
+    assert_order(
         &rt,
-        rt.alloc(),
-        zero(0),
-        Expression::LocalVariable(Handle::new(0)),
-        0,
-    )?;
-    assert_eq!(rt; fault, Some(bad_handle("LocalVariable", 0)));
-    let fault = fault_of(&rt, rt.alloc(), zero(0), zero(2), 0)?;
-    assert_eq!(rt; fault, Some(bad_handle("Type", 2)));
-    let fault = fault_of(&rt, rt.alloc(), zero(0), zero(0), 2)?;
-    assert_eq!(rt; fault, Some(bad_handle("Expression", 2)));
-    Ok(())
+        sized(&rt, zero(0), 0),
+        "Ok(Walk { order: [Type_([0]), Expression([0]), Type_([1])], looks: 3 })",
+    );
+    assert_order(
+        &rt,
+        sized_by_one_of_two(&rt, (zero(0), zero(1)), 0, 0),
+        "Ok(Walk { order: [Type_([0]), Expression([0]), Type_([1]), Expression([1])], looks: 4 })",
+    );
+    assert_order(
+        &rt,
+        sized_by_one_of_two(&rt, (zero(0), constant()), 1, 1),
+        "Ok(Walk { order: [Type_([0]), Expression([0]), Expression([1]), Type_([1])], looks: 4 })",
+    );
+}
+
+/// Makes sure that both calls refuse a module with this fault.
+fn assert_both_refuse(rt: &(impl AllocGlobal + Abort), module: Module, want: ValidationFault) {
+    assert!(rt; visit_order(rt.alloc(), &module).err().as_ref() == Some(&want));
+    assert_refused(rt, module, want);
+}
+
+/// Makes sure that both calls refuse a module with this fault if its expressions, and the place of the one
+/// that the override begins with, are these.
+fn assert_sizes_refused(
+    rt: &(impl AllocGlobal + Abort),
+    expressions: (Expression, Expression),
+    init: u8,
+    want: ValidationFault,
+) {
+    assert_both_refuse(rt, sized_by_one_of_two(rt, expressions, init, 0), want);
 }
 
 #[test]
-fn array_size_override(rt: HostRuntime) -> Result<(), Fail> {
-    with_module(rt.alloc(), |module| {
-        add_sized_array(&rt, module, 1000)?;
-        assert_eq!(rt;
-            faults_of(&rt, rt.alloc(), module)?,
-            Some(bad_handle("Override", 1000))
-        );
-        Ok(())
-    })
+fn sizes_depend_on_nothing_that_depends_on_them(rt: HostRuntime) {
+    let array = Handle::<TypeTag>::new(1);
+    assert_sizes_refused(&rt, (zero(1), zero(0)), 0, forward(array, array));
+    assert_sizes_refused(&rt, (zero(0), zero(1)), 1, forward(array, array));
+    assert_sizes_refused(&rt, (zero(1), zero(0)), 1, forward(array, array));
+}
+
+#[test]
+fn constants_depend_on_nothing_that_depends_on_them(rt: HostRuntime) {
+    let itself = Handle::<ExpressionTag>::new(0);
+    let mut module = Module::new(rt.alloc());
+    add(&rt, &mut module, constant()).expect(&rt, "memory");
+    add_constant(&rt, &mut module, first(), first());
+    assert_both_refuse(&rt, module, forward(itself, itself));
+    assert_sizes_refused(&rt, (constant(), zero(0)), 0, forward(itself, itself));
+}
+
+#[test]
+fn what_is_named_is_there(rt: HostRuntime) {
+    let local = Expression::LocalVariable(first());
+    assert_sizes_refused(&rt, (zero(0), local), 0, bad_handle("LocalVariable", 0));
+    assert_sizes_refused(&rt, (zero(0), zero(2)), 0, bad_handle("Type", 2));
+    assert_sizes_refused(&rt, (zero(0), zero(0)), 2, bad_handle("Expression", 2));
+    let mut module = Module::new(rt.alloc());
+    add_sized_array(&rt, &mut module, 1000).expect(&rt, "memory");
+    assert_both_refuse(&rt, module, bad_handle("Override", 1000));
 }

@@ -1,5 +1,6 @@
 //! Examples of arenas and of what stands in them, and the texts that no clause states.
 
+use super::{assert_debugged, assert_holds, assert_same, assert_shown, text};
 use naga_arena::arena::Arena;
 use naga_arena::handle::{BadHandle, Handle, Kind};
 use naga_arena::list::List;
@@ -11,211 +12,215 @@ use naga_arena::tags::{
     LocalVariableTag, OverrideTag, TypeTag,
 };
 use naga_arena::text::{StaticText, Text};
-use std::test::Fail;
+use std::process::Abort;
+
+/// Makes sure that two strings are the same.
+fn assert_reads(rt: &impl Abort, got: &str, want: &str) {
+    assert!(rt; got == want, "{got}, and not {want}");
+}
 
 #[test]
-fn handles_are_shown_by_their_place(rt: HostRuntime) -> Result<(), Fail> {
+fn handles_are_shown_by_their_place(rt: HostRuntime) {
     let handle: Handle<TypeTag> = Handle::new(3);
-    assert_eq!(rt; handle.index(), 3);
-    assert_eq!(rt; format!(in rt.alloc(); "{handle:?}")?.as_str(), "[3]");
-    Ok(())
+    assert_same(&rt, "the place", &handle.index(), &3);
+    assert_debugged(&rt, &handle, "[3]");
 }
 
 #[test]
-fn texts_keep_their_bytes(rt: HostRuntime) -> Result<(), Fail> {
-    let text = Text::from_string(String::from_str(rt.alloc(), "größe")?);
-    let copy = text.try_clone()?;
-    assert_eq!(rt; copy.as_str(), "größe");
-    assert!(rt; copy == text);
-    assert!(rt; Text::new(rt.alloc()) != text);
-    assert_eq!(rt; Text::new(rt.alloc()).as_str(), "");
-    assert_eq!(rt; format!(in rt.alloc(); "{text}")?.as_str(), "größe");
-    assert_eq!(rt; text.into_string().as_str(), "größe");
-    Ok(())
+fn texts_keep_their_bytes(rt: HostRuntime) {
+    let whole = text(&rt, "größe");
+    let copy = whole.try_clone().expect(&rt, "memory");
+    assert_reads(&rt, copy.as_str(), "größe");
+    let empty = Text::new(rt.alloc());
+    assert_holds(&rt, "the copy", copy == whole && empty != whole);
+    assert_reads(&rt, empty.as_str(), "");
+    assert_shown(&rt, &whole, "größe");
+    assert_reads(&rt, whole.into_string().as_str(), "größe");
 }
 
 #[test]
-fn static_texts_keep_their_bytes(rt: HostRuntime) -> Result<(), Fail> {
+fn static_texts_keep_their_bytes(rt: HostRuntime) {
     let text = StaticText::new("f16");
-    assert_eq!(rt; text.as_str(), "f16");
-    assert!(rt; text.clone()? == text);
-    assert!(rt; StaticText::new("f64") != text);
-    assert_eq!(rt; format!(in rt.alloc(); "{text}")?.as_str(), "f16");
-    Ok(())
+    assert_reads(&rt, text.as_str(), "f16");
+    let copy = text.clone().expect(&rt, "memory");
+    assert_holds(&rt, "the copy", copy == text);
+    assert_holds(&rt, "another", StaticText::new("f64") != text);
+    assert_shown(&rt, &text, "f16");
 }
 
 #[test]
-fn want_of_memory_is_named(rt: HostRuntime) -> Result<(), Fail> {
-    assert_eq!(rt;
-        format!(in rt.alloc(); "{OutOfMemory}")?.as_str(),
-        "Out of memory"
-    );
-    assert_eq!(rt;
-        format!(in rt.alloc(); "{OutOfMemory:?}")?.as_str(),
-        "OutOfMemory"
-    );
-    Ok(())
+fn want_of_memory_is_named(rt: HostRuntime) {
+    assert_shown(&rt, &OutOfMemory, "Out of memory");
+    assert_debugged(&rt, &OutOfMemory, "OutOfMemory");
+}
+
+/// Makes sure of spans whether they are defined.
+fn assert_defined(rt: &impl Abort, rows: &[(Span, bool)]) {
+    for (span, want) in rows {
+        assert!(rt; span.is_defined() == *want, "{span:?}");
+    }
 }
 
 #[test]
 fn only_the_span_from_0_to_0_is_undefined(rt: HostRuntime) {
-    for (start, end, want) in [(0, 0, false), (0, 1, true), (5, 5, true), (5, 0, true)] {
-        assert_eq!(rt;
-            Span::new(start, end).is_defined(),
-            want,
-            "{start} to {end}"
-        );
-    }
-    assert!(rt; !Span::default().is_defined());
+    assert_defined(
+        &rt,
+        &[
+            (Span::new(0, 0), false),
+            (Span::new(0, 1), true),
+            (Span::new(5, 5), true),
+            (Span::new(5, 0), true),
+            (Span::default(), false),
+        ],
+    );
 }
 
 #[test]
 fn errors_take_the_last_known_span(rt: HostRuntime) {
     let error = WithSpan::new(7_u8);
-    assert_eq!(rt; error.span(), None);
+    assert_same(&rt, "at first", &error.span(), &None);
     let error = error.with_span(Span::default());
-    assert_eq!(rt; error.span(), None);
+    assert_same(&rt, "of none", &error.span(), &None);
     let error = error.with_span(Span::new(2, 9)).with_span(Span::default());
-    assert_eq!(rt; error.span(), Some(Span { start: 2, end: 9 }));
-    assert_eq!(rt; *error.as_inner(), 7);
-    assert_eq!(rt; error.into_inner(), 7);
+    let want = Span { start: 2, end: 9 };
+    assert_same(&rt, "of one", &error.span(), &Some(want));
+    assert_same(&rt, "the error", error.as_inner(), &7);
+    assert_same(&rt, "the error", &error.into_inner(), &7);
 }
 
 #[test]
-fn an_arena_gives_back_its_items(rt: HostRuntime) -> Result<(), Fail> {
+fn an_arena_gives_back_its_items(rt: HostRuntime) {
     let mut arena: Arena<u16, TypeTag> = Arena::new(rt.alloc());
     assert!(rt; arena.is_empty());
-    let first = arena.append(10, Span::new(1, 2))?;
-    assert_eq!(rt; arena.len(), 1);
-    let second = arena.append(20, Span::default())?;
-    assert_eq!(rt; (first.index(), second.index()), (0, 1));
-    assert_eq!(rt; arena.len(), 2);
-    assert!(rt; !arena.is_empty());
-    assert_eq!(rt; *arena.get(first), 10);
-    assert_eq!(rt; arena[second], 20);
-    Ok(())
-}
-
-#[test]
-fn replacing_an_item_keeps_the_others_and_all_spans(rt: HostRuntime) -> Result<(), Fail> {
-    let mut arena: Arena<u16, TypeTag> = Arena::new(rt.alloc());
-    let first = arena.append(10, Span::new(1, 2))?;
-    assert_eq!(rt; arena.len(), 1);
-    let second = arena.append(20, Span::new(3, 4))?;
-    assert_eq!(rt; arena.len(), 2);
+    let first = arena.append(10, Span::new(1, 2)).expect(&rt, "memory");
+    assert!(rt; arena.len() == 1);
+    let second = arena.append(20, Span::new(3, 4)).expect(&rt, "memory");
+    assert!(rt; arena.len() == 2);
+    assert_holds(&rt, "two items", !arena.is_empty());
+    assert_same(&rt, "places", &(first.index(), second.index()), &(0, 1));
+    assert_same(&rt, "first", arena.get(first), &10);
+    assert_same(&rt, "second", &arena[second], &20);
     arena.replace(first, 30);
-    assert_eq!(rt; arena.len(), 2);
-    assert_eq!(rt; (arena[first], arena[second]), (30, 20));
-    assert_eq!(rt; arena.get_span(first), Span { start: 1, end: 2 });
-    assert_eq!(rt; arena.get_span(second), Span { start: 3, end: 4 });
-    Ok(())
+    assert!(rt; arena.len() == 2);
+    assert_same(&rt, "after", &(arena[first], arena[second]), &(30, 20));
+    let want = Span { start: 1, end: 2 };
+    assert_same(&rt, "the first span", &arena.get_span(first), &want);
+    let want = Span { start: 3, end: 4 };
+    assert_same(&rt, "the second span", &arena.get_span(second), &want);
+}
+
+/// An arena of these items.
+fn arena_of<K>(rt: &(impl AllocGlobal + Abort), items: &[u16]) -> Arena<u16, K> {
+    let mut arena = Arena::new(rt.alloc());
+    for item in items {
+        assert!(rt; arena.len() < 100);
+        arena.append(*item, Span::default()).expect(rt, "memory");
+    }
+    arena
 }
 
 #[test]
-fn an_arena_is_gone_over_in_order(rt: HostRuntime) -> Result<(), Fail> {
-    let mut arena: Arena<u16, TypeTag> = Arena::new(rt.alloc());
-    for item in [30, 10, 20] {
-        assert!(rt; arena.len() < 3);
-        arena.append(item, Span::default())?;
-    }
+fn an_arena_is_gone_over_in_order(rt: HostRuntime) {
+    let arena: Arena<u16, TypeTag> = arena_of(&rt, &[30, 10, 20]);
     let mut seen = Vec::new(rt.alloc());
     for (handle, item) in arena.iter() {
-        seen.push((handle.index(), *item))?;
+        seen.push((handle.index(), *item)).expect(&rt, "memory");
     }
-    assert_eq!(rt; seen.as_slice(), [(0, 30), (1, 10), (2, 20)].as_slice());
-    Ok(())
+    assert_debugged(&rt, &seen, "[(0, 30), (1, 10), (2, 20)]");
 }
 
 #[test]
 fn kinds_have_names(rt: HostRuntime) {
-    let names = [
-        (TypeTag::name(), "Type"),
-        (ConstantTag::name(), "Constant"),
-        (OverrideTag::name(), "Override"),
-        (GlobalVariableTag::name(), "GlobalVariable"),
-        (ExpressionTag::name(), "Expression"),
-        (LocalVariableTag::name(), "LocalVariable"),
-        (FunctionTag::name(), "Function"),
-        (DiagnosticFilterNodeTag::name(), "DiagnosticFilterNode"),
-    ];
-    for (name, want) in names {
-        assert_eq!(rt; name.as_str(), want);
-    }
+    assert_reads(&rt, TypeTag::name().as_str(), "Type");
+    assert_reads(&rt, ConstantTag::name().as_str(), "Constant");
+    assert_reads(&rt, OverrideTag::name().as_str(), "Override");
+    assert_reads(&rt, GlobalVariableTag::name().as_str(), "GlobalVariable");
+    assert_reads(&rt, ExpressionTag::name().as_str(), "Expression");
+    assert_reads(&rt, LocalVariableTag::name().as_str(), "LocalVariable");
+    assert_reads(&rt, FunctionTag::name().as_str(), "Function");
+    assert_reads(
+        &rt,
+        DiagnosticFilterNodeTag::name().as_str(),
+        "DiagnosticFilterNode",
+    );
 }
 
 #[test]
-fn handles_past_the_end_are_missing(rt: HostRuntime) -> Result<(), Fail> {
-    let mut arena: Arena<u16, FunctionTag> = Arena::new(rt.alloc());
-    let first = arena.append(10, Span::default())?;
-    assert_eq!(rt; arena.check_contains_handle(first), Ok(()));
+fn handles_past_the_end_are_missing(rt: HostRuntime) {
+    let arena: Arena<u16, FunctionTag> = arena_of(&rt, &[10]);
+    let answer = arena.check_contains_handle(Handle::new(0));
+    assert_same(&rt, "the first", &answer, &Ok(()));
     let missing = BadHandle {
         kind: StaticText::new("Function"),
         index: 1,
     };
-    assert_eq!(rt;
-        format!(in rt.alloc(); "{missing}")?.as_str(),
-        "Handle 1 of Function is either not present, or inaccessible yet"
-    );
-    assert_eq!(rt; arena.check_contains_handle(Handle::new(1)), Err(missing));
-    Ok(())
+    let want = "Handle 1 of Function is either not present, or inaccessible yet";
+    assert_shown(&rt, &missing, want);
+    let answer = arena.check_contains_handle(Handle::new(1));
+    assert_same(&rt, "the second", &answer, &Err(missing));
+}
+
+/// Makes sure of ranges whether they are there in an arena.
+fn assert_ranges(
+    rt: &impl Abort,
+    arena: &Arena<u16, ExpressionTag>,
+    rows: &[(Range<ExpressionTag>, bool)],
+) {
+    for (range, want) in rows {
+        let answer = arena.check_contains_range(*range);
+        assert!(rt; answer.is_ok() == *want, "{range:?}");
+    }
 }
 
 #[test]
-fn ranges_are_there_where_they_are_empty_or_end_in_the_arena(rt: HostRuntime) -> Result<(), Fail> {
-    let mut arena: Arena<u16, ExpressionTag> = Arena::new(rt.alloc());
-    arena.append(10, Span::default())?;
-    assert_eq!(rt; arena.len(), 1);
-    arena.append(20, Span::default())?;
-    for (start, end, want) in [
-        (0, 2, true),
-        (1, 2, true),
-        (0, 3, false),
-        (1, 0, false),
-        (2, 2, true),
-        (7, 7, true),
-        (3, 2, false),
-    ] {
-        let answer = arena.check_contains_range(Range::new(start, end));
-        assert_eq!(rt; answer.is_ok(), want, "{start} to {end}");
-    }
+fn ranges_are_there_if_they_are_empty_or_end_in_the_arena(rt: HostRuntime) {
+    let arena = arena_of(&rt, &[10, 20]);
+    assert_ranges(
+        &rt,
+        &arena,
+        &[
+            (Range::new(0, 2), true),
+            (Range::new(1, 2), true),
+            (Range::new(0, 3), false),
+            (Range::new(1, 0), false),
+            (Range::new(2, 2), true),
+            (Range::new(7, 7), true),
+            (Range::new(3, 2), false),
+        ],
+    );
     let error = BadRangeError {
         kind: StaticText::new("Expression"),
         start: 1,
         end: 0,
     };
-    assert_eq!(rt;
-        format!(in rt.alloc(); "{error}")?.as_str(),
-        "Handle range [1..0] of Expression is either not present, or inaccessible yet"
-    );
-    assert_eq!(rt; arena.check_contains_range(Range::new(1, 0)), Err(error));
-    Ok(())
+    let want = "Handle range [1..0] of Expression is either not present, or inaccessible yet";
+    assert_shown(&rt, &error, want);
+    let answer = arena.check_contains_range(Range::new(1, 0));
+    assert_same(&rt, "a range that goes back", &answer, &Err(error));
 }
 
 #[test]
-fn ranges_begin_at_an_earlier_length(rt: HostRuntime) -> Result<(), Fail> {
-    let mut arena: Arena<u16, ExpressionTag> = Arena::new(rt.alloc());
-    arena.append(10, Span::default())?;
+fn ranges_begin_at_an_earlier_length(rt: HostRuntime) {
+    let mut arena: Arena<u16, ExpressionTag> = arena_of(&rt, &[10]);
     let earlier = arena.len();
     assert!(rt; earlier < 2);
-    arena.append(20, Span::default())?;
+    arena.append(20, Span::default()).expect(&rt, "memory");
     assert!(rt; earlier <= arena.len());
     let range = arena.range_from(earlier);
-    assert_eq!(rt; (range.start, range.end), (1, 2));
-    assert_eq!(rt; format!(in rt.alloc(); "{range:?}")?.as_str(), "[1..2]");
-    Ok(())
+    assert_same(&rt, "its ends", &(range.start, range.end), &(1, 2));
+    assert_debugged(&rt, &range, "[1..2]");
 }
 
 #[test]
-fn lists_keep_their_items(rt: HostRuntime) -> Result<(), Fail> {
+fn lists_keep_their_items(rt: HostRuntime) {
     let mut items = Vec::new(rt.alloc());
-    items.push(3_u8)?;
+    items.push(3_u8).expect(&rt, "memory");
     let mut list = List::from_vec(items);
-    list.push(5)?;
-    assert_eq!(rt; list.as_slice(), [3, 5].as_slice());
-    assert_eq!(rt; list.len(), 2);
-    let copy = list.try_clone()?;
-    assert!(rt; copy == list);
-    assert!(rt; copy != List::new(rt.alloc()));
-    assert_eq!(rt; list.into_vec().as_slice(), [3, 5].as_slice());
-    Ok(())
+    list.push(5).expect(&rt, "memory");
+    assert_debugged(&rt, &list.as_slice(), "[3, 5]");
+    assert_same(&rt, "items", &list.len(), &2);
+    let copy = list.try_clone().expect(&rt, "memory");
+    let empty = List::new(rt.alloc());
+    assert_holds(&rt, "the copy", copy == list && copy != empty);
+    assert_debugged(&rt, &list.into_vec(), "[3, 5]");
 }

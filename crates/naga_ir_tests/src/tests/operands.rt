@@ -1,28 +1,28 @@
 //! Examples of what expressions and types refer to, and of what is read off them.
 
-ghost use Rattle.std.specs.Prelude.{◌<◌};
-
+use super::assert_holds;
 use naga_ir::expression::{Expression, ImageQuery, Literal, SampleLevel};
 use naga_ir::handle::Handle;
 use naga_ir::list::List;
 use naga_ir::reference::Reference;
-use naga_ir::tags::TypeTag;
+use naga_ir::tags::{OverrideTag, TypeTag};
 use naga_ir::types::{
     AddressSpace, ArraySize, ImageClass, Scalar, ScalarKind, StorageAccess, StorageFormat,
     StructMember, TypeInner, VectorSize,
 };
-use std::alloc::{AllocError, Global};
-use std::test::Fail;
+use std::process::Abort;
 
-fn places(alloc: Global, expression: &Expression) -> Result<Vec<usize>, AllocError> {
-    expression
-        .operands()
-        .map(|operand| operand.index())
-        .collect(alloc)
+/// Makes sure that an expression has operands at these places, in this order.
+fn assert_operands(rt: &(impl AllocGlobal + Abort), expression: &Expression, want: &[usize]) {
+    let places = expression.operands().map(|operand| operand.index());
+    let places = places
+        .collect::<Vec<usize>>(rt.alloc())
+        .expect(rt, "memory");
+    assert_eq!(rt; places.as_slice(), want);
 }
 
 #[test]
-fn an_image_sample_has_up_to_eight_operands(rt: HostRuntime) -> Result<(), Fail> {
+fn an_image_sample_has_up_to_eight_operands(rt: HostRuntime) {
     let sample = Expression::ImageSample {
         image: Handle::new(9),
         sampler: Handle::new(4),
@@ -37,15 +37,11 @@ fn an_image_sample_has_up_to_eight_operands(rt: HostRuntime) -> Result<(), Fail>
         depth_ref: Some(Handle::new(6)),
         clamp_to_edge: false,
     };
-    assert_eq!(rt;
-        places(rt.alloc(), &sample)?.as_slice(),
-        [9, 4, 7, 1, 8, 3, 2, 6].as_slice()
-    );
-    Ok(())
+    assert_operands(&rt, &sample, &[9, 4, 7, 1, 8, 3, 2, 6]);
 }
 
 #[test]
-fn operands_that_are_left_out_are_passed_over(rt: HostRuntime) -> Result<(), Fail> {
+fn operands_that_are_left_out_are_passed_over(rt: HostRuntime) {
     let sample = Expression::ImageSample {
         image: Handle::new(9),
         sampler: Handle::new(4),
@@ -57,162 +53,172 @@ fn operands_that_are_left_out_are_passed_over(rt: HostRuntime) -> Result<(), Fai
         depth_ref: None,
         clamp_to_edge: false,
     };
-    assert_eq!(rt;
-        places(rt.alloc(), &sample)?.as_slice(),
-        [9, 4, 7, 8, 3].as_slice()
-    );
+    assert_operands(&rt, &sample, &[9, 4, 7, 8, 3]);
     let query = Expression::ImageQuery {
         image: Handle::new(5),
         query: ImageQuery::NumLayers,
     };
-    assert_eq!(rt; places(rt.alloc(), &query)?.as_slice(), [5].as_slice());
-    assert_eq!(rt; Expression::RayQueryProceedResult.operands().next(), None);
-    Ok(())
+    assert_operands(&rt, &query, &[5]);
+    assert_operands(&rt, &Expression::RayQueryProceedResult, &[]);
+}
+
+/// Makes sure that an expression names this type and this item.
+fn assert_names(
+    rt: &impl Abort,
+    expression: &Expression,
+    ty: Option<Handle<TypeTag>>,
+    item: Option<Reference>,
+) {
+    assert!(rt; expression.named_type() == ty, "{expression:?}");
+    assert!(rt; expression.named_item() == item, "{expression:?}");
 }
 
 #[test]
-fn a_composition_has_its_components_for_operands(rt: HostRuntime) -> Result<(), Fail> {
-    let mut components = Vec::new(rt.alloc());
+fn a_composition_has_its_components_for_operands(rt: HostRuntime) {
+    let mut components = List::new(rt.alloc());
     for place in [6, 2, 6] {
-        components.push(Handle::new(place))?;
+        components.push(Handle::new(place)).expect(&rt, "memory");
     }
-    let compose = Expression::Compose {
-        ty: Handle::new(3),
-        components: List::from_vec(components),
-    };
-    assert_eq!(rt;
-        places(rt.alloc(), &compose)?.as_slice(),
-        [6, 2, 6].as_slice()
-    );
-    assert_eq!(rt; compose.named_type(), Some(Handle::new(3)));
-    assert_eq!(rt; compose.named_item(), None);
-    Ok(())
+    let ty = Handle::new(3);
+    let compose = Expression::Compose { ty, components };
+    assert_operands(&rt, &compose, &[6, 2, 6]);
+    assert_names(&rt, &compose, Some(ty), None);
 }
 
 #[test]
 fn expressions_name_items(rt: HostRuntime) {
     let call = Expression::CallResult(Handle::new(5));
-    assert_eq!(rt;
-        call.named_item(),
-        Some(Reference::Function(Handle::new(5)))
-    );
-    assert_eq!(rt; call.named_type(), None);
+    let called = Reference::Function(Handle::new(5));
+    assert_names(&rt, &call, None, Some(called));
     let constant = Expression::Constant(Handle::new(5));
-    assert_eq!(rt;
-        constant.named_item(),
-        Some(Reference::Constant(Handle::new(5)))
-    );
+    let named = Reference::Constant(Handle::new(5));
+    assert_names(&rt, &constant, None, Some(named));
 }
 
-fn member(place: u32) -> StructMember
-    requires { place < 4294967295 }
-{
-    StructMember {
-        name: None,
-        ty: Handle::new(place),
-        binding: None,
-        offset: 0,
-    }
+/// Makes sure that a type is made of the types at these places, in this order, and of this scalar.
+fn assert_made_of(
+    rt: &(impl AllocGlobal + Abort),
+    inner: &TypeInner,
+    parts: &[usize],
+    scalar: Option<Scalar>,
+) {
+    let places = inner.parts().map(|part| part.index());
+    let places = places
+        .collect::<Vec<usize>>(rt.alloc())
+        .expect(rt, "memory");
+    assert!(rt; places.as_slice() == parts, "{inner:?}");
+    assert!(rt; inner.scalar() == scalar, "{inner:?}");
 }
 
-#[test]
-fn a_struct_is_made_of_its_members_types(rt: HostRuntime) -> Result<(), Fail> {
+/// Makes sure that this override decides the size of a type, and that it points to this type.
+fn assert_names_items(
+    rt: &impl Abort,
+    inner: &TypeInner,
+    size: Option<Handle<OverrideTag>>,
+    base: Option<Handle<TypeTag>>,
+) {
+    assert!(rt; inner.size_override() == size, "{inner:?}");
+    assert!(rt; inner.pointer_base_type() == base, "{inner:?}");
+}
+
+/// A struct of members of the types at these places.
+fn structure(rt: &(impl AllocGlobal + Abort), places: &[u8]) -> TypeInner {
     let mut members = List::new(rt.alloc());
-    for place in [4, 0, 4] {
-        members.push(member(place))?;
+    for place in places {
+        let member = StructMember {
+            name: None,
+            ty: Handle::new(u32::from(*place)),
+            binding: None,
+            offset: 0,
+        };
+        members.push(member).expect(rt, "memory");
     }
-    let structure = TypeInner::Struct { members, span: 12 };
-    let mut seen = Vec::new(rt.alloc());
-    for part in structure.parts() {
-        seen.push(part.index())?;
-    }
-    assert_eq!(rt; seen.as_slice(), [4, 0, 4].as_slice());
-    assert_eq!(rt; structure.scalar(), None);
-    Ok(())
+    TypeInner::Struct { members, span: 12 }
 }
 
 #[test]
-fn arrays_and_pointers_are_made_of_one_type(rt: HostRuntime) {
-    let base: Handle<TypeTag> = Handle::new(2);
+fn types_are_made_of_types_and_scalars(rt: HostRuntime) {
+    assert_made_of(&rt, &structure(&rt, &[4, 0, 4]), &[4, 0, 4], None);
+    let base = Handle::new(2);
     let array = TypeInner::Array {
         base,
         size: ArraySize::Pending(Handle::new(1)),
         stride: 4,
     };
-    let mut parts = array.parts();
-    assert_eq!(rt; parts.next(), Some(base));
-    assert_eq!(rt; parts.next(), None);
-    assert_eq!(rt; array.size_override(), Some(Handle::new(1)));
-    assert_eq!(rt; array.pointer_base_type(), None);
-    let pointer = TypeInner::Pointer {
-        base,
-        space: AddressSpace::Private,
-    };
-    assert_eq!(rt; pointer.parts().count(), 1);
-    assert_eq!(rt; pointer.pointer_base_type(), Some(base));
-    assert_eq!(rt; pointer.size_override(), None);
-}
-
-#[test]
-fn literals_have_scalar_types(rt: HostRuntime) {
-    let literals = [
-        (Literal::F64(0), ScalarKind::Float, 8),
-        (Literal::F32(0), ScalarKind::Float, 4),
-        (Literal::F16(0), ScalarKind::Float, 2),
-        (Literal::U16(0), ScalarKind::Uint, 2),
-        (Literal::I16(0), ScalarKind::Sint, 2),
-        (Literal::U32(0), ScalarKind::Uint, 4),
-        (Literal::I32(0), ScalarKind::Sint, 4),
-        (Literal::U64(0), ScalarKind::Uint, 8),
-        (Literal::I64(0), ScalarKind::Sint, 8),
-        (Literal::Bool(true), ScalarKind::Bool, 1),
-        (Literal::AbstractInt(0), ScalarKind::AbstractInt, 8),
-        (Literal::AbstractFloat(0), ScalarKind::AbstractFloat, 8),
-    ];
-    for (literal, kind, width) in literals {
-        assert_eq!(rt; literal.scalar(), Scalar { kind, width }, "of {literal:?}");
-    }
-}
-
-#[test]
-fn vectors_have_a_scalar_and_atomics_none(rt: HostRuntime) {
+    assert_made_of(&rt, &array, &[2], None);
+    assert_names_items(&rt, &array, Some(Handle::new(1)), None);
+    let space = AddressSpace::Private;
+    let pointer = TypeInner::Pointer { base, space };
+    assert_made_of(&rt, &pointer, &[2], None);
+    assert_names_items(&rt, &pointer, None, Some(base));
     let vector = TypeInner::Vector {
         size: VectorSize::Bi,
         scalar: Scalar::F16,
     };
-    assert_eq!(rt; vector.scalar(), Some(Scalar::F16));
-    assert_eq!(rt; TypeInner::Atomic(Scalar::U32).scalar(), None);
-    assert!(rt; Scalar::I16.is_numeric());
-    assert!(rt; !Scalar::BOOL.is_numeric());
+    assert_made_of(&rt, &vector, &[], Some(Scalar::F16));
+    assert_made_of(&rt, &TypeInner::Atomic(Scalar::U32), &[], None);
+}
+
+/// Makes sure that literals are of these scalars.
+fn assert_scalars(rt: &impl Abort, rows: &[(Literal, ScalarKind, u8)]) {
+    for (literal, kind, width) in rows {
+        let want = Scalar {
+            kind: *kind,
+            width: *width,
+        };
+        assert!(rt; literal.scalar() == want, "of {literal:?}");
+    }
+}
+
+#[test]
+fn literals_have_scalar_types(rt: HostRuntime) {
+    assert_scalars(
+        &rt,
+        &[
+            (Literal::F64(0), ScalarKind::Float, 8),
+            (Literal::F32(0), ScalarKind::Float, 4),
+            (Literal::F16(0), ScalarKind::Float, 2),
+            (Literal::U16(0), ScalarKind::Uint, 2),
+            (Literal::I16(0), ScalarKind::Sint, 2),
+            (Literal::U32(0), ScalarKind::Uint, 4),
+            (Literal::I32(0), ScalarKind::Sint, 4),
+            (Literal::U64(0), ScalarKind::Uint, 8),
+            (Literal::I64(0), ScalarKind::Sint, 8),
+            (Literal::Bool(true), ScalarKind::Bool, 1),
+            (Literal::AbstractInt(0), ScalarKind::AbstractInt, 8),
+            (Literal::AbstractFloat(0), ScalarKind::AbstractFloat, 8),
+        ],
+    );
+    assert_holds(&rt, "I16", Scalar::I16.is_numeric());
+    assert_holds(&rt, "BOOL", !Scalar::BOOL.is_numeric());
+}
+
+/// Makes sure that images of a class have several samples or several levels, or neither.
+fn assert_images(rt: &impl Abort, class: ImageClass, is_multisampled: bool, is_mipmapped: bool) {
+    assert!(rt; class.is_multisampled() == is_multisampled, "{class:?}");
+    assert!(rt; class.is_mipmapped() == is_mipmapped, "{class:?}");
+}
+
+/// Images of floating-point numbers that are sampled.
+fn sampled(multi: bool) -> ImageClass {
+    let kind = ScalarKind::Float;
+    ImageClass::Sampled { kind, multi }
 }
 
 #[test]
 fn sampled_images_have_several_samples_or_levels(rt: HostRuntime) {
-    let access = StorageAccess {
-        load: true,
-        store: false,
-        atomic: false,
+    assert_images(&rt, sampled(true), true, false);
+    assert_images(&rt, sampled(false), false, true);
+    assert_images(&rt, ImageClass::Depth { multi: true }, true, false);
+    assert_images(&rt, ImageClass::Depth { multi: false }, false, true);
+    let storage = ImageClass::Storage {
+        format: StorageFormat(0),
+        access: StorageAccess {
+            load: true,
+            store: false,
+            atomic: false,
+        },
     };
-    let sampled = |multi: bool| ImageClass::Sampled {
-        kind: ScalarKind::Float,
-        multi,
-    };
-    for (class, is_multisampled, is_mipmapped) in [
-        (sampled(true), true, false),
-        (sampled(false), false, true),
-        (ImageClass::Depth { multi: true }, true, false),
-        (ImageClass::Depth { multi: false }, false, true),
-        (
-            ImageClass::Storage {
-                format: StorageFormat(0),
-                access,
-            },
-            false,
-            false,
-        ),
-        (ImageClass::External, false, false),
-    ] {
-        assert_eq!(rt; class.is_multisampled(), is_multisampled, "{class:?}");
-        assert_eq!(rt; class.is_mipmapped(), is_mipmapped, "{class:?}");
-    }
+    assert_images(&rt, storage, false, false);
+    assert_images(&rt, ImageClass::External, false, false);
 }

@@ -14,22 +14,18 @@
 //! }
 //! ```
 
-ghost use Rattle.std.specs.Prelude.{◌≡◌, [], IfOk, length};
-
+use super::{assert_debugged, assert_same, text};
 use naga_ir::expression::{BinaryOperator, Expression, Literal};
 use naga_ir::handle::Handle;
 use naga_ir::ir::{EntryPoint, Function, FunctionArgument, FunctionResult, Module};
 use naga_ir::list::List;
-use naga_ir::memory::OutOfMemory;
 use naga_ir::range::Range;
 use naga_ir::span::Span;
 use naga_ir::statement::Statement;
 use naga_ir::tags::{ExpressionTag, TypeTag};
 use naga_ir::text::Text;
 use naga_ir::types::{Binding, Scalar, ScalarKind, Type, TypeInner, VectorSize};
-use std::alloc::Global;
 use std::process::Abort;
-use std::test::Fail;
 
 /// The number of WGSL's `vertex_index` among the built-in values here.
 const VERTEX_INDEX: u32 = 0;
@@ -38,25 +34,20 @@ const VERTEX_INDEX: u32 = 0;
 const POSITION: u32 = 1;
 
 /// Adds a type without a name.
-fn add_type(
-    rt: &impl Abort,
-    module: &mut Module,
-    inner: TypeInner,
-) -> Result<Handle<TypeTag>, OutOfMemory> {
+fn add_type(rt: &impl Abort, module: &mut Module, inner: TypeInner) -> Handle<TypeTag> {
     assert!(rt; module.types.len() < 100);
+    let ty = Type { name: None, inner };
     module
         .types
-        .insert(Type { name: None, inner }, Span::default())
+        .insert(ty, Span::default())
+        .expect(rt, "memory")
 }
 
 /// Adds an expression to a function.
-fn add(
-    rt: &impl Abort,
-    function: &mut Function,
-    expression: Expression,
-) -> Result<Handle<ExpressionTag>, OutOfMemory> {
+fn add(rt: &impl Abort, function: &mut Function, expression: Expression) -> Handle<ExpressionTag> {
     assert!(rt; function.expressions.len() < 100);
-    function.expressions.append(expression, Span::default())
+    let added = function.expressions.append(expression, Span::default());
+    added.expect(rt, "memory")
 }
 
 /// `value` converted to a scalar of 4 bytes.
@@ -70,60 +61,59 @@ fn converted(value: Handle<ExpressionTag>, kind: ScalarKind) -> Expression {
 
 /// Ends a function with the vector of these components.
 fn return_vector(
-    rt: &impl Abort,
-    alloc: Global,
+    rt: &(impl AllocGlobal + Abort),
     function: &mut Function,
     ty: Handle<TypeTag>,
-    components: [Handle<ExpressionTag>; 4],
-) -> Result<(), OutOfMemory> {
-    let mut list = List::new(alloc);
-    for component in components {
-        list.push(component)?;
+    places: [Handle<ExpressionTag>; 4],
+) {
+    let mut components = List::new(rt.alloc());
+    for place in places {
+        components.push(place).expect(rt, "memory");
     }
-    let value = add(
-        rt,
-        function,
-        Expression::Compose {
-            ty,
-            components: list,
-        },
-    )?;
+    let value = add(rt, function, Expression::Compose { ty, components });
     let all = Range::new(0, value.index() as u32 + 1);
-    function.body.push(Statement::Emit(all))?;
-    function.body.push(Statement::Return { value: Some(value) })
+    push(rt, function, Statement::Emit(all));
+    push(rt, function, Statement::Return { value: Some(value) });
+}
+
+/// Adds a statement to a function.
+fn push(rt: &impl Abort, function: &mut Function, statement: Statement) {
+    function.body.push(statement).expect(rt, "memory");
 }
 
 /// The vertices of the triangle.
 fn vs_main(
-    rt: &impl Abort,
-    alloc: Global,
-    f: &mut Function,
+    rt: &(impl AllocGlobal + Abort),
     u32_: Handle<TypeTag>,
     vec4: Handle<TypeTag>,
-) -> Result<(), OutOfMemory> {
-    f.arguments.push(FunctionArgument {
-        name: Some(Text::from_string(String::from_str(alloc, "index")?)),
+) -> Function {
+    let mut function = Function::new(rt.alloc());
+    let f = &mut function;
+    let argument = FunctionArgument {
+        name: Some(text(rt, "index")),
         ty: u32_,
         binding: Some(Binding::BuiltIn(VERTEX_INDEX)),
-    })?;
+    };
+    f.arguments.push(argument).expect(rt, "memory");
     f.result = Some(FunctionResult {
         ty: vec4,
         binding: Some(Binding::BuiltIn(POSITION)),
     });
-    let index = add(rt, f, Expression::FunctionArgument(0))?;
-    let one = add(rt, f, Expression::Literal(Literal::I32(1)))?;
-    let two = add(rt, f, Expression::Literal(Literal::I32(2)))?;
-    let bit = add(rt, f, Expression::Literal(Literal::U32(1)))?;
-    let signed = add(rt, f, converted(index, ScalarKind::Sint))?;
-    let x = add(rt, f, binary(BinaryOperator::Subtract, signed, one))?;
-    let x = add(rt, f, converted(x, ScalarKind::Float))?;
-    let odd = add(rt, f, binary(BinaryOperator::And, index, bit))?;
-    let odd = add(rt, f, converted(odd, ScalarKind::Sint))?;
-    let y = add(rt, f, binary(BinaryOperator::Multiply, odd, two))?;
-    let y = add(rt, f, binary(BinaryOperator::Subtract, y, one))?;
-    let y = add(rt, f, converted(y, ScalarKind::Float))?;
-    let [low, high] = ends(rt, f)?;
-    return_vector(rt, alloc, f, vec4, [x, y, low, high])
+    let index = add(rt, f, Expression::FunctionArgument(0));
+    let one = add(rt, f, Expression::Literal(Literal::I32(1)));
+    let two = add(rt, f, Expression::Literal(Literal::I32(2)));
+    let bit = add(rt, f, Expression::Literal(Literal::U32(1)));
+    let signed = add(rt, f, converted(index, ScalarKind::Sint));
+    let x = add(rt, f, binary(BinaryOperator::Subtract, signed, one));
+    let x = add(rt, f, converted(x, ScalarKind::Float));
+    let odd = add(rt, f, binary(BinaryOperator::And, index, bit));
+    let odd = add(rt, f, converted(odd, ScalarKind::Sint));
+    let y = add(rt, f, binary(BinaryOperator::Multiply, odd, two));
+    let y = add(rt, f, binary(BinaryOperator::Subtract, y, one));
+    let y = add(rt, f, converted(y, ScalarKind::Float));
+    let [low, high] = ends(rt, f);
+    return_vector(rt, f, vec4, [x, y, low, high]);
+    function
 }
 
 /// An operator on two values.
@@ -136,22 +126,16 @@ fn binary(
 }
 
 /// The literals 0.0 and 1.0, which are kept as their bits.
-fn ends(
-    rt: &impl Abort,
-    function: &mut Function,
-) -> Result<[Handle<ExpressionTag>; 2], OutOfMemory> {
-    let low = add(rt, function, Expression::Literal(Literal::F32(0)))?;
-    let high = add(rt, function, Expression::Literal(Literal::F32(0x3f80_0000)))?;
-    Ok([low, high])
+fn ends(rt: &impl Abort, function: &mut Function) -> [Handle<ExpressionTag>; 2] {
+    let low = add(rt, function, Expression::Literal(Literal::F32(0)));
+    let high = add(rt, function, Expression::Literal(Literal::F32(0x3f80_0000)));
+    [low, high]
 }
 
 /// The color of the triangle.
-fn fs_main(
-    rt: &impl Abort,
-    alloc: Global,
-    f: &mut Function,
-    vec4: Handle<TypeTag>,
-) -> Result<(), OutOfMemory> {
+fn fs_main(rt: &(impl AllocGlobal + Abort), vec4: Handle<TypeTag>) -> Function {
+    let mut function = Function::new(rt.alloc());
+    let f = &mut function;
     f.result = Some(FunctionResult {
         ty: vec4,
         binding: Some(Binding::Location {
@@ -159,68 +143,62 @@ fn fs_main(
             blend_src: None,
         }),
     });
-    let [low, high] = ends(rt, f)?;
-    return_vector(rt, alloc, f, vec4, [high, low, low, high])
+    let [low, high] = ends(rt, f);
+    return_vector(rt, f, vec4, [high, low, low, high]);
+    function
 }
 
 /// Adds an entry point.
-fn add_entry_point(module: &mut Module, name: Text, function: Function) -> Result<(), OutOfMemory> {
-    module.entry_points.push(EntryPoint {
+fn add_entry_point(rt: &impl Abort, module: &mut Module, name: Text, function: Function) {
+    let entry_point = EntryPoint {
         name,
         workgroup_size_overrides: None,
         function,
         task_payload: None,
         mesh_info: None,
-    })
+    };
+    module.entry_points.push(entry_point).expect(rt, "memory");
 }
 
-/// Fills a module with the triangle.
-fn triangle(rt: &impl Abort, alloc: Global, module: &mut Module) -> Result<(), OutOfMemory> {
-    let u32_ = add_type(rt, module, TypeInner::Scalar(Scalar::U32))?;
-    let vec4 = add_type(
-        rt,
-        module,
-        TypeInner::Vector {
-            size: VectorSize::Quad,
-            scalar: Scalar::F32,
-        },
-    )?;
-    let vertex_name = Text::from_string(String::from_str(alloc, "vs_main")?);
-    let fragment_name = Text::from_string(String::from_str(alloc, "fs_main")?);
-    let mut vertices = Function::new(alloc);
-    vs_main(rt, alloc, &mut vertices, u32_, vec4)?;
-    add_entry_point(module, vertex_name, vertices)?;
-    let mut color = Function::new(alloc);
-    fs_main(rt, alloc, &mut color, vec4)?;
-    add_entry_point(module, fragment_name, color)
+/// A module of the triangle.
+fn triangle(rt: &(impl AllocGlobal + Abort)) -> Module {
+    let mut module = Module::new(rt.alloc());
+    let u32_ = add_type(rt, &mut module, TypeInner::Scalar(Scalar::U32));
+    let vector = TypeInner::Vector {
+        size: VectorSize::Quad,
+        scalar: Scalar::F32,
+    };
+    let vec4 = add_type(rt, &mut module, vector);
+    let vertices = vs_main(rt, u32_, vec4);
+    add_entry_point(rt, &mut module, text(rt, "vs_main"), vertices);
+    let color = fs_main(rt, vec4);
+    add_entry_point(rt, &mut module, text(rt, "fs_main"), color);
+    module
+}
+
+/// Makes sure of an entry point what its name is, and how many expressions and statements it has.
+fn assert_entry_point(
+    rt: &impl Abort,
+    entry_point: &EntryPoint,
+    name: &str,
+    expressions: usize,
+    statements: usize,
+) {
+    let function = &entry_point.function;
+    assert!(rt; entry_point.name.as_str() == name);
+    assert!(rt; function.expressions.len() == expressions, "{name}");
+    assert!(rt; function.body.body.len() == statements, "{name}");
 }
 
 #[test]
-fn a_triangle_is_built_by_hand(rt: HostRuntime) -> Result<(), Fail> {
-    let mut module = Module::new(rt.alloc());
-    triangle(&rt, rt.alloc(), &mut module)?;
-    assert_eq!(rt; module.types.len(), 2);
-    shows_entry_points(&rt, rt.alloc(), module.entry_points.as_slice())
-}
-
-/// Checks what the two entry points hold.
-fn shows_entry_points(
-    rt: &impl Abort,
-    alloc: Global,
-    entry_points: &[EntryPoint],
-) -> Result<(), Fail> {
-    let [vertices, color] = entry_points else {
-        return Err(Fail::from("two entry points"));
-    };
-    assert_eq!(rt; vertices.name.as_str(), "vs_main");
-    assert_eq!(rt; vertices.function.expressions.len(), 15);
-    assert_eq!(rt; vertices.function.body.body.len(), 2);
-    assert_eq!(rt; color.name.as_str(), "fs_main");
-    assert_eq!(rt; color.function.expressions.len(), 3);
-    let shown = format!(in alloc; "{:?}", color.function.body)?;
-    assert_eq!(rt;
-        shown.as_str(),
-        "Block { body: [Emit([0..3]), Return { value: Some([2]) }] }"
-    );
-    Ok(())
+fn a_triangle_is_built_by_hand(rt: HostRuntime) {
+    let module = triangle(&rt);
+    assert_same(&rt, "types", &module.types.len(), &2);
+    let entry_points = module.entry_points.as_slice();
+    assert!(rt; entry_points.len() == 2);
+    assert_entry_point(&rt, &entry_points[0], "vs_main", 15, 2);
+    let color = &entry_points[1];
+    assert_entry_point(&rt, color, "fs_main", 3, 2);
+    let want = "Block { body: [Emit([0..3]), Return { value: Some([2]) }] }";
+    assert_debugged(&rt, &color.function.body, want);
 }
