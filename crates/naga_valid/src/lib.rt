@@ -137,4 +137,3 @@ pub use naga_typing::typifier::ResolveError;
 pub use naga_typing::typifier::TypeResolution;
 pub use naga_typing::typifier::compare_types;
 pub use naga_typing::typing::Typing;
-
