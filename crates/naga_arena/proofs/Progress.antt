@@ -1,4 +1,4 @@
--- Going through items in their order, as far as what a rule answers of them is accepted.
+-- Items in their order, as far as a rule accepts them.
 use Rattle.std.proofs.Common.{◌≡◌, ℕ, ◌+◌, ◌<◌, List, [], ◌∷◌, ◌++◌, Some, Result, Ok, Err, All, IsOk, map, length, take, slice_get, refl, sym, ap, subst, ◌∙◌, arith, append-nil, append_assoc, length-append}
 use Rattle.std.specs.List.{enumerate_from}
 use Rattle.std.proofs.lemmas.List.{length-map, map-append}
@@ -19,13 +19,13 @@ all_ok E (a ∷ values) = All-cons IsOk (Ok a) (map Ok values) refl (all_ok E va
 pub accepted_ok : {A E : Type 0} (results : List (Result A E)) (values : List A) → AllAccepted results values → All IsOk results
 accepted_ok {A} {E} results values all = subst (All IsOk) (sym all) (all_ok E values)
 
--- what stands behind the front of a list is the rest's first
+-- what follows the front of a list is the first of the rest
 at_seam : {A : Type 0} (xs ys : List A) (x : A) → slice_get (xs ++ ys) (length xs) ≡ Some x → (rest : List A) × (ys ≡ x ∷ rest)
 at_seam xs [] x e = absurd (omega (arith, slice_get_within (xs ++ []) (length xs) x e, ap length (append-nil xs)))
 at_seam xs (y ∷ ys) x e = (ys, ap (λ z. z ∷ ys) (same_Some y x (sym (slice_get-seam xs ys y) ∙ e)))
 
 module _ {X A E : Type 0} (items : List X) (results : List (Result A E)) where
-  -- the items so far have these values, and these are left, each with its place
+  -- the items so far have these values, and these are left, each with its index
   pub record Progress (done : List A) (left : List (ℕ × X)) : Type 0 where
     front : List X
     rest : List X
@@ -39,7 +39,7 @@ module _ {X A E : Type 0} (items : List X) (results : List (Result A E)) where
   begun done left none e =
       subst (λ d. Progress d left) (sym none) (record { front = []; rest = items; whole = refl; place = refl; left_is = e; others = results; answers = refl })
 
-  -- what stands next, where something is left
+  -- the next item, if one is left
   record Next (done : List A) (n : ℕ) (x : X) (more : List (ℕ × X)) : Type 0 where
     front : List X
     rest : List X
@@ -58,17 +58,17 @@ module _ {X A E : Type 0} (items : List X) (results : List (Result A E)) where
           let same : y ≡ x = sym (ap (λ (q : ℕ × X). q.1) first) in
           record { front = p.front; rest = rest; whole = w ∙ ap (λ z. p.front ++ z ∷ rest) same; place = p.place; number = ap (λ (q : ℕ × X). q.0) first; more_is = cc }
 
-  -- the item that comes next stands at the place that it comes with
+  -- the next item has the index that it comes with
   pub stands : (done : List A) (left : List (ℕ × X)) (n : ℕ) (x : X) (more : List (ℕ × X)) → Progress done left → left ≡ (n, x) ∷ more → slice_get items n ≡ Some x
   stands done left n x more p e =
       let s = next done left n x more p e in
       ap (λ l. slice_get l n) s.whole ∙ ap (slice_get (s.front ++ x ∷ s.rest)) (s.number ∙ sym s.place) ∙ slice_get-seam s.front s.rest x
 
-  -- its place is behind the values so far
+  -- its index is the number of values so far
   pub number : (done : List A) (left : List (ℕ × X)) (n : ℕ) (x : X) (more : List (ℕ × X)) → Progress done left → left ≡ (n, x) ∷ more → n ≡ length done
   number done left n x more p e = (next done left n x more p e).number
 
-  -- what is answered of the item that comes next
+  -- what the rule gives for the next item
   answer : (done : List A) (left : List (ℕ × X)) (n : ℕ) (x : X) (more : List (ℕ × X)) (r : Result A E) (p : Progress done left) → left ≡ (n, x) ∷ more → slice_get results n ≡ Some r → (rest : List (Result A E)) × (p.others ≡ r ∷ rest)
   answer done left n x more r p e at =
       let oks : List (Result A E) = map Ok done in

@@ -1,7 +1,7 @@
--- When a range of places is there.
+-- Which ranges of indices exist.
 use Rattle.std.specs.Prelude.{◌≡◌, ◌⊎◌, ℕ, ◌<◌, ◌≤◌}
 use Rattle.naga_arena.specs.declared.range.Range.{Range}
 
--- a range of a list of this length is good where it is empty, or goes forward and ends in the list
+-- a range is within a list of this length: it is empty, or goes forward and ends within the list
 abbrev pub IsGoodRange : {K : Type 0} → ℕ → Range K → Type 0
 IsGoodRange length r = (r.start ≡ r.end) ⊎ ((r.start < r.end) × (r.end ≤ length))

@@ -13,7 +13,7 @@ use std::alloc::Global;
 use std::marker::{Model, PhantomData};
 use std::ops::Index;
 
-/// Items of kind `K` in the order in which they came, each with its place in the source. Contracts
+/// Items of kind `K` in the order in which they were added, each with its span in the source. Contracts
 /// see the list of the items.
 #[derive(Drop)]
 #[derive_where(Debug; T)]
@@ -48,7 +48,7 @@ impl<T: Drop, K> Arena<T, K> {
         }
     }
 
-    /// How many items there are.
+    /// The number of items.
     pub fn len(&self) -> usize
         ensures value { result ≡ length self.now }
         ensures bound { result ≤ 4294967295 }
@@ -63,9 +63,11 @@ impl<T: Drop, K> Arena<T, K> {
         self.data.is_empty()
     }
 
-    /// Adds an item at the end, and answers its handle.
+    /// Adds an item at the end, and returns its handle.
     ///
-    /// Refused memory leaves the arena as it was, and drops the item.
+    /// # Errors
+    ///
+    /// `OutOfMemory` if memory was refused, which leaves the arena as it was and drops the item.
     pub fn append(&mut self, item: T, span: Span) -> Result<Handle<K>, OutOfMemory>
         requires { length self.old < 4294967295 }
         ensures place { IfOk result (λ h. h ≡ length self.old) }
@@ -89,7 +91,7 @@ impl<T: Drop, K> Arena<T, K> {
         &self.data[handle.index()]
     }
 
-    /// Where an item stands in the source; the default span where that isn't known.
+    /// The part of the source that an item was made from; the default span if that isn't known.
     pub fn get_span(&self, handle: Handle<K>) -> Span
         requires { handle < length self.now }
     {
@@ -104,7 +106,7 @@ impl<T: Drop, K> Arena<T, K> {
         self.data[handle.index()] = item;
     }
 
-    /// The places of the items that came after the first `old_length` ones.
+    /// The range of the items that were added after the first `old_length` ones.
     pub fn range_from(&self, old_length: usize) -> Range<K>
         requires { old_length ≤ length self.now }
         ensures start { result.start ≡ old_length }
@@ -130,7 +132,11 @@ impl<T: Drop, K> Arena<T, K> {
 }
 
 impl<T: Drop, K: Kind> Arena<T, K> {
-    /// Whether the arena has an item at a handle's place.
+    /// Whether a handle names an item of the arena.
+    ///
+    /// # Errors
+    ///
+    /// `BadHandle` if its index is the number of items or more.
     pub fn check_contains_handle(&self, handle: Handle<K>) -> Result<(), BadHandle>
         ensures exists { IsOk result ↔ (handle < length self.now) }
         ensures missing { IfErr result (λ e. e ≡ record { kind = K.kind_name; index = handle }) }
@@ -138,7 +144,11 @@ impl<T: Drop, K: Kind> Arena<T, K> {
         handle.check_valid_for(self.len())
     }
 
-    /// Whether the arena has an item at each place of a range. An empty range is everywhere.
+    /// Whether every handle of a range names an item of the arena. Of an empty range each does, whatever its ends.
+    ///
+    /// # Errors
+    ///
+    /// `BadRangeError` if the range goes back, or ends after the last item.
     pub fn check_contains_range(&self, range: Range<K>) -> Result<(), BadRangeError>
         ensures good { IsOk result ↔ IsGoodRange (length self.now) range }
         ensures bad { IfErr result (λ e. e ≡ record { kind = K.kind_name; start = range.start; end = range.end }) }

@@ -1,4 +1,4 @@
-//! Handles: the places of items in arenas.
+//! Handles: the indices of items in arenas.
 
 ghost use Rattle.std.specs.Prelude.{◌≡◌, ◌<◌, ◌↔◌, IfErr, IsOk};
 
@@ -19,9 +19,9 @@ pub trait Kind: Copy + Drop {
         ensures { result ≡ kind_name };
 }
 
-/// The place of an item in an arena of kind `K`, which contracts see as a number.
+/// The index of an item in an arena of kind `K`, which contracts see as a number.
 ///
-/// A handle need not exist in any arena: whoever reads a module from outside may make any.
+/// A handle may be dangling: whoever reads a module from outside may make any.
 #[derive_where(Clone, Copy, PartialEq, Eq, PartialOrd, Ord, Hash)]
 pub struct Handle<K> {
     index: u32,
@@ -41,7 +41,7 @@ impl<K> Model for Handle<K> {
 }
 
 impl<K> Handle<K> {
-    /// The handle of place `index`. The last number of a `u32` names no place.
+    /// The handle of index `index`. `u32::MAX` is no index.
     pub fn new(index: u32) -> Handle<K>
         requires { index < 4294967295 }
         ensures { result ≡ index }
@@ -52,7 +52,7 @@ impl<K> Handle<K> {
         }
     }
 
-    /// The place, from 0.
+    /// The index, from 0.
     pub fn index(self) -> usize
         ensures value { result ≡ self }
         ensures bound { result < 4294967295 }
@@ -68,7 +68,11 @@ impl<K> fmt::Debug for Handle<K> {
 }
 
 impl<K: Kind> Handle<K> {
-    /// Whether a list of `length` items has an item at this place.
+    /// Whether a list of `length` items has one at this index.
+    ///
+    /// # Errors
+    ///
+    /// `BadHandle` if the index is `length` or more.
     pub fn check_valid_for(self, length: usize) -> Result<(), BadHandle>
         ensures exists { IsOk result ↔ (self < length) }
         ensures missing { IfErr result (λ e. e ≡ record { kind = K.kind_name; index = self }) }
@@ -84,12 +88,12 @@ impl<K: Kind> Handle<K> {
     }
 }
 
-/// A handle of an item that isn't there.
+/// A dangling handle: it names no item of its arena.
 #[derive(Clone, Debug, PartialEq, Drop, Error)]
 #[error("Handle {index} of {kind} is either not present, or inaccessible yet")]
 pub struct BadHandle {
     /// The name of the kind of item.
     pub kind: StaticText,
-    /// The place where no item stands.
+    /// The index, which is out of bounds.
     pub index: usize,
 }

@@ -8,7 +8,7 @@ use std::alloc::{AllocError, Global};
 use std::hash::{Hash, Hasher};
 use std::marker::Model;
 
-/// A `Vec` inside a value of a module, as the members of a struct. Contracts see its items.
+/// A `Vec` inside a value of a module, such as the members of a struct. Contracts see its items.
 #[derive(Debug, Drop)]
 pub struct List<T> {
     items: Vec<T>,
@@ -35,7 +35,7 @@ impl<T: Drop> List<T> {
         }
     }
 
-    /// The items of a vector, whose memory the list goes on to use.
+    /// The items of a vector, in the vector's memory.
     pub fn from_vec(items: Vec<T>) -> List<T>
         ensures { result ≡ items.items }
     {
@@ -57,7 +57,7 @@ impl<T: Drop> List<T> {
         self.items.as_slice()
     }
 
-    /// How many items there are.
+    /// The number of items.
     pub fn len(&self) -> usize
         ensures { result ≡ length self.now }
     {
@@ -71,7 +71,11 @@ impl<T: Drop> List<T> {
         self.items.is_empty()
     }
 
-    /// Adds an item at the end. Refused memory leaves the list as it was, and drops the item.
+    /// Adds an item at the end.
+    ///
+    /// # Errors
+    ///
+    /// `OutOfMemory` if memory was refused, which leaves the list as it was and drops the item.
     pub fn push(&mut self, item: T) -> Result<(), OutOfMemory>
         ensures pushed { OnOk result (self.new ≡ self.old ++ item ∷ []) }
         ensures refused { OnErr result (self.new ≡ self.old) }
@@ -83,6 +87,10 @@ impl<T: Drop> List<T> {
 
 impl<T: Clone> List<T> {
     /// A list of clones of the items, in memory of its own.
+    ///
+    /// # Errors
+    ///
+    /// `OutOfMemory` if memory was refused.
     pub fn try_clone(&self) -> Result<List<T>, OutOfMemory>
         ensures { IfOk result (λ copy. AllZip T.is_clone self.now copy) }
     {

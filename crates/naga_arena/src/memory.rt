@@ -1,4 +1,4 @@
-//! Want of memory, the one answer that no rule decides.
+//! Refused memory, the one error that no rule decides.
 
 ghost use Rattle.std.specs.Prelude.{◌≡◌};
 
@@ -7,8 +7,8 @@ use std::fmt;
 
 /// A request for memory was refused.
 ///
-/// A call answers this only where a request of its own was really refused, and then leaves what it
-/// was to change as it was. Error types that have other answers carry a variant of the same name.
+/// A call returns this only if a request of its own was really refused, and then leaves what it was
+/// to change as it was. Error types with other variants carry one of the same name.
 #[derive(Clone, Copy, Debug, PartialEq, Eq)]
 pub struct OutOfMemory;
 

@@ -9,18 +9,20 @@ use std::fmt;
 use std::marker::PhantomData;
 use thiserror::Error;
 
-/// The handles of kind `K` from place `start` to before place `end`.
+/// The handles of kind `K` from index `start` to before index `end`.
 ///
-/// As a handle, a range need not exist in any arena, and its end may stand before its start.
+/// As a handle, a range may be dangling, and its end may precede its start.
 #[derive_where(Clone, Copy, PartialEq, Eq)]
 pub struct Range<K> {
+    /// The first index.
     pub start: u32,
+    /// The index after the last.
     pub end: u32,
     kind: PhantomData<K>,
 }
 
 impl<K> Range<K> {
-    /// The places from `start` to before `end`.
+    /// The range from index `start` to before index `end`.
     pub fn new(start: u32, end: u32) -> Range<K>
         ensures start { result.start ≡ start }
         ensures end { result.end ≡ end }
@@ -34,8 +36,12 @@ impl<K> Range<K> {
 }
 
 impl<K: Kind> Range<K> {
-    /// Whether a list of `length` items has all places of the range: it is empty, as its end is its
-    /// start, or it goes forward and ends within the list.
+    /// Whether a list of `length` items has one at each index of the range: it is empty, as its end is
+    /// its start, or it goes forward and ends within the list.
+    ///
+    /// # Errors
+    ///
+    /// `BadRangeError` otherwise.
     pub fn check_valid_for(self, length: usize) -> Result<(), BadRangeError>
         ensures good { IsOk result ↔ IsGoodRange length self }
         ensures bad { IfErr result (λ e. e ≡ record { kind = K.kind_name; start = self.start; end = self.end }) }
@@ -59,14 +65,14 @@ impl<K> fmt::Debug for Range<K> {
     }
 }
 
-/// A range that isn't there as a whole.
+/// A range of which some handle is dangling, or that goes back.
 #[derive(Clone, Debug, PartialEq, Drop, Error)]
 #[error("Handle range [{start}..{end}] of {kind} is either not present, or inaccessible yet")]
 pub struct BadRangeError {
     /// The name of the kind of items.
     pub kind: StaticText,
-    /// The first place.
+    /// The first index.
     pub start: u32,
-    /// The place after the last.
+    /// The index after the last.
     pub end: u32,
 }

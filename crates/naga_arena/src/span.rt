@@ -1,13 +1,17 @@
-//! Places in the source text.
+//! Spans: parts of the source text.
 
 ghost use Rattle.std.specs.Prelude.{◌≡◌, None, Some, if◌then◌else◌};
 ghost use Rattle.naga_arena.specs.Span.{inner_of, is_defined, span_of};
 
-/// A part of the source, from byte `start` to before byte `end`. The default span says that no part
+use crate::memory::OutOfMemory;
+
+/// A part of the source, from byte `start` to before byte `end`. The default span means that no part
 /// is known.
 #[derive(Clone, Copy, Debug, PartialEq, Eq, Default)]
 pub struct Span {
+    /// The first byte.
     pub start: u32,
+    /// The byte after the last.
     pub end: u32,
 }
 
@@ -27,7 +31,7 @@ impl Span {
     }
 }
 
-/// An error, and the part of the source that it is about where that is known.
+/// An error, and the part of the source that it is about if that is known.
 #[derive(Debug, PartialEq, Drop)]
 pub struct WithSpan<E> {
     inner: E,
@@ -65,17 +69,28 @@ impl<E: Drop> WithSpan<E> {
         &self.inner
     }
 
-    /// The error, without its place.
+    /// The error, without its span.
     pub fn into_inner(self) -> E
         ensures { result ≡ inner_of self }
     {
         self.inner
     }
 
-    /// The part of the source that the error is about, where that is known.
+    /// The part of the source that the error is about, if that is known.
     pub fn span(&self) -> Option<Span>
         ensures { result ≡ span_of self.now }
     {
         self.span
+    }
+}
+
+impl<E: From<OutOfMemory> + Drop> From<OutOfMemory> for WithSpan<E> {
+    ghost use Rattle.std.specs.Prelude.{◌≡◌, None};
+    ghost use Rattle.naga_arena.specs.Span.{inner_of, span_of};
+
+    ghost from_gives = { λ source e. E.from_gives source (inner_of e) × (span_of e ≡ None) };
+
+    fn from(source: OutOfMemory) -> WithSpan<E> {
+        WithSpan::new(E::from(source))
     }
 }

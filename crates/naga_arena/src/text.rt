@@ -32,7 +32,7 @@ impl Text {
         }
     }
 
-    /// The text itself, whose memory it goes on to use.
+    /// The text, in the string's memory.
     pub fn from_string(text: String) -> Text
         ensures { result ≡ string_bytes text }
     {
@@ -54,6 +54,10 @@ impl Text {
     }
 
     /// An equal text, in memory of its own.
+    ///
+    /// # Errors
+    ///
+    /// `OutOfMemory` if memory was refused.
     pub fn try_clone(&self) -> Result<Text, OutOfMemory>
         ensures { IfOk result (λ copy. copy ≡ self.now) }
     {
@@ -149,9 +153,13 @@ impl StaticText {
 }
 
 impl Clone for StaticText {
+    ghost use Rattle.std.specs.Prelude.{◌≡◌, ⊤};
+
     ghost is_clone = { λ a b. a ≡ b };
 
-    fn clone(&self) -> Result<StaticText, std::alloc::AllocError> {
+    ghost is_infallible = { λ _. ⊤ };
+
+    fn clone(&self) -> Result<StaticText, AllocError> {
         Ok(StaticText { text: self.text })
     }
 }

@@ -1,29 +1,30 @@
 -- Which extensions of WGSL capabilities stand for.
 use Rattle.std.specs.Prelude.{◌==◌, ℕ, List, [], ◌∷◌, Option, Some, None, if◌then◌else◌}
+use Rattle.naga_flags.specs.Bits.{DUAL_SOURCE_BLENDING, SHADER_FLOAT16, SHADER_INT16, CLIP_DISTANCES, MESH_SHADER, RAY_QUERY, RAY_HIT_VERTEX_POSITION, COOPERATIVE_MATRIX, RAY_TRACING_PIPELINE, PER_VERTEX, TEXTURE_AND_SAMPLER_BINDING_ARRAY, BUFFER_BINDING_ARRAY, STORAGE_TEXTURE_BINDING_ARRAY, STORAGE_BUFFER_BINDING_ARRAY, TEXTURE_AND_SAMPLER_BINDING_ARRAY_NON_UNIFORM_INDEXING, BUFFER_BINDING_ARRAY_NON_UNIFORM_INDEXING, STORAGE_TEXTURE_BINDING_ARRAY_NON_UNIFORM_INDEXING, STORAGE_BUFFER_BINDING_ARRAY_NON_UNIFORM_INDEXING}
 use Rattle.naga_flags.specs.declared.extension.ImplementedEnableExtension.{ImplementedEnableExtension}
 use Rattle.naga_flags.specs.declared.extension.ImplementedEnableExtension.TheVariants.{DualSourceBlending, F16, WgpuInt16, ClipDistances, WgpuMeshShader, WgpuRayQuery, WgpuRayQueryVertexReturn, WgpuCooperativeMatrix, WgpuRayTracingPipeline, WgpuPerVertex, WgpuBindingArray}
 
--- capabilities by their bit, and the extensions that they stand for
+-- capabilities, each with the extension that it stands for
 abbrev pub extensions : List (ℕ × ImplementedEnableExtension)
 extensions =
-    (16384, DualSourceBlending) ∷
-    (67108864, F16) ∷
-    (8796093022208, WgpuInt16) ∷
-    (128, ClipDistances) ∷
-    (1073741824, WgpuMeshShader) ∷
-    (8192, WgpuRayQuery) ∷
-    (33554432, WgpuRayQueryVertexReturn) ∷
-    (68719476736, WgpuCooperativeMatrix) ∷
-    (274877906944, WgpuRayTracingPipeline) ∷
-    (137438953472, WgpuPerVertex) ∷
-    (8, WgpuBindingArray) ∷
-    (16, WgpuBindingArray) ∷
-    (32, WgpuBindingArray) ∷
-    (64, WgpuBindingArray) ∷
-    (4294967296, WgpuBindingArray) ∷
-    (8589934592, WgpuBindingArray) ∷
-    (17179869184, WgpuBindingArray) ∷
-    (34359738368, WgpuBindingArray) ∷
+    (DUAL_SOURCE_BLENDING, DualSourceBlending) ∷
+    (SHADER_FLOAT16, F16) ∷
+    (SHADER_INT16, WgpuInt16) ∷
+    (CLIP_DISTANCES, ClipDistances) ∷
+    (MESH_SHADER, WgpuMeshShader) ∷
+    (RAY_QUERY, WgpuRayQuery) ∷
+    (RAY_HIT_VERTEX_POSITION, WgpuRayQueryVertexReturn) ∷
+    (COOPERATIVE_MATRIX, WgpuCooperativeMatrix) ∷
+    (RAY_TRACING_PIPELINE, WgpuRayTracingPipeline) ∷
+    (PER_VERTEX, WgpuPerVertex) ∷
+    (TEXTURE_AND_SAMPLER_BINDING_ARRAY, WgpuBindingArray) ∷
+    (BUFFER_BINDING_ARRAY, WgpuBindingArray) ∷
+    (STORAGE_TEXTURE_BINDING_ARRAY, WgpuBindingArray) ∷
+    (STORAGE_BUFFER_BINDING_ARRAY, WgpuBindingArray) ∷
+    (TEXTURE_AND_SAMPLER_BINDING_ARRAY_NON_UNIFORM_INDEXING, WgpuBindingArray) ∷
+    (BUFFER_BINDING_ARRAY_NON_UNIFORM_INDEXING, WgpuBindingArray) ∷
+    (STORAGE_TEXTURE_BINDING_ARRAY_NON_UNIFORM_INDEXING, WgpuBindingArray) ∷
+    (STORAGE_BUFFER_BINDING_ARRAY_NON_UNIFORM_INDEXING, WgpuBindingArray) ∷
     []
 
 -- what a set stands for in a list of such rows

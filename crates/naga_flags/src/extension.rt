@@ -1,4 +1,4 @@
-//! Which extension of WGSL a capability stands for.
+//! The extensions of WGSL that capabilities stand for.
 
 ghost use Rattle.std.specs.Prelude.{◌≡◌};
 ghost use Rattle.naga_flags.specs.Extensions.{extension_of};
@@ -26,15 +26,15 @@ pub enum ImplementedEnableExtension {
     WgpuCooperativeMatrix,
     /// Ray tracing pipelines.
     WgpuRayTracingPipeline,
-    /// Inputs of fragment shaders by the vertex.
+    /// Inputs of fragment shaders with a value for each vertex.
     WgpuPerVertex,
     /// Binding arrays.
     WgpuBindingArray,
 }
 
 impl Capabilities {
-    /// The extension that a single capability stands for (naga). Other capabilities, and sets that
-    /// are no single capability, stand for none.
+    /// The extension that a single capability stands for, by naga's `Capabilities::extension`. Other
+    /// capabilities, and sets that are no single capability, stand for none.
     pub fn extension(&self) -> Option<ImplementedEnableExtension>
         ensures { result ≡ extension_of self.now.0 }
     {

@@ -4,7 +4,7 @@
 
 use bitflags::{Flag, Flags, bitflag_items};
 
-/// Which parts of a module a validator looks at.
+/// Which parts of a module a validator validates.
 #[derive(Clone, Copy, Debug, PartialEq, Eq)]
 pub struct ValidationFlags(u8);
 
@@ -52,8 +52,9 @@ impl Flags for ValidationFlags {
 
 impl Default for ValidationFlags {
     ghost use Rattle.std.specs.Prelude.{◌≡◌};
+    ghost use Rattle.naga_flags.specs.Bits.{all_validation_flags};
 
-    ghost is_default = { λ flags. flags ≡ record { 0 = 63 } };
+    ghost is_default = { λ flags. flags ≡ record { 0 = all_validation_flags } };
 
     /// All flags.
     fn default() -> ValidationFlags {
@@ -61,7 +62,7 @@ impl Default for ValidationFlags {
     }
 }
 
-/// What a shader may use beyond the core of the language.
+/// What a shader may use beyond the core of the language: naga's `Capabilities`.
 #[derive(Clone, Copy, Debug, PartialEq, Eq)]
 pub struct Capabilities(u64);
 
@@ -141,7 +142,7 @@ bitflag_items! {
         const STORAGE_BUFFER_BINDING_ARRAY_NON_UNIFORM_INDEXING = 0x8_0000_0000;
         /// Cooperative matrices.
         const COOPERATIVE_MATRIX = 0x10_0000_0000;
-        /// Inputs of fragment shaders by the vertex.
+        /// Inputs of fragment shaders with a value for each vertex.
         const PER_VERTEX = 0x20_0000_0000;
         /// Ray tracing pipelines and acceleration structures.
         const RAY_TRACING_PIPELINE = 0x40_0000_0000;
@@ -185,8 +186,9 @@ impl Flags for Capabilities {
 
 impl Default for Capabilities {
     ghost use Rattle.std.specs.Prelude.{◌≡◌};
+    ghost use Rattle.naga_flags.specs.Bits.{default_capabilities};
 
-    ghost is_default = { λ flags. flags ≡ record { 0 = 36864 } };
+    ghost is_default = { λ flags. flags ≡ record { 0 = default_capabilities } };
 
     /// `MULTISAMPLED_SHADING` and `CUBE_ARRAY_TEXTURES`.
     fn default() -> Capabilities {
@@ -194,27 +196,29 @@ impl Default for Capabilities {
     }
 }
 
-/// What a type may be used for.
+/// What a type may be used for: naga's `TypeFlags`.
 #[derive(Clone, Copy, Debug, PartialEq, Eq)]
 pub struct TypeFlags(u8);
 
 bitflag_items! {
     impl TypeFlags: u8 {
-        /// Variables, members, elements and arguments may be of the type.
+        /// Local variables, struct members, array elements and function arguments may be of the type.
         const DATA = 0x1;
-        /// The size is known when a pipeline is made.
+        /// The size is fixed when a pipeline is created (WGSL "Fixed-Footprint Types").
         const SIZED = 0x2;
         /// Values can be copied.
         const COPY = 0x4;
-        /// Pipeline stages may pass values on to one another.
+        /// Pipeline stages may pass values to one another, as inputs and outputs (WGSL "Input-output
+        /// Locations").
         const IO_SHAREABLE = 0x8;
-        /// The host and the device may share values.
+        /// The host and the device may share values (WGSL "Host-shareable Types").
         const HOST_SHAREABLE = 0x10;
-        /// The size is known when a shader module is made: no override decides it.
+        /// The size is fixed when a shader module is created: no override decides it (WGSL
+        /// "Fixed-Footprint Types").
         const CREATION_RESOLVED = 0x20;
         /// Functions may take values as arguments.
         const ARGUMENT = 0x40;
-        /// The type is constructible (WGSL).
+        /// Values can be created, loaded, stored, passed and returned (WGSL "Constructible Types").
         const CONSTRUCTIBLE = 0x80;
     }
 }
@@ -298,7 +302,8 @@ impl Flags for ShaderStages {
     }
 }
 
-/// Operations among the invocations of a subgroup, in groups as devices have them.
+/// Groups of operations among the invocations of a subgroup, as devices support them (WGSL "Subgroup
+/// Built-in Functions").
 #[derive(Clone, Copy, Debug, PartialEq, Eq)]
 pub struct SubgroupOperationSet(u8);
 
@@ -306,7 +311,7 @@ bitflag_items! {
     impl SubgroupOperationSet: u8 {
         /// Barriers.
         const BASIC = 0x1;
-        /// Whether all or any agree.
+        /// Whether a condition holds in all or in any of the invocations.
         const VOTE = 0x2;
         /// Reductions and scans.
         const ARITHMETIC = 0x4;
@@ -314,7 +319,7 @@ bitflag_items! {
         const BALLOT = 0x8;
         /// Values of any other invocation.
         const SHUFFLE = 0x10;
-        /// Values of an invocation so many further or before.
+        /// Values of the invocation a number of places after or before.
         const SHUFFLE_RELATIVE = 0x20;
         /// Values within a quad, in fragment and compute shaders.
         const QUAD_FRAGMENT_COMPUTE = 0x80;

@@ -1,4 +1,4 @@
-//! Which operations among a subgroup a statement asks for.
+//! The groups of subgroup operations that statements need.
 
 ghost use Rattle.std.specs.Prelude.{◌≡◌};
 ghost use Rattle.naga_flags.specs.Subgroups as spec;
@@ -6,7 +6,8 @@ ghost use Rattle.naga_flags.specs.Subgroups as spec;
 use crate::flags::SubgroupOperationSet;
 use naga_ir::statement::{GatherMode, SubgroupOperation};
 
-/// The operations that a subgroup has to have for a collective operation (naga).
+/// The group of operations that a collective operation needs, by naga's
+/// `SubgroupOperation::required_operations`.
 pub fn required_operations(op: SubgroupOperation) -> SubgroupOperationSet
     ensures { result ≡ record { 0 = spec.required_operations op } }
 {
@@ -22,7 +23,7 @@ pub fn required_operations(op: SubgroupOperation) -> SubgroupOperationSet
     }
 }
 
-/// The operations that a subgroup has to have for a gather (naga).
+/// The group of operations that a gather needs, by naga's `GatherMode::required_operations`.
 pub fn required_operations_of_gather(mode: GatherMode) -> SubgroupOperationSet
     ensures { result ≡ record { 0 = spec.required_operations_of_gather mode } }
 {

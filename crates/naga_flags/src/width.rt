@@ -10,24 +10,29 @@ use naga_ir::types::{BOOL_WIDTH, Scalar, ScalarKind};
 use std::fmt;
 use thiserror::Error;
 
-/// Why a scalar has no good width.
+/// Why a width of a scalar is refused.
 #[derive(Clone, Debug, PartialEq, Drop, Error)]
 pub enum WidthError {
-    /// No capability makes this width of this kind good.
+    /// No capability allows scalars of this kind the width, in bytes.
     #[error("The {0:?} scalar width {1} is not supported")]
     Invalid(ScalarKind, u8),
-    /// Values called `name` need the capability `flag`.
+    /// The width needs a capability.
     #[error("Using `{name}` values requires the `naga::valid::Capabilities::{flag}` flag")]
-    MissingCapability { name: StaticText, flag: StaticText },
-    /// Abstract scalars are types of constant expressions alone (WGSL).
+    MissingCapability {
+        /// What the language calls the type, as `f64`.
+        name: StaticText,
+        /// The name of the capability's constant.
+        flag: StaticText,
+    },
+    /// Abstract scalars are types of constant expressions alone (WGSL "Abstract Numeric Types").
     #[error("Abstract types may only appear in constant expressions")]
     Abstract,
 }
 
-/// Why immediates may not hold a type.
+/// Why immediates may not hold a type (naga).
 #[derive(Clone, Copy, Debug, PartialEq)]
 pub enum ImmediateError {
-    /// A scalar of 16 bits.
+    /// The scalar, of which the type is made, has 16 bits.
     InvalidScalar(Scalar),
 }
 
@@ -45,11 +50,14 @@ impl fmt::Display for ImmediateError {
 /// Whether immediates may hold a type.
 pub type ImmediateCompatibility = Result<(), ImmediateError>;
 
-/// Whether a scalar has a width that is good for its kind under `capabilities` (naga), and then
-/// whether immediates may hold it.
+/// Checks that scalars of this kind and width are allowed under `capabilities`, and returns whether
+/// immediates may hold them. The rule is that of naga's `Validator::check_width`.
 ///
-/// `WidthError` says which capability is missing, that no capability would do, or that the kind is
-/// abstract.
+/// # Errors
+///
+/// - `Abstract` if the kind is abstract.
+/// - `MissingCapability` if `capabilities` lacks the one that the width needs.
+/// - `Invalid` if no capability allows the width.
 pub fn check_width(
     capabilities: Capabilities,
     scalar: Scalar,

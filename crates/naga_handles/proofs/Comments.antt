@@ -4,7 +4,7 @@ use Rattle.naga_ir.specs.ItemReferences.{comment_references}
 use Rattle.naga_ir.specs.declared.ir.DocComments.{DocComments}
 use Rattle.naga_ir.specs.declared.reference.Reference.{Reference}
 use Rattle.naga_ir.specs.declared.reference.Reference.TheVariants as to
-use Rattle.naga_handles.specs.ItemLooks.{documented_references}
+use Rattle.naga_handles.specs.steps.ItemChecks.{documented_references}
 
 -- the types of members come last
 pub members-last : (d : DocComments) → documented_references d ++ map (λ (c : (ℕ × ℕ) × List (List ℕ)). to.Type_ c.0.0) d.struct_members ≡ comment_references d

@@ -1,16 +1,16 @@
-pub mod Accepting
-mod Alls
-pub mod Before
+pub mod AcceptedHandles
+mod CheckLemmas
 mod Comments
-mod Everywhere
-pub mod Falls
-mod Looking
-pub mod Ordered
-mod Passing
-pub mod Places
-mod Refusing
-mod Standing
-pub mod Tops
-pub mod WalkFaults
-pub mod WalkSteps
-mod Whole
+mod FailedChecks
+pub mod GateLemmas
+pub mod GrowingOrder
+mod HandleVerdict
+mod ListItems
+pub mod OrderFaults
+pub mod OrderLemmas
+mod PassedChecks
+mod PassedPrefix
+pub mod PlacesBefore
+pub mod RankLemmas
+mod ReferenceLists
+pub mod VisitLemmas

@@ -1,6 +1,8 @@
+-- To read first, after those of naga_ir:
+-- Faults.IsHandleFault, IsFault: what may be wrong with the handles of a module, by the error that says so
+-- Faults.MayRequestMemory: when the pass may request memory
+-- Order.CanBeOrdered: when types and global expressions can be visited
+-- Order.IsOrder, RanksFall: in which order, and that each follows what it needs
 pub mod Faults
-pub mod ItemLooks
-pub mod Looks
 pub mod Order
-pub mod Others
-pub mod Visits
+pub mod steps

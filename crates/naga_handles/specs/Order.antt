@@ -8,26 +8,26 @@ use Rattle.naga_ir.specs.declared.ir.Module.{Module}
 use Rattle.naga_ir.specs.declared.reference.Reference.{Reference}
 use Rattle.naga_ir.specs.declared.reference.Reference.TheVariants as to
 use Rattle.naga_ir_types.specs.declared.types.«Type».{«Type»}
-use Rattle.naga_handles.specs.Faults.{IsWalkFault}
+use Rattle.naga_handles.specs.Faults.{IsOrderFault}
 use Rattle.naga_handles.specs.declared.error.ValidationFault.{ValidationFault}
 use Rattle.naga_handles.specs.declared.error.ValidationFault.TheVariants.{Invalid}
 use Rattle.naga_handles.specs.declared.order.Item.{Item}
 use Rattle.naga_handles.specs.declared.order.Item.TheVariants as item
 
--- what types and global expressions refer to is there, overrides that size types begin with expressions that are there, references go back, and the gates of sizes hold
+-- what types and global expressions refer to exists, and so do the initialisers that size types; references go back, and the gates of sizes hold
 pub record CanBeOrdered (m : Module) : Type 0 where
   pub exist : All (Exists (module_counts m)) (flat_map (λ (t : «Type»). type_references t.inner) m.types ++ flat_map expression_references m.global_expressions)
   pub initialisers : (t n : ℕ) → size_initialiser (global_lists m) t ≡ Some n → n < length m.global_expressions
   pub back : GoBack (OrderedReference (global_lists m))
   pub gates : SizeGatesHold (global_lists m)
 
--- the place in the order of what a reference names, where it is a type or a global expression
+-- the index in the order of what a reference names, if it is a type or a global expression
 abbrev pub rank_of : GlobalLists → Reference → ℕ
 rank_of g (to.Type_ t) = rank_of_type g t
 rank_of g (to.Expression e) = rank_of_expression g e
 rank_of g _ = 0
 
--- whatever is needed stands at an earlier place
+-- whatever is needed has a lesser rank
 abbrev pub RanksFall : GlobalLists → Type 0
 RanksFall g = (s t : Reference) → DependsOn g s t → rank_of g t < rank_of g s
 
@@ -36,7 +36,7 @@ abbrev pub reference_to : Item → Reference
 reference_to (item.Type_ t) = to.Type_ t
 reference_to (item.Expression e) = to.Expression e
 
--- each item stands at the place that is its rank, and all types and global expressions are there
+-- the index of each item in the order is its rank, and all types and global expressions are in it
 pub record IsOrder (g : GlobalLists) (order : List Item) : Type 0 where
   pub ranked : (k : ℕ) (i : Item) → slice_get order k ≡ Some i → rank_of g (reference_to i) ≡ k
   pub types : (t : ℕ) → t < length g.types → slice_get order (rank_of_type g t) ≡ Some (item.Type_ t)
@@ -44,6 +44,6 @@ pub record IsOrder (g : GlobalLists) (order : List Item) : Type 0 where
   pub long : length order ≡ length g.types + length g.expressions
 
 -- a fault of types and global expressions
-abbrev pub NamesWalkFault : Module → ValidationFault → Type 0
-NamesWalkFault m (Invalid e) = IsWalkFault m e
-NamesWalkFault m _ = ⊥
+abbrev pub NamesOrderFault : Module → ValidationFault → Type 0
+NamesOrderFault m (Invalid e) = IsOrderFault m e
+NamesOrderFault m _ = ⊥

@@ -1,11 +1,11 @@
-//! What is there, and what comes before.
+//! Which references are dangling, and which go back.
 
 ghost use Rattle.std.specs.Prelude.{◌≡◌, ◌<◌, ◌↔◌, IfErr, IsOk, MatchResult};
 ghost use Rattle.naga_ir.specs.Handles.{Exists, function_counts, module_counts};
 ghost use Rattle.naga_ir.specs.References.{operands};
-ghost use Rattle.naga_ir.specs.Walks.{ChecksEach};
+ghost use Rattle.naga_ir.specs.FirstFailure.{ChecksEach};
 ghost use Rattle.naga_handles.specs.Faults.{missing};
-ghost use Rattle.naga_handles.specs.ItemLooks.{AnswersOperand};
+ghost use Rattle.naga_handles.specs.steps.ItemChecks.{IsOperandResult};
 
 use crate::error::{FwdDepError, InvalidHandleError};
 use naga_ir::expression::Expression;
@@ -39,7 +39,7 @@ impl Model for Counts {
 }
 
 impl Counts {
-    /// Those of a module. Its global expressions see no local variable.
+    /// The counts of a module. Its global expressions see no local variable.
     pub(crate) fn of_module(module: &Module) -> Counts
         ensures { result ≡ module_counts «module».now }
     {
@@ -55,7 +55,7 @@ impl Counts {
         }
     }
 
-    /// Those of a function, which sees its own expressions and variables.
+    /// The counts of a function, which sees its own expressions and variables.
     pub(crate) fn of_function(module: &Module, function: &Function) -> Counts
         ensures { result ≡ function_counts «module».now function.now }
     {
@@ -66,7 +66,7 @@ impl Counts {
         }
     }
 
-    /// Whether what is referred to is there.
+    /// Whether a reference is not dangling.
     pub(crate) fn check_exists(self, reference: Reference) -> Result<(), InvalidHandleError>
         ensures { MatchResult result (λ _. Exists self reference) (λ e. (Exists self reference → ⊥) × (e ≡ missing reference)) }
     {
@@ -87,7 +87,7 @@ impl Counts {
     }
 }
 
-/// Whether `depends_on` comes before `subject`. Where `subject` is there, so is `depends_on` then.
+/// Whether `depends_on` precedes `subject`. Then `depends_on` exists if `subject` does.
 pub(crate) fn check_dep<K: Kind>(
     subject: Handle<K>,
     depends_on: Handle<K>,
@@ -102,12 +102,12 @@ pub(crate) fn check_dep<K: Kind>(
     }
 }
 
-/// Whether the operands of an expression come before it.
+/// Whether the operands of an expression precede it.
 pub(crate) fn check_operands(
     handle: Handle<ExpressionTag>,
     expression: &Expression,
 ) -> Result<(), InvalidHandleError>
-    ensures { ChecksEach (AnswersOperand handle) (operands expression.now) result }
+    ensures { ChecksEach (IsOperandResult handle) (operands expression.now) result }
 {
     for operand in expression.operands() {
         check_dep(handle, operand)?;

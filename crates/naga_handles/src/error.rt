@@ -9,16 +9,16 @@ use naga_ir::tags::TypeTag;
 use naga_ir::text::{StaticText, Text};
 use thiserror::Error;
 
-/// A handle or range that a module holds and that isn't right.
+/// What is wrong with a handle or range of a module.
 #[derive(Clone, Debug, PartialEq, Drop, Error)]
 pub enum InvalidHandleError {
-    /// What the handle names isn't there.
+    /// It is dangling.
     #[error("{0}")]
     BadHandle(BadHandle),
-    /// What the handle names doesn't come before the item that holds the handle.
+    /// What it names doesn't precede the item that depends on it.
     #[error("{0}")]
     ForwardDependency(FwdDepError),
-    /// A range of expressions to emit goes back, or past the last expression.
+    /// It is a range of expressions to emit that goes back, or ends after the last expression.
     #[error("{0}")]
     BadRange(BadRangeError),
 }
@@ -56,13 +56,17 @@ impl From<BadRangeError> for InvalidHandleError {
     }
 }
 
-/// An item that depends on one of its own kind which doesn't come before it.
+/// An item that depends on one of its own kind which doesn't precede it.
 #[derive(Clone, Debug, PartialEq, Drop, Error)]
 #[error("[{subject}] of kind \"{subject_kind}\" depends on [{depends_on}] of kind {depends_on_kind}, which has not been processed yet")]
 pub struct FwdDepError {
+    /// The index of the item.
     subject: usize,
+    /// The name of its kind.
     subject_kind: StaticText,
+    /// The index of what it depends on.
     depends_on: usize,
+    /// The name of the kind of that.
     depends_on_kind: StaticText,
 }
 
@@ -79,7 +83,7 @@ impl FwdDepError {
         }
     }
 
-    /// The place of the item.
+    /// The index of the item.
     pub fn subject(&self) -> usize
         ensures { result ≡ self.now.subject }
     {
@@ -93,7 +97,7 @@ impl FwdDepError {
         self.subject_kind.as_str()
     }
 
-    /// The place of what it depends on.
+    /// The index of what it depends on.
     pub fn depends_on(&self) -> usize
         ensures { result ≡ self.now.depends_on }
     {
@@ -114,15 +118,16 @@ pub enum ValidationFault {
     /// A handle or range isn't right.
     #[error("{0}")]
     Invalid(InvalidHandleError),
-    /// A comment is on a member of a type that is no struct, or has no such member.
+    /// A comment documents a member of a type that is no struct, or has no such member.
     #[error("Type {handle:?} '{name}' has no member that a comment is on")]
     MissingMember {
+        /// The type.
         handle: Handle<TypeTag>,
-        /// The name of the type; of a type without one what is wrong: `Unknown` where it is no
-        /// struct, else `members length incorrect`.
+        /// The name of the type; of a type without one `Unknown` if it is no struct, else `members
+        /// length incorrect`.
         name: Text,
     },
-    /// A request for memory was refused. Nothing is said of the module.
+    /// A request for memory was refused, and nothing was decided about the module.
     #[error("Out of memory")]
     OutOfMemory,
 }

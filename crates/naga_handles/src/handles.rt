@@ -1,20 +1,20 @@
-//! Whether what a module's items refer to is there and comes before them.
+//! Whether all handles of a module are right.
 
 ghost use Rattle.std.specs.Prelude.{◌≡◌, ◌↔◌, ℕ, IfErr, IfOk, IsTrue, List, ◌∷◌, None, OnOk, map, option_to_list};
 ghost use Rattle.std.specs.List.{enumerate_from, flat_map};
 ghost use Rattle.std.specs.Fn.{FnReturnsAt};
-ghost use Rattle.naga_ir.specs.ItemReferences.{constant_references, entry_point_references, global_variable_references, local_variable_references, override_references};
+ghost use Rattle.naga_ir.specs.ItemReferences.{body_references, constant_references, entry_point_references, global_variable_references, local_references, local_variable_references, override_references, signature_references};
 ghost use Rattle.naga_ir.specs.References as spec;
 ghost use Rattle.naga_ir.specs.ItemReferences as item;
 ghost use Rattle.naga_ir.specs.Handles.{HandlesAccepted, function_counts, module_counts};
 ghost use Rattle.naga_ir.specs.Operands.{present};
 ghost use Rattle.naga_ir.specs.declared.reference.Reference.TheVariants as to;
-ghost use Rattle.naga_ir.specs.Walks.{ChecksEach};
-ghost use Rattle.naga_arena.specs.Memory.{AnsweredOrRefused};
-ghost use Rattle.naga_handles.specs.Faults.{IsFault, MayWantMemory, body_references, called, local_references, signature_references, what_is_wrong};
-ghost use Rattle.naga_handles.specs.ItemLooks.{Answers, AnswersEntryPoint, AnswersMember, AnswersOperand, HasMember, all_filter_looks, code_looks, documented_references, entry_point_looks, expression_looks, filter_looks, function_looks, looks_in, module_looks, numbered_looks, valued_references};
-ghost use Rattle.naga_handles.specs.Others.{IsRefusal, OthersStand};
-ghost use Rattle.naga_handles.specs.Looks.{of_function};
+ghost use Rattle.naga_ir.specs.FirstFailure.{ChecksEach};
+ghost use Rattle.naga_arena.specs.Memory.{UnlessOutOfMemory};
+ghost use Rattle.naga_handles.specs.Faults.{IsFault, MayRequestMemory, display_name, text_of_unnamed};
+ghost use Rattle.naga_handles.specs.steps.ItemChecks.{IsResult, IsEntryPointResult, IsMemberResult, IsOperandResult, HasMember, all_filter_checks, code_checks, documented_references, entry_point_checks, expression_checks, filter_checks, function_checks, checks_in, module_checks, numbered_checks, valued_references};
+ghost use Rattle.naga_handles.specs.steps.OtherItems.{IsHandleRefusal, OtherItemsOk};
+ghost use Rattle.naga_handles.specs.steps.Checks.{of_function};
 
 use crate::counts::{Counts, check_dep, check_operands};
 use crate::error::{InvalidHandleError, ValidationFault};
@@ -33,39 +33,44 @@ use naga_ir::text::{StaticText, Text};
 use naga_ir::types::{Type, TypeInner};
 use std::alloc::Global;
 
-/// Whether all handles and ranges of a module, which may hold any numbers, are right: what they name
-/// is there, what has to come before an item does, and so do the types that a size asks for. All that
-/// comments are on is there too. Then every index and recursion over the module is safe.
+/// Whether all handles and ranges of a module are right: none is dangling, and what an item depends on
+/// precedes it. All that comments document exists too. Then every index into the module is in bounds,
+/// and every recursion along its handles ends.
 ///
-/// These come before the item that names them: the parts of a type, and the type of the override that
-/// sizes it; the operands of an expression; of a global expression also what the constant or override
-/// begins with that it names; functions that a function calls, or whose answers it names; the filter
-/// around a filter. Where a size is decided by an override that begins with an expression, that
-/// expression and all before it name only types before the one that is sized. The rule is naga's, with
-/// the references that naga leaves unchecked.
+/// These precede the item that names them: the parts of a type, and the type of the override that
+/// sizes it; the operands of an expression, and of a global expression also the initialiser of the
+/// constant or override that it names; the functions that a function calls, or whose results it names;
+/// the parent of a filter. If the override that sizes a type has an initialiser, then the initialiser
+/// and all global expressions before it name only types that precede the type. The rule is naga's
+/// (`Validator::validate_module_handles`), with the references that naga leaves unchecked.
 ///
-/// `ValidationFault` names a fault that is there: of several, the first in the order of the groups:
-/// types with the global expressions that sizes ask for, other global expressions, constants,
-/// overrides, variables, entry points, functions, special types, filters, comments. `MissingMember`
-/// is of a comment on a member. `OutOfMemory` is answered where a request was refused, and only where
-/// the module has overrides or a `MissingMember` is due. The cost is linear in the module.
+/// The cost is linear in the module.
+///
+/// # Errors
+///
+/// `Invalid` and `MissingMember` name a fault of the module: if it has several, one of the first group
+/// with any, in the order types with the global expressions that their sizes need, other global
+/// expressions, constants, overrides, variables, entry points, functions, special types, filters,
+/// comments. `MissingMember` is of a comment on a member. `OutOfMemory` if memory was refused, which
+/// can only be if the module has overrides or a `MissingMember` is due.
 pub fn validate_module_handles(alloc: Global, module: &Module) -> Result<(), ValidationFault>
-    ensures { AnsweredOrRefused (λ fault. (fault ≡ ValidationFault.OutOfMemory) × MayWantMemory «module».now) result (λ _. HandlesAccepted «module».now)
+    ensures { UnlessOutOfMemory (λ fault. (fault ≡ ValidationFault.OutOfMemory) × MayRequestMemory «module».now) result (λ _. HandlesAccepted «module».now)
         (λ fault. IsFault «module».now fault × (HandlesAccepted «module».now → ⊥)) }
 {
     validate_all_handles(alloc, module)
 }
 
-/// The same, by what stands and by what is wrong.
+/// `validate_module_handles` without its last clause, that a refused module isn't accepted: that
+/// follows from what a fault is.
 fn validate_all_handles(alloc: Global, module: &Module) -> Result<(), ValidationFault>
     ensures accepted { OnOk result (HandlesAccepted «module».now) }
-    ensures refused { IfErr result (IsRefusal «module».now) }
+    ensures refused { IfErr result (IsHandleRefusal «module».now) }
 {
     walk(module)?;
     validate_other_handles(alloc, module)
 }
 
-/// Hands each item to `check`, and stops at the first that it refuses.
+/// Calls `check` on each item, up to the first that it refuses.
 fn try_each<T, E, F: Fn(&T) -> Result<(), E>>(items: &[T], check: &F) -> Result<(), E>
     requires { F.IsAlwaysCallable check.now }
     ensures { ChecksEach (FnReturnsAt F.Fn check.now) items.now result }
@@ -76,8 +81,8 @@ fn try_each<T, E, F: Fn(&T) -> Result<(), E>>(items: &[T], check: &F) -> Result<
     Ok(())
 }
 
-/// What an item may refer to: items that are there, and of functions those before the one that it
-/// stands in.
+/// What an item may refer to: the items that exist, and of functions those that precede the one that
+/// it belongs to.
 #[derive(Clone, Copy)]
 struct Scope {
     counts: Counts,
@@ -86,7 +91,7 @@ struct Scope {
 }
 
 impl Scope {
-    /// That of the items of a module that stand in no function.
+    /// The scope of the items of a module that belong to no function.
     fn of_module(module: &Module) -> Scope
         ensures counts { result.counts ≡ module_counts «module».now }
         ensures caller { result.caller ≡ None }
@@ -97,7 +102,7 @@ impl Scope {
         }
     }
 
-    /// That of a function of the module, or of an entry point's.
+    /// The scope of a function of the module, or of an entry point.
     fn of_function(
         module: &Module,
         caller: Option<Handle<FunctionTag>>,
@@ -112,9 +117,9 @@ impl Scope {
         }
     }
 
-    /// Whether the scope has what is referred to.
+    /// Whether an item may refer to this.
     fn check(&self, reference: Reference) -> Result<(), InvalidHandleError>
-        ensures { Answers (record { there = self.now.counts; subject = of_function self.now.caller reference; target = reference }) result }
+        ensures { IsResult (record { there = self.now.counts; subject = of_function self.now.caller reference; target = reference }) result }
     {
         if let (Some(caller), Reference::Function(function)) = (self.caller, reference) {
             check_dep(caller, function)
@@ -123,9 +128,9 @@ impl Scope {
         }
     }
 
-    /// Whether it has all of some references.
+    /// Whether an item may refer to all of these. `None` is a reference that it doesn't have.
     fn check_all(&self, references: &[Option<Reference>]) -> Result<(), InvalidHandleError>
-        ensures { ChecksEach Answers (looks_in self.now (present references.now)) result }
+        ensures { ChecksEach IsResult (checks_in self.now (present references.now)) result }
     {
         for reference in references {
             if let Some(reference) = reference {
@@ -136,13 +141,13 @@ impl Scope {
     }
 }
 
-/// Whether the type of an item is there, and its initialiser where it has one.
+/// Whether the type of an item exists, and its initialiser if it has one.
 fn check_valued(
     scope: &Scope,
     ty: Handle<TypeTag>,
     init: Option<Handle<ExpressionTag>>,
 ) -> Result<(), InvalidHandleError>
-    ensures { ChecksEach Answers (looks_in scope.now (to.Type_ ty ∷ map to.Expression (option_to_list init))) result }
+    ensures { ChecksEach IsResult (checks_in scope.now (to.Type_ ty ∷ map to.Expression (option_to_list init))) result }
 {
     scope.check_all(&[Some(Reference::Type_(ty)), init.map(Reference::Expression)])
 }
@@ -152,7 +157,7 @@ fn validate_expression_handles(
     handle: Handle<ExpressionTag>,
     expression: &Expression,
 ) -> Result<(), InvalidHandleError>
-    ensures { ChecksEach Answers (expression_looks scope.now.counts scope.now.caller (handle, expression.now)) result }
+    ensures { ChecksEach IsResult (expression_checks scope.now.counts scope.now.caller (handle, expression.now)) result }
 {
     check_operands(handle, expression)?;
     scope.check_all(&[
@@ -161,9 +166,9 @@ fn validate_expression_handles(
     ])
 }
 
-/// Whether what a function's expressions refer to is there, and their operands come before them.
+/// Whether what the expressions of a function refer to exists, and their operands precede them.
 fn validate_expressions(scope: &Scope, function: &Function) -> Result<(), InvalidHandleError>
-    ensures { ChecksEach Answers (flat_map (expression_looks scope.now.counts scope.now.caller) (enumerate_from 0 function.now.expressions)) result }
+    ensures { ChecksEach IsResult (flat_map (expression_checks scope.now.counts scope.now.caller) (enumerate_from 0 function.now.expressions)) result }
 {
     for (handle, expression) in function.expressions.iter() {
         validate_expression_handles(scope, handle, expression)?;
@@ -171,25 +176,25 @@ fn validate_expressions(scope: &Scope, function: &Function) -> Result<(), Invali
     Ok(())
 }
 
-/// Whether what a function takes and answers is there.
+/// Whether the types of a function's arguments and of its result exist.
 fn validate_signature(scope: &Scope, function: &Function) -> Result<(), InvalidHandleError>
-    ensures { ChecksEach Answers (looks_in scope.now (signature_references function.now)) result }
+    ensures { ChecksEach IsResult (checks_in scope.now (signature_references function.now)) result }
 {
     try_each(
         function.arguments.as_slice(),
-        &|argument: &FunctionArgument| scope.check_all(&[Some(Reference::Type_(argument.ty))]),
+        &|argument: &FunctionArgument| scope.check(Reference::Type_(argument.ty)),
     )?;
     scope.check_all(&[
         function
             .result
             .as_ref()
-            .map(|answer| Reference::Type_(answer.ty)),
+            .map(|returned| Reference::Type_(returned.ty)),
     ])
 }
 
-/// Whether what a function's variables and named expressions refer to is there.
+/// Whether what the variables of a function refer to exists, and its named expressions.
 fn validate_locals(scope: &Scope, function: &Function) -> Result<(), InvalidHandleError>
-    ensures { ChecksEach Answers (looks_in scope.now (local_references function.now)) result }
+    ensures { ChecksEach IsResult (checks_in scope.now (local_references function.now)) result }
 {
     try_each(
         function.local_variables.as_slice(),
@@ -197,15 +202,13 @@ fn validate_locals(scope: &Scope, function: &Function) -> Result<(), InvalidHand
     )?;
     try_each(
         function.named_expressions.as_slice(),
-        &|named: &(Handle<ExpressionTag>, Text)| {
-            scope.check_all(&[Some(Reference::Expression(named.0))])
-        },
+        &|named: &(Handle<ExpressionTag>, Text)| scope.check(Reference::Expression(named.0)),
     )
 }
 
-/// Whether what a function's statements refer to is there, and its filter.
+/// Whether what the statements of a function refer to exists, and its filter.
 fn validate_body(scope: &Scope, function: &Function) -> Result<(), InvalidHandleError>
-    ensures { ChecksEach Answers (looks_in scope.now (body_references function.now)) result }
+    ensures { ChecksEach IsResult (checks_in scope.now (body_references function.now)) result }
 {
     function
         .body
@@ -218,7 +221,7 @@ fn validate_body(scope: &Scope, function: &Function) -> Result<(), InvalidHandle
 }
 
 fn validate_function_handles(scope: &Scope, function: &Function) -> Result<(), InvalidHandleError>
-    ensures { ChecksEach Answers (function_looks scope.now.counts scope.now.caller function.now) result }
+    ensures { ChecksEach IsResult (function_checks scope.now.counts scope.now.caller function.now) result }
 {
     validate_signature(scope, function)?;
     validate_locals(scope, function)?;
@@ -226,12 +229,12 @@ fn validate_function_handles(scope: &Scope, function: &Function) -> Result<(), I
     validate_body(scope, function)
 }
 
-/// Whether the sizes of an entry point's workgroups are there that overrides decide.
+/// Whether the global expressions exist that decide the sizes of an entry point's workgroups.
 fn validate_workgroup_sizes(
     scope: &Scope,
     entry_point: &EntryPoint,
 ) -> Result<(), InvalidHandleError>
-    ensures { ChecksEach Answers (looks_in scope.now (map to.Expression (item.workgroup_sizes entry_point.now.workgroup_size_overrides))) result }
+    ensures { ChecksEach IsResult (checks_in scope.now (map to.Expression (item.workgroup_sizes entry_point.now.workgroup_size_overrides))) result }
 {
     match &entry_point.workgroup_size_overrides {
         Some(sizes) => try_each(
@@ -244,7 +247,7 @@ fn validate_workgroup_sizes(
     }
 }
 
-/// What a mesh shader's output refers to.
+/// What the output of a mesh shader refers to.
 fn mesh_references(entry_point: &EntryPoint) -> [Option<Reference>; 5]
     ensures { present result ≡ flat_map item.mesh_references (option_to_list entry_point.now.mesh_info) }
 {
@@ -260,9 +263,9 @@ fn mesh_references(entry_point: &EntryPoint) -> [Option<Reference>; 5]
     }
 }
 
-/// Whether what an entry point refers to beside its function is there.
+/// Whether what an entry point refers to exists, its function aside.
 fn validate_stage(scope: &Scope, entry_point: &EntryPoint) -> Result<(), InvalidHandleError>
-    ensures { ChecksEach Answers (looks_in scope.now (entry_point_references entry_point.now)) result }
+    ensures { ChecksEach IsResult (checks_in scope.now (entry_point_references entry_point.now)) result }
 {
     validate_workgroup_sizes(scope, entry_point)?;
     scope.check_all(&[entry_point.task_payload.map(Reference::GlobalVariable)])?;
@@ -273,16 +276,16 @@ fn validate_entry_point_handles(
     module: &Module,
     entry_point: &EntryPoint,
 ) -> Result<(), InvalidHandleError>
-    ensures { ChecksEach Answers (entry_point_looks «module».now entry_point.now) result }
+    ensures { ChecksEach IsResult (entry_point_checks «module».now entry_point.now) result }
 {
     let scope = Scope::of_function(module, None, &entry_point.function);
     validate_function_handles(&scope, &entry_point.function)?;
     validate_stage(&Scope::of_module(module), entry_point)
 }
 
-/// Whether what the functions of a module refer to is there, and they call those before them.
+/// Whether what the functions of a module refer to exists, and what they call precedes them.
 fn validate_functions(module: &Module) -> Result<(), InvalidHandleError>
-    ensures { ChecksEach Answers (flat_map (numbered_looks «module».now) (enumerate_from 0 «module».now.functions)) result }
+    ensures { ChecksEach IsResult (flat_map (numbered_checks «module».now) (enumerate_from 0 «module».now.functions)) result }
 {
     for (handle, function) in module.functions.iter() {
         let scope = Scope::of_function(module, Some(handle), function);
@@ -291,9 +294,9 @@ fn validate_functions(module: &Module) -> Result<(), InvalidHandleError>
     Ok(())
 }
 
-/// Whether what the entry points and functions of a module refer to is there.
+/// Whether what the entry points and functions of a module refer to exists.
 fn validate_code(module: &Module) -> Result<(), InvalidHandleError>
-    ensures { ChecksEach Answers (code_looks «module».now) result }
+    ensures { ChecksEach IsResult (code_checks «module».now) result }
 {
     try_each(
         module.entry_points.as_slice(),
@@ -302,9 +305,9 @@ fn validate_code(module: &Module) -> Result<(), InvalidHandleError>
     validate_functions(module)
 }
 
-/// Whether what constants, overrides and variables of a module refer to is there.
+/// Whether what the constants, overrides and variables of a module refer to exists.
 fn validate_valued(scope: &Scope, module: &Module) -> Result<(), InvalidHandleError>
-    ensures { ChecksEach Answers (looks_in scope.now (valued_references «module».now)) result }
+    ensures { ChecksEach IsResult (checks_in scope.now (valued_references «module».now)) result }
 {
     try_each(
         module.constants.as_slice(),
@@ -320,12 +323,12 @@ fn validate_valued(scope: &Scope, module: &Module) -> Result<(), InvalidHandleEr
     )
 }
 
-/// Whether the special types are there.
+/// Whether the special types exist.
 fn validate_special_types(
     scope: &Scope,
     special_types: &SpecialTypes,
 ) -> Result<(), InvalidHandleError>
-    ensures { ChecksEach Answers (looks_in scope.now (map to.Type_ (item.special_types special_types.now))) result }
+    ensures { ChecksEach IsResult (checks_in scope.now (map to.Type_ (item.special_types special_types.now))) result }
 {
     scope.check_all(&[
         special_types.ray_desc.map(Reference::Type_),
@@ -334,13 +337,13 @@ fn validate_special_types(
     ])?;
     try_each(
         special_types.others.as_slice(),
-        &|ty: &Handle<TypeTag>| scope.check_all(&[Some(Reference::Type_(*ty))]),
+        &|ty: &Handle<TypeTag>| scope.check(Reference::Type_(*ty)),
     )
 }
 
-/// Whether each filter's parent comes before it.
+/// Whether the parent of each filter precedes it.
 fn validate_filter_parents(module: &Module) -> Result<(), InvalidHandleError>
-    ensures { ChecksEach Answers (flat_map (filter_looks (module_counts «module».now)) (enumerate_from 0 «module».now.diagnostic_filters)) result }
+    ensures { ChecksEach IsResult (flat_map (filter_checks (module_counts «module».now)) (enumerate_from 0 «module».now.diagnostic_filters)) result }
 {
     for (handle, filter) in module.diagnostic_filters.iter() {
         if let Some(parent) = filter.parent {
@@ -350,9 +353,9 @@ fn validate_filter_parents(module: &Module) -> Result<(), InvalidHandleError>
     Ok(())
 }
 
-/// Whether the filters of a module are there, and each stands after the one around it.
+/// Whether the parent of each filter precedes it, and the innermost filter of the module exists.
 fn validate_filters(module: &Module) -> Result<(), InvalidHandleError>
-    ensures { ChecksEach Answers (all_filter_looks «module».now) result }
+    ensures { ChecksEach IsResult (all_filter_checks «module».now) result }
 {
     validate_filter_parents(module)?;
     Scope::of_module(module).check_all(&[
@@ -362,39 +365,34 @@ fn validate_filters(module: &Module) -> Result<(), InvalidHandleError>
     ])
 }
 
-/// Whether what comments name by a handle is there, the types of members aside.
+/// Whether the items exist that comments document by a handle, the types of members aside.
 fn validate_documented(scope: &Scope, comments: &DocComments) -> Result<(), InvalidHandleError>
-    ensures { ChecksEach Answers (looks_in scope.now (documented_references comments.now)) result }
+    ensures { ChecksEach IsResult (checks_in scope.now (documented_references comments.now)) result }
 {
     try_each(
         comments.types.as_slice(),
-        &|comment: &(Handle<TypeTag>, List<Text>)| {
-            scope.check_all(&[Some(Reference::Type_(comment.0))])
-        },
+        &|comment: &(Handle<TypeTag>, List<Text>)| scope.check(Reference::Type_(comment.0)),
     )?;
     try_each(
         comments.functions.as_slice(),
-        &|comment: &(Handle<FunctionTag>, List<Text>)| {
-            scope.check_all(&[Some(Reference::Function(comment.0))])
-        },
+        &|comment: &(Handle<FunctionTag>, List<Text>)| scope.check(Reference::Function(comment.0)),
     )?;
     try_each(
         comments.constants.as_slice(),
-        &|comment: &(Handle<ConstantTag>, List<Text>)| {
-            scope.check_all(&[Some(Reference::Constant(comment.0))])
-        },
+        &|comment: &(Handle<ConstantTag>, List<Text>)| scope.check(Reference::Constant(comment.0)),
     )?;
     try_each(
         comments.global_variables.as_slice(),
         &|comment: &(Handle<GlobalVariableTag>, List<Text>)| {
-            scope.check_all(&[Some(Reference::GlobalVariable(comment.0))])
+            scope.check(Reference::GlobalVariable(comment.0))
         },
     )
 }
 
-/// Whether all that items refer to and that comments name by a handle is there and comes before.
+/// Whether all that items refer to exists and precedes them if it has to, types and global expressions
+/// aside, and all that comments document by a handle exists.
 fn validate_items(module: &Module) -> Result<(), InvalidHandleError>
-    ensures { ChecksEach Answers (module_looks «module».now) result }
+    ensures { ChecksEach IsResult (module_checks «module».now) result }
 {
     let scope = Scope::of_module(module);
     validate_valued(&scope, module)?;
@@ -405,7 +403,7 @@ fn validate_items(module: &Module) -> Result<(), InvalidHandleError>
 }
 
 fn validate_entry_point_index(module: &Module, index: usize) -> Result<(), InvalidHandleError>
-    ensures { AnswersEntryPoint «module».now index result }
+    ensures { IsEntryPointResult «module».now index result }
 {
     if index < module.entry_points.len() {
         Ok(())
@@ -417,9 +415,9 @@ fn validate_entry_point_index(module: &Module, index: usize) -> Result<(), Inval
     }
 }
 
-/// Whether the entry points are there that comments are on.
+/// Whether the entry points exist that comments document.
 fn validate_documented_entry_points(module: &Module) -> Result<(), InvalidHandleError>
-    ensures { ChecksEach (AnswersEntryPoint «module».now) (map (λ (c : ℕ × List (List ℕ)). c.0) «module».now.doc_comments.entry_points) result }
+    ensures { ChecksEach (IsEntryPointResult «module».now) (map (λ (c : ℕ × List (List ℕ)). c.0) «module».now.doc_comments.entry_points) result }
 {
     try_each(
         module.doc_comments.entry_points.as_slice(),
@@ -427,9 +425,9 @@ fn validate_documented_entry_points(module: &Module) -> Result<(), InvalidHandle
     )
 }
 
-/// What is wrong with a comment on a member that the type doesn't have.
+/// What an error says in place of the name of a type without one (naga).
 fn wrong_text(inner: &TypeInner) -> &'static str
-    ensures { result.now ≡ what_is_wrong inner.now }
+    ensures { result.now ≡ text_of_unnamed inner.now }
 {
     match inner {
         TypeInner::Struct { .. } => "members length incorrect",
@@ -437,9 +435,9 @@ fn wrong_text(inner: &TypeInner) -> &'static str
     }
 }
 
-/// The name of a type of which a comment is on no member, or what is wrong with it.
+/// The name of a type as an error says it.
 fn name_of(alloc: Global, ty: &Type) -> Result<Text, OutOfMemory>
-    ensures { IfOk result (λ name. name ≡ called ty.now) }
+    ensures { IfOk result (λ name. name ≡ display_name ty.now) }
 {
     match &ty.name {
         Some(name) => name.try_clone(),
@@ -447,7 +445,7 @@ fn name_of(alloc: Global, ty: &Type) -> Result<Text, OutOfMemory>
     }
 }
 
-/// Whether a type is a struct with a member of this number.
+/// Whether a type is a struct with a member of this index.
 fn has_member(ty: &Type, index: usize) -> bool
     ensures { IsTrue result ↔ HasMember ty.now index }
 {
@@ -457,14 +455,14 @@ fn has_member(ty: &Type, index: usize) -> bool
     }
 }
 
-/// Whether the type is there that a comment is on, and is a struct that has the member.
+/// Whether the type of this handle exists, and is a struct with a member of this index.
 fn validate_documented_member(
     alloc: Global,
     module: &Module,
     handle: Handle<TypeTag>,
     index: usize,
 ) -> Result<(), ValidationFault>
-    ensures { AnswersMember «module».now (handle, index) result }
+    ensures { IsMemberResult «module».now (handle, index) result }
 {
     Scope::of_module(module).check(Reference::Type_(handle))?;
     let ty = module.types.get(handle);
@@ -477,9 +475,9 @@ fn validate_documented_member(
     }
 }
 
-/// Whether the members are there that comments are on.
+/// Whether the members exist that comments document.
 fn validate_documented_members(alloc: Global, module: &Module) -> Result<(), ValidationFault>
-    ensures { ChecksEach (AnswersMember «module».now) (map (λ (c : (ℕ × ℕ) × List (List ℕ)). c.0) «module».now.doc_comments.struct_members) result }
+    ensures { ChecksEach (IsMemberResult «module».now) (map (λ (c : (ℕ × ℕ) × List (List ℕ)). c.0) «module».now.doc_comments.struct_members) result }
 {
     try_each(
         module.doc_comments.struct_members.as_slice(),
@@ -489,11 +487,11 @@ fn validate_documented_members(alloc: Global, module: &Module) -> Result<(), Val
     )
 }
 
-/// Whether all that items of a module but types and global expressions refer to is there and comes
-/// before them, and so all that comments are on.
+/// Whether all that items refer to exists and precedes them if it has to, types and global expressions
+/// aside, and all that comments document exists.
 fn validate_other_handles(alloc: Global, module: &Module) -> Result<(), ValidationFault>
-    ensures accepted { OnOk result (OthersStand «module».now) }
-    ensures refused { IfErr result (IsRefusal «module».now) }
+    ensures accepted { OnOk result (OtherItemsOk «module».now) }
+    ensures refused { IfErr result (IsHandleRefusal «module».now) }
 {
     validate_items(module)?;
     validate_documented_entry_points(module)?;

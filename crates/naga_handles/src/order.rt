@@ -1,10 +1,10 @@
 //! The order in which types and global expressions can be visited.
 
 ghost use Rattle.std.specs.Prelude.{◌≡◌, ◌+◌, ◌<◌, ◌≤◌, List, [], ◌∷◌, ◌++◌, IfErr, IfOk, OnOk, length};
-ghost use Rattle.naga_arena.specs.Memory.{AnsweredOrRefused};
+ghost use Rattle.naga_arena.specs.Memory.{UnlessOutOfMemory};
 ghost use Rattle.naga_ir.specs.ItemReferences.{global_lists};
-ghost use Rattle.naga_handles.specs.Order.{CanBeOrdered, IsOrder, NamesWalkFault, RanksFall};
-ghost use Rattle.naga_handles.specs.Visits.{IsNoOrder, Placed, PlacesUpTo, Reached};
+ghost use Rattle.naga_handles.specs.Order.{CanBeOrdered, IsOrder, NamesOrderFault, RanksFall};
+ghost use Rattle.naga_handles.specs.steps.VisitState.{IsNoOrder, Placed, PlacesUpTo, Reached};
 ghost use Rattle.naga_handles.specs.declared.order.Item.TheVariants as item;
 
 use crate::error::ValidationFault;
@@ -27,23 +27,25 @@ pub enum Item {
 pub struct Walk {
     /// Each type and each global expression once, after all that it depends on.
     pub order: Vec<Item>,
-    /// How many items were looked at for that.
+    /// How many types and global expressions were read from the module.
     pub looks: u64,
 }
 
-/// The types and global expressions of a module in an order in which each comes after all that it
-/// depends on: a type after its parts and after the expression that sizes it, an expression after its
-/// operands, its type, and what the constant or override begins with that it names.
+/// The types and global expressions of a module in an order in which each follows all that it depends
+/// on: a type its parts and the initialiser of the override that sizes it, an expression its operands,
+/// the type that it names, and the initialiser of the constant or override that it names.
 ///
-/// Types come in their order, and so do expressions. Before each type come the expressions that its
-/// size needs and that weren't there yet; the others come last. Each item is looked at once.
+/// Types are in their order, and so are expressions. Each type is preceded by the expressions up to
+/// the initialiser that sizes it; the others are last. `looks` is the number of items: the private
+/// reader of the walk counts what it reads. The cost is linear in the module.
 ///
-/// `ValidationFault` names a fault of a type or global expression that is there, as
-/// `validate_module_handles` does; the other items need not be right. `OutOfMemory` is answered where a
-/// request was refused. The cost is linear in the module.
+/// # Errors
+///
+/// `Invalid` names a fault of a type or global expression, as `validate_module_handles` does; the other
+/// items need not be right. `OutOfMemory` if memory was refused.
 pub fn visit_order(alloc: Global, module: &Module) -> Result<Walk, ValidationFault>
-    ensures answer { AnsweredOrRefused (λ fault. fault ≡ ValidationFault.OutOfMemory) result (λ _. CanBeOrdered «module».now)
-        (λ fault. NamesWalkFault «module».now fault × (CanBeOrdered «module».now → ⊥)) }
+    ensures verdict { UnlessOutOfMemory (λ fault. fault ≡ ValidationFault.OutOfMemory) result (λ _. CanBeOrdered «module».now)
+        (λ fault. NamesOrderFault «module».now fault × (CanBeOrdered «module».now → ⊥)) }
     ensures order { IfOk result (λ walk. IsOrder (global_lists «module».now) walk.order.items) }
     ensures falls { OnOk result (RanksFall (global_lists «module».now)) }
     ensures looks { IfOk result (λ walk. walk.looks ≡ length «module».now.types + length «module».now.global_expressions) }
@@ -51,7 +53,8 @@ pub fn visit_order(alloc: Global, module: &Module) -> Result<Walk, ValidationFau
     order_of(alloc, module)
 }
 
-/// That order, or a fault.
+/// `visit_order` without the clauses that follow from the others: that a refused module can't be
+/// ordered, and that dependencies have lesser ranks.
 fn order_of(alloc: Global, module: &Module) -> Result<Walk, ValidationFault>
     ensures accepted { OnOk result (CanBeOrdered «module».now) }
     ensures order { IfOk result (λ walk. IsOrder (global_lists «module».now) walk.order.items) }
@@ -72,7 +75,7 @@ fn order_of(alloc: Global, module: &Module) -> Result<Walk, ValidationFault>
     })
 }
 
-/// Adds the global expressions from one place to another.
+/// Adds the global expressions from index `from` to before index `to`.
 fn push_expressions(order: &mut Vec<Item>, from: usize, to: usize) -> Result<(), OutOfMemory>
     requires grows { from ≤ to }
     requires few { to ≤ 4294967295 }
@@ -84,7 +87,7 @@ fn push_expressions(order: &mut Vec<Item>, from: usize, to: usize) -> Result<(),
     Ok(())
 }
 
-/// Adds the global expressions from one place to another, and a type.
+/// Adds the global expressions from index `from` to before index `to`, and a type.
 fn push_visited(
     order: &mut Vec<Item>,
     from: usize,
@@ -108,7 +111,7 @@ fn visit_in_order(
     handle: Handle<TypeTag>,
 ) -> Result<(), ValidationFault>
     requires few { handle < 4294967295 }
-    requires there { handle < length «module».now.types }
+    requires exists { handle < length «module».now.types }
     requires reached { Reached «module».now handle walker.old.visited walker.old.reader.looks }
     requires placed { Placed (global_lists «module».now) order.old.items handle walker.old.visited }
     ensures reached { OnOk result (Reached «module».now (handle + 1) walker.new.visited walker.new.reader.looks) }

@@ -1,8 +1,13 @@
-//! Types and global expressions, walked in tandem.
+//! Types and global expressions, visited in tandem.
 //!
-//! A type that an override sizes needs the global expression that the override begins with, and so
-//! all global expressions up to that one, which name types themselves. So these are visited just
-//! before that type, and the types that they name have to come before it.
+//! Types may depend on global expressions: the length of an array may be an override, whose
+//! initialiser is one. Global expressions depend on the types that they name. Two scans, one after the
+//! other, would let a type be sized by an expression that names that type or a later one: such a cycle
+//! has to be refused, or a recursion along dependencies would not end. The two arenas can still be
+//! scanned without a graph, since each arena in itself refers only to preceding items. So types are
+//! visited in their order, and the expressions up to the initialiser that sizes a type just before
+//! that type; all types that these name have to precede it. One cursor over the expressions is enough:
+//! each item is visited once. naga's `validate_module_handles` reasons alike.
 
 ghost use Rattle.std.specs.Prelude.{◌≡◌, ℕ, ◌+◌, ◌<◌, ◌≤◌, IfErr, IfOk, OnOk, Some, length, slice_get};
 ghost use Rattle.naga_ir.specs.Handles.{Exists, module_counts, size_initialiser};
@@ -12,9 +17,9 @@ ghost use Rattle.naga_ir.specs.declared.expression.Expression.TheVariants as for
 ghost use Rattle.naga_ir.specs.declared.reference.Reference.TheVariants as to;
 ghost use Rattle.naga_ir_types.specs.Parts.{parts};
 ghost use Rattle.naga_ir_types.specs.declared.types.«Type» as types;
-ghost use Rattle.naga_handles.specs.Faults.{IsWalkFault, VisitedReference, forward};
+ghost use Rattle.naga_handles.specs.Faults.{IsOrderFault, VisitedReference, forward};
 ghost use Rattle.naga_handles.specs.Order.{CanBeOrdered};
-ghost use Rattle.naga_handles.specs.Visits.{AllBefore, ExpressionStands, ItemStands, NamesBefore, NamesLate, Reached, SeenUpTo, SizeStands, named_initialiser};
+ghost use Rattle.naga_handles.specs.steps.VisitState.{AllBefore, ExpressionOk, ItemOk, NamesBefore, NamesLate, Reached, SeenUpTo, SizeOk, named_initialiser};
 
 use crate::counts::{Counts, check_dep, check_operands};
 use crate::error::InvalidHandleError;
@@ -28,16 +33,16 @@ use naga_ir::types::TypeInner;
 
 mod reader;
 
-/// Whether something that types and global expressions refer to is there.
+/// Whether something that types and global expressions refer to exists.
 fn check_exists(module: &Module, reference: Reference) -> Result<(), InvalidHandleError>
     requires { VisitedReference «module».now reference }
     ensures exists { OnOk result (Exists (module_counts «module».now) reference) }
-    ensures refused { IfErr result (IsWalkFault «module».now) }
+    ensures refused { IfErr result (IsOrderFault «module».now) }
 {
     Counts::of_module(module).check_exists(reference)
 }
 
-/// Whether the parts of a type come before it.
+/// Whether the parts of a type precede it.
 fn check_parts(handle: Handle<TypeTag>, inner: &TypeInner) -> Result<(), InvalidHandleError>
     ensures before { OnOk result (AllBefore handle (parts inner.now)) }
     ensures refused { IfErr result (NamesLate to.Type_ handle (parts inner.now)) }
@@ -48,8 +53,8 @@ fn check_parts(handle: Handle<TypeTag>, inner: &TypeInner) -> Result<(), Invalid
     Ok(())
 }
 
-/// What the constant or override begins with that an expression names.
-#[tactic(auto, unfolding(crate::specs::Visits::named_initialiser))]
+/// The initialiser of the constant or override that an expression names.
+#[tactic(auto, unfolding(crate::specs::steps::VisitState::named_initialiser))]
 fn initialiser(module: &Module, expression: &Expression) -> Option<Handle<ExpressionTag>>
     requires constants { (c : ℕ) → expression.now ≡ form.Constant c → c < length «module».now.constants }
     requires overrides { (o : ℕ) → expression.now ≡ form.Override o → o < length «module».now.overrides }
@@ -62,17 +67,17 @@ fn initialiser(module: &Module, expression: &Expression) -> Option<Handle<Expres
     }
 }
 
-/// The expression that sizes a type, where an override does and begins with one, once the override
-/// is there, its type comes before this one, and the expression is there too.
+/// The initialiser that sizes a type, if an override with an initialiser does: the override exists, its
+/// type precedes this one, and the initialiser exists.
 fn check_size(
     module: &Module,
     handle: Handle<TypeTag>,
     inner: &TypeInner,
 ) -> Result<Option<Handle<ExpressionTag>>, InvalidHandleError>
     requires { (x : types.«Type») × (slice_get «module».now.types handle ≡ Some x) × (x.inner ≡ inner.now) }
-    ensures stands { OnOk result (SizeStands «module».now handle inner.now) }
+    ensures right { OnOk result (SizeOk «module».now handle inner.now) }
     ensures size { IfOk result (λ size. size ≡ size_initialiser (global_lists «module».now) handle) }
-    ensures refused { IfErr result (IsWalkFault «module».now) }
+    ensures refused { IfErr result (IsOrderFault «module».now) }
 {
     let Some(size) = inner.size_override() else {
         return Ok(None);
@@ -87,15 +92,15 @@ fn check_size(
     Ok(Some(last))
 }
 
-/// Whether the item that an expression names is there and begins with an expression before it.
+/// Whether the item that an expression names exists, and its initialiser precedes the expression.
 fn check_item(
     module: &Module,
     handle: Handle<ExpressionTag>,
     expression: &Expression,
 ) -> Result<(), InvalidHandleError>
     requires { slice_get «module».now.global_expressions handle ≡ Some expression.now }
-    ensures stands { OnOk result (ItemStands «module».now handle expression.now) }
-    ensures refused { IfErr result (IsWalkFault «module».now) }
+    ensures right { OnOk result (ItemOk «module».now handle expression.now) }
+    ensures refused { IfErr result (IsOrderFault «module».now) }
 {
     let Some(item) = expression.named_item() else {
         return Ok(());
@@ -108,7 +113,7 @@ fn check_item(
     Ok(())
 }
 
-/// Whether the type that an expression names comes before this one.
+/// Whether the type that an expression names precedes this one.
 fn check_gate(handle: Handle<TypeTag>, expression: &Expression) -> Result<(), InvalidHandleError>
     ensures before { OnOk result (NamesBefore handle expression.now) }
     ensures refused { IfErr result (λ e. (u : ℕ) × (references.named_type expression.now ≡ Some u) × (handle ≤ u) × (e ≡ forward (to.Type_ handle) (to.Type_ u))) }
@@ -120,7 +125,7 @@ fn check_gate(handle: Handle<TypeTag>, expression: &Expression) -> Result<(), In
     Ok(())
 }
 
-/// Whether the type that an expression names is there, where no size asks for the expression.
+/// Whether the type that an expression names exists, of an expression that no size needs.
 fn check_named_type(
     module: &Module,
     handle: Handle<ExpressionTag>,
@@ -129,7 +134,7 @@ fn check_named_type(
     requires place { slice_get «module».now.global_expressions handle ≡ Some expression.now }
     requires ungated { (t n : ℕ) → size_initialiser (global_lists «module».now) t ≡ Some n → handle ≤ n → ⊥ }
     ensures before { OnOk result (NamesBefore (length «module».now.types) expression.now) }
-    ensures refused { IfErr result (IsWalkFault «module».now) }
+    ensures refused { IfErr result (IsOrderFault «module».now) }
 {
     let Some(ty) = expression.named_type() else {
         return Ok(());
@@ -145,15 +150,15 @@ fn check_expression(
     expression: &Expression,
 ) -> Result<(), InvalidHandleError>
     requires { slice_get «module».now.global_expressions handle ≡ Some expression.now }
-    ensures stands { OnOk result (ExpressionStands «module».now handle expression.now) }
-    ensures refused { IfErr result (IsWalkFault «module».now) }
+    ensures right { OnOk result (ExpressionOk «module».now handle expression.now) }
+    ensures refused { IfErr result (IsOrderFault «module».now) }
 {
     check_operands(handle, expression)?;
     check_item(module, handle, expression)?;
     Ok(())
 }
 
-/// A walk over the types and global expressions of a module.
+/// The visit of a module's types and global expressions, as far as it has come.
 #[derive(Drop)]
 pub(crate) struct Walker {
     reader: Reader,
@@ -162,7 +167,7 @@ pub(crate) struct Walker {
 }
 
 impl Walker {
-    /// One that has visited nothing.
+    /// Nothing was visited.
     pub(crate) fn new() -> Walker
         ensures visited { result.visited ≡ 0 }
         ensures looks { result.reader.looks ≡ 0 }
@@ -180,15 +185,15 @@ impl Walker {
         self.visited
     }
 
-    /// How many items were looked at.
+    /// How many items were read.
     pub(crate) fn looks(&self) -> u64
         ensures { result ≡ self.now.reader.looks }
     {
         self.reader.looks()
     }
 
-    /// Visits the global expressions up to the one that sizes a type, as far as they weren't visited.
-    /// The types that they name have to come before that type.
+    /// Visits the global expressions up to the initialiser that sizes a type, from the first that
+    /// wasn't visited. The types that they name have to precede that type.
     fn visit_up_to(
         &mut self,
         module: &Module,
@@ -196,14 +201,14 @@ impl Walker {
         last: Handle<ExpressionTag>,
     ) -> Result<(), InvalidHandleError>
         requires few { (handle < 4294967295) × (self.old.visited ≤ 4294967295) }
-        requires there { last < length «module».now.global_expressions }
+        requires exists { last < length «module».now.global_expressions }
         requires inside { self.old.visited ≤ length «module».now.global_expressions }
         requires sized { size_initialiser (global_lists «module».now) handle ≡ Some last }
-        requires looked { self.old.reader.looks ≡ handle + 1 + self.old.visited }
+        requires counted { self.old.reader.looks ≡ handle + 1 + self.old.visited }
         ensures seen { OnOk result (SeenUpTo «module».now handle self.old.visited self.new.visited last) }
         ensures few { OnOk result (self.new.visited ≤ 4294967295) }
-        ensures looked { OnOk result (self.new.reader.looks ≡ handle + 1 + self.new.visited) }
-        ensures refused { IfErr result (IsWalkFault «module».now) }
+        ensures counted { OnOk result (self.new.reader.looks ≡ handle + 1 + self.new.visited) }
+        ensures refused { IfErr result (IsOrderFault «module».now) }
     {
         for index in self.visited..last.index() + 1 {
             let place = Handle::new(index as u32);
@@ -215,16 +220,15 @@ impl Walker {
         Ok(())
     }
 
-    /// Visits the global expressions that no size asked for. The types that they name need only be
-    /// there.
+    /// Visits the global expressions that no size needs. The types that they name only have to exist.
     pub(crate) fn visit_rest(&mut self, module: &Module) -> Result<(), InvalidHandleError>
         requires few { length «module».now.types ≤ 4294967295 }
         requires reached { Reached «module».now (length «module».now.types) self.old.visited self.old.reader.looks }
         ensures accepted { OnOk result (CanBeOrdered «module».now) }
         ensures visited { OnOk result (self.new.visited ≡ length «module».now.global_expressions) }
         ensures few { OnOk result (self.new.visited ≤ 4294967295) }
-        ensures looked { OnOk result (self.new.reader.looks ≡ length «module».now.types + length «module».now.global_expressions) }
-        ensures refused { IfErr result (IsWalkFault «module».now) }
+        ensures counted { OnOk result (self.new.reader.looks ≡ length «module».now.types + length «module».now.global_expressions) }
+        ensures refused { IfErr result (IsOrderFault «module».now) }
     {
         for index in self.visited..module.global_expressions.len() {
             let place = Handle::new(index as u32);
@@ -236,17 +240,17 @@ impl Walker {
         Ok(())
     }
 
-    /// Visits a type, after those before it, and the global expressions that its size asks for.
+    /// Visits a type, after those before it, and the global expressions that its size needs.
     pub(crate) fn visit_type(
         &mut self,
         module: &Module,
         handle: Handle<TypeTag>,
     ) -> Result<(), InvalidHandleError>
         requires few { handle < 4294967295 }
-        requires there { handle < length «module».now.types }
+        requires exists { handle < length «module».now.types }
         requires reached { Reached «module».now handle self.old.visited self.old.reader.looks }
         ensures reached { OnOk result (Reached «module».now (handle + 1) self.new.visited self.new.reader.looks) }
-        ensures refused { IfErr result (IsWalkFault «module».now) }
+        ensures refused { IfErr result (IsOrderFault «module».now) }
     {
         let ty = self.reader.type_at(module, handle);
         check_parts(handle, &ty.inner)?;
@@ -259,11 +263,11 @@ impl Walker {
     }
 }
 
-/// Whether the types and global expressions of a module can be visited, each after all that it
-/// depends on.
+/// Whether the types and global expressions of a module can be visited in an order in which each
+/// follows all that it depends on.
 pub(crate) fn walk(module: &Module) -> Result<(), InvalidHandleError>
     ensures accepted { OnOk result (CanBeOrdered «module».now) }
-    ensures refused { IfErr result (IsWalkFault «module».now) }
+    ensures refused { IfErr result (IsOrderFault «module».now) }
 {
     let mut walker = Walker::new();
     for index in 0..module.types.len() {

@@ -151,36 +151,36 @@ fn ahead<K: Kind>(item: u8) -> ValidationFault {
     forward::<K>(Handle::new(u32::from(item)), dangling())
 }
 
-/// Makes sure that a module is accepted, or refused with this fault. Each `assert_eq!` in a test is proved
+/// Checks that a module is accepted, or refused with this fault. Each `assert_eq!` in a test is proved
 /// anew; this one is proved once.
-fn assert_answer(
+fn assert_verdict(
     rt: &(impl AllocGlobal + Abort),
     module: &Module,
-    want: Result<(), ValidationFault>,
+    expected: Result<(), ValidationFault>,
 ) {
-    assert_eq!(rt; validate_module_handles(rt.alloc(), module), want);
+    assert_eq!(rt; validate_module_handles(rt.alloc(), module), expected);
 }
 
-/// Makes sure that a module is refused with this fault.
-fn assert_fault(rt: &(impl AllocGlobal + Abort), module: &Module, want: ValidationFault) {
-    assert_answer(rt, module, Err(want));
+/// Checks that a module is refused with this fault.
+fn assert_fault(rt: &(impl AllocGlobal + Abort), module: &Module, expected: ValidationFault) {
+    assert_verdict(rt, module, Err(expected));
 }
 
-/// Makes sure of a module that was built for this.
+/// Checks the verdict on a module that was built for this.
 fn assert_judged(
     rt: &(impl AllocGlobal + Abort),
     module: Module,
-    want: Result<(), ValidationFault>,
+    expected: Result<(), ValidationFault>,
 ) {
-    assert_answer(rt, &module, want);
+    assert_verdict(rt, &module, expected);
 }
 
-/// Makes sure that a module that was built for this is refused with this fault.
-fn assert_refused(rt: &(impl AllocGlobal + Abort), module: Module, want: ValidationFault) {
-    assert_judged(rt, module, Err(want));
+/// Checks that a module that was built for this is refused with this fault.
+fn assert_refused(rt: &(impl AllocGlobal + Abort), module: Module, expected: ValidationFault) {
+    assert_judged(rt, module, Err(expected));
 }
 
-/// Makes sure that a module that was built for this is accepted.
+/// Checks that a module that was built for this is accepted.
 fn assert_accepted(rt: &(impl AllocGlobal + Abort), module: Module) {
     assert_judged(rt, module, Ok(()));
 }

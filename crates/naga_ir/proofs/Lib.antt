@@ -1,5 +1,5 @@
+pub mod FirstFailure
 pub mod Handles
-pub mod Reached
+pub mod ReferredTo
 pub mod StatementLemmas
-pub mod WalkLemmas
 pub mod WorkedModules

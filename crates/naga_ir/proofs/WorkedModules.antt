@@ -1,8 +1,8 @@
--- Small modules, and what the rules of handles say of them.
+-- Small modules, and what the definitions of handles say of them.
 use Rattle.std.proofs.Common.{◌≡◌, ℕ, ◌<◌, zero, suc, List, [], ◌∷◌, map, Some, None, All, Contains, slice_get, slice_index_or, subst, refl, sym, ap, arith}
 use Rattle.std.proofs.lemmas.Option.{same_Some}
 use Rattle.std.proofs.lemmas.List.Elements.{All-nil, All-cons}
-use Rattle.naga_ir.specs.Handles.{Exists, EverythingExists, GoBack, HandlesAccepted, MemberExists, OrderedInModule, OrderedReference, SizeGatesHold, among_globals, around, called, constant, function_counts, in_function, module_counts, operand, override, part, place_of, size_initialiser, size_type}
+use Rattle.naga_ir.specs.Handles.{Exists, EverythingExists, GoBack, HandlesAccepted, MemberExists, OrderedInModule, OrderedReference, SizeGatesHold, among_globals, parent_filter, calls_function, constant, function_counts, in_function, module_counts, operand, override, part, place_of, size_initialiser, size_type}
 use Rattle.naga_ir.specs.ItemReferences.{GlobalLists, function_references, global_lists}
 use Rattle.naga_ir.specs.References.{named_item, named_type, operands}
 use Rattle.naga_ir_types.specs.Parts.{parts, size_override}
@@ -42,7 +42,7 @@ number = record { name = None; inner = Scalar (record { kind = Uint; width = 4 }
 abbrev pub sized_array : «Type»
 sized_array = record { name = None; inner = Array 0 (Pending 0) 4 }
 
--- the override's initialiser names the type at this place
+-- the override's initialiser names the type of this index
 abbrev pub naming : ℕ → GlobalLists
 naming u = record {
   types = number ∷ sized_array ∷ [];
@@ -60,7 +60,7 @@ circular = record {
   expressions = Constant 0 ∷ [];
 }
 
--- where the initialiser names the array itself, the gate of the size is broken
+-- if the initialiser names the array itself, the gate of the size is broken
 pub names_itself : ¬ (SizeGatesHold (global_lists (of_lists (naming 1) [])))
 unfolding size_initialiser size_override named_type
 names_itself holds =
@@ -91,7 +91,7 @@ pub comment_on_nothing : ¬ (EverythingExists (of_lists (naming 0) (5 ∷ [])))
 comment_on_nothing exist =
     let there : 5 < 0 = exist.others 0 (to.Function 5) (omega arith) in omega (arith, there)
 
--- where the initialiser names an earlier type, they are visited in the order type, initialiser, array
+-- if the initialiser names a preceding type, the order is type, initialiser, array
 pub first_of_three : rank_of_type (naming 0) 0 ≡ 0
 unfolding size_initialiser size_override top_before
 first_of_three = refl
@@ -112,7 +112,7 @@ pub last_of_four : rank_of_expression named_later 1 ≡ 3
 unfolding size_initialiser size_override gate least
 last_of_four = refl
 
--- a constant's type is nothing that an expression needs: the array is the type of a constant that its size stands on
+-- a constant's type is nothing that an expression needs: the array is the type of a constant that its size depends on
 abbrev pub typed_constant : GlobalLists
 typed_constant = record {
   types = number ∷ sized_array ∷ [];
@@ -177,8 +177,8 @@ module _ where
   go_back : (s t : Reference) → OrderedInModule three s t → place_of t < place_of s
   go_back s t (among_globals a b p) = global_back a b p
   go_back s t (in_function f a b stands p) = absurd (omega (arith, stands.1))
-  go_back s t (called i j f at c) = cc
-  go_back s t (around i j n at p) = cc
+  go_back s t (calls_function i j f at c) = cc
+  go_back s t (parent_filter i j n at p) = cc
 
   gates_hold : SizeGatesHold (global_lists three)
   unfolding size_initialiser size_override named_type

@@ -35,15 +35,15 @@ named_references x = map to.Type_ (option_to_list (named_type x)) ++ option_to_l
 abbrev pub expression_references : Expression → List Reference
 expression_references x = map to.Expression (operands x) ++ named_references x
 
--- a constant refers to its type and to its initialiser
+-- a constant refers to its type and its initialiser
 abbrev pub constant_references : Constant → List Reference
 constant_references c = to.Type_ c.ty ∷ to.Expression c.init ∷ []
 
--- an override refers to its type, and to its initialiser where there is one
+-- an override refers to its type, and to its initialiser if it has one
 abbrev pub override_references : Override → List Reference
 override_references o = to.Type_ o.ty ∷ map to.Expression (option_to_list o.init)
 
--- a variable of the module refers to its type, and to its initialiser where there is one
+-- a variable of the module refers to its type, and to its initialiser if it has one
 abbrev pub global_variable_references : GlobalVariable → List Reference
 global_variable_references v = to.Type_ v.ty ∷ map to.Expression (option_to_list v.init)
 
@@ -51,34 +51,42 @@ global_variable_references v = to.Type_ v.ty ∷ map to.Expression (option_to_li
 abbrev pub local_variable_references : LocalVariable → List Reference
 local_variable_references v = to.Type_ v.ty ∷ map to.Expression (option_to_list v.init)
 
--- what the arguments, variables and expressions of a function refer to
-abbrev pub own_list_references : Function → List Reference
-own_list_references f =
+-- the signature of a function refers to the types of its arguments and of its result
+abbrev pub signature_references : Function → List Reference
+signature_references f =
     map (λ (a : FunctionArgument). to.Type_ a.ty) f.arguments
-    ++ (flat_map local_variable_references f.local_variables
-    ++ flat_map expression_references f.expressions)
+    ++ map (λ (r : FunctionResult). to.Type_ r.ty) (option_to_list f.result)
 
--- what a function refers to: those, its result, the expressions that it gives names, its statements and its filter
+-- its variables refer to their types and initialisers, and its names to the expressions that they name
+abbrev pub local_references : Function → List Reference
+local_references f =
+    flat_map local_variable_references f.local_variables
+    ++ map (λ (n : ℕ × List ℕ). to.Expression n.0) f.named_expressions
+
+-- its body refers to what its statements refer to, and to its filter
+abbrev pub body_references : Function → List Reference
+body_references f = block_references f.body ++ map to.DiagnosticFilterNode (option_to_list f.diagnostic_filter_leaf)
+
+-- what a function refers to, by what its expressions refer to: its signature, its variables and names, its expressions, and its body
+abbrev pub references_with : (Expression → List Reference) → Function → List Reference
+references_with of_expression f = signature_references f ++ (local_references f ++ (flat_map of_expression f.expressions ++ body_references f))
+
+-- all that a function refers to
 abbrev pub function_references : Function → List Reference
-function_references f =
-    own_list_references f
-    ++ (map (λ (r : FunctionResult). to.Type_ r.ty) (option_to_list f.result)
-    ++ (map (λ (n : ℕ × List ℕ). to.Expression n.0) f.named_expressions
-    ++ (block_references f.body
-    ++ map to.DiagnosticFilterNode (option_to_list f.diagnostic_filter_leaf))))
+function_references f = references_with expression_references f
 
 -- the sizes of a workgroup that overrides decide
 abbrev pub workgroup_sizes : Option (List (Option ℕ)) → List ℕ
 workgroup_sizes None = []
 workgroup_sizes (Some sizes) = flat_map option_to_list sizes
 
--- a mesh shader's output refers to its variable, its types and its greatest numbers
+-- the output of a mesh shader refers to its variable, its types and its greatest numbers
 abbrev pub mesh_references : MeshStageInfo → List Reference
 mesh_references mesh =
     to.GlobalVariable mesh.output_variable ∷ to.Type_ mesh.vertex_output_type ∷ to.Type_ mesh.primitive_output_type
     ∷ (map to.Expression (option_to_list mesh.max_vertices_override ++ option_to_list mesh.max_primitives_override))
 
--- what an entry point refers to in the module, its function aside
+-- what an entry point itself refers to, its function aside
 abbrev pub entry_point_references : EntryPoint → List Reference
 entry_point_references p =
     map to.Expression (workgroup_sizes p.workgroup_size_overrides)
@@ -88,7 +96,7 @@ entry_point_references p =
 abbrev pub special_types : SpecialTypes → List ℕ
 special_types s = option_to_list s.ray_desc ++ (option_to_list s.ray_intersection ++ (option_to_list s.ray_vertex_return ++ s.others))
 
--- what comments name by a handle
+-- the items that comments document by a handle
 abbrev pub comment_references : DocComments → List Reference
 comment_references d =
     map (λ (c : ℕ × List (List ℕ)). to.Type_ c.0) d.types
@@ -116,7 +124,7 @@ global_references g =
     ++ (flat_map override_references g.overrides
     ++ flat_map expression_references g.expressions))
 
--- what all else in a module refers to, the insides of functions and what is around filters aside
+-- what all else in a module refers to, the insides of functions and the parents of filters aside
 abbrev pub other_references : Module → List Reference
 other_references m =
     flat_map global_variable_references m.global_variables
@@ -125,7 +133,7 @@ other_references m =
     ++ (map to.DiagnosticFilterNode (option_to_list m.diagnostic_filter_leaf)
     ++ comment_references m.doc_comments)))
 
--- the filters around the filters of a module
+-- the parents of the filters of a module
 abbrev pub filter_references : Module → List Reference
 filter_references m = flat_map (λ (n : DiagnosticFilterNode). map to.DiagnosticFilterNode (option_to_list n.parent)) m.diagnostic_filters
 

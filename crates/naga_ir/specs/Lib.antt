@@ -1,10 +1,20 @@
+-- To read first:
+-- References.operands, named_type, named_item: what an expression refers to
+-- Statements.block_references: what a block refers to, at any depth
+-- ItemReferences.function_references, global_references, other_references: what all other items refer to
+-- Handles.EverythingExists: no reference of a module is dangling
+-- Handles.OrderedInModule, GoBack: which references have to go back, and that they do
+-- Handles.SizeGatesHold: no expression that sizes a type names that type or a later one, and none before it does
+-- Handles.HandlesAccepted: these three
+-- Handles.GlobalReferencesOk, FunctionReferencesOk: the same of types and global expressions, and of one function
+-- Ranks.rank_of_type, rank_of_expression: the index of each in the order of visits
+pub mod FirstFailure
 pub mod Handles
 pub mod ItemReferences
 pub mod Literals
+pub mod OnlyTypes
 pub mod Operands
 pub mod Ranks
 pub mod References
-pub mod Scope
-pub mod StatementParts
 pub mod Statements
-pub mod Walks
+pub mod steps

@@ -1,4 +1,4 @@
--- The place of each type and global expression in the order of visits, by a formula.
+-- The index of each type and global expression in the order of visits, by a formula.
 use Rattle.std.specs.Prelude.{◌≡◌, ℕ, zero, suc, ◌+◌, max, nat_lt, Bool, length, Option, Some, None, if◌then◌else◌}
 use Rattle.naga_ir.specs.Handles.{NamesType, OrderedReference, size_initialiser}
 use Rattle.naga_ir.specs.ItemReferences.{GlobalLists}

@@ -1,4 +1,4 @@
-//! Expressions, and the values that stand in them.
+//! Expressions, and the literals in them.
 
 ghost use Rattle.std.specs.Prelude.{◌≡◌};
 ghost use Rattle.naga_ir.specs.Literals.{literal_scalar};
@@ -11,8 +11,8 @@ use naga_arena::tags::{
 };
 use naga_ir_types::types::{Scalar, ScalarKind, VectorSize};
 
-/// A value that is written out. Floating-point numbers are kept as their bits, so that two literals
-/// are equal just where their bits are.
+/// A literal. Floating-point numbers are kept as their bits, so two literals are equal exactly if
+/// their bits are.
 #[derive(Clone, Copy, Debug, PartialEq, Eq, Hash)]
 pub enum Literal {
     /// The bits of an `f64`.
@@ -64,16 +64,16 @@ pub enum SwizzleComponent {
     W,
 }
 
-/// Which level of an image is sampled.
+/// Which mipmap level of an image is sampled.
 #[derive(Clone, Copy, Debug, PartialEq, Eq)]
 pub enum SampleLevel {
     /// By the derivatives of the coordinates.
     Auto,
     /// The first.
     Zero,
-    /// That of a number.
+    /// The one of this number.
     Exact(Handle<ExpressionTag>),
-    /// By the derivatives, and then some levels on.
+    /// By the derivatives, and this many levels on.
     Bias(Handle<ExpressionTag>),
     /// By these derivatives.
     Gradient {
@@ -82,10 +82,10 @@ pub enum SampleLevel {
     },
 }
 
-/// What is asked of an image.
+/// A query of an image.
 #[derive(Clone, Copy, Debug, PartialEq, Eq)]
 pub enum ImageQuery {
-    /// Its size, of the first level or of the one that is given.
+    /// Its size in texels, of the first level or of the given one.
     Size {
         level: Option<Handle<ExpressionTag>>,
     },
@@ -94,7 +94,7 @@ pub enum ImageQuery {
     NumSamples,
 }
 
-/// What is done to one value.
+/// An operator on one value.
 #[derive(Clone, Copy, Debug, PartialEq, Eq)]
 pub enum UnaryOperator {
     Negate,
@@ -102,7 +102,7 @@ pub enum UnaryOperator {
     BitwiseNot,
 }
 
-/// What is done to two values.
+/// An operator on two values.
 #[derive(Clone, Copy, Debug, PartialEq, Eq)]
 pub enum BinaryOperator {
     Add,
@@ -122,11 +122,11 @@ pub enum BinaryOperator {
     LogicalAnd,
     LogicalOr,
     ShiftLeft,
-    /// Of signed integers, with their sign.
+    /// Of signed integers, keeps the sign.
     ShiftRight,
 }
 
-/// What is asked of a value.
+/// A query of a truth value or number.
 #[derive(Clone, Copy, Debug, PartialEq, Eq)]
 pub enum RelationalFunction {
     All,
@@ -135,7 +135,7 @@ pub enum RelationalFunction {
     IsInf,
 }
 
-/// A function of mathematics.
+/// A mathematical function.
 #[derive(Clone, Copy, Debug, PartialEq, Eq)]
 pub enum MathFunction {
     Abs,
@@ -198,12 +198,12 @@ pub enum MathFunction {
     Unpack2x16float,
 }
 
-/// A value that is worked out from values before it.
+/// A value that is computed from the values of preceding expressions.
 ///
-/// An expression is no instruction: a function's statements say when its value is worked out.
+/// An expression is no instruction: a function's statements say when it is evaluated.
 #[derive(Debug, Drop)]
 pub enum Expression {
-    /// A value that is written out.
+    /// A literal.
     Literal(Literal),
     /// The value of a constant.
     Constant(Handle<ConstantTag>),
@@ -211,48 +211,52 @@ pub enum Expression {
     Override(Handle<OverrideTag>),
     /// The zero of a type.
     ZeroValue(Handle<TypeTag>),
-    /// A value from its parts.
+    /// A value from its components.
     Compose {
+        /// The type of the value.
         ty: Handle<TypeTag>,
         components: List<Handle<ExpressionTag>>,
     },
-    /// A part, at a place that is worked out.
+    /// A component, element or member, at an index that is computed.
     Access {
         base: Handle<ExpressionTag>,
         index: Handle<ExpressionTag>,
     },
-    /// A part, at a known place.
+    /// A component, element or member, at a known index.
     AccessIndex {
         base: Handle<ExpressionTag>,
+        /// The index, from 0.
         index: u32,
     },
     /// A vector of which all components are one value.
     Splat {
+        /// The number of components.
         size: VectorSize,
         value: Handle<ExpressionTag>,
     },
     /// A vector from components of another.
     Swizzle {
+        /// The number of components.
         size: VectorSize,
         vector: Handle<ExpressionTag>,
-        /// The component of each place, of which the first `size` count.
+        /// The component of each index, of which the first `size` count.
         pattern: [SwizzleComponent; 4],
     },
     /// The argument of this number.
     FunctionArgument(u32),
-    /// A variable of the module: its place, or the image or sampler itself.
+    /// A pointer to a variable of the module; in the address space `Handle` the image or sampler itself.
     GlobalVariable(Handle<GlobalVariableTag>),
-    /// The place of a variable of the function.
+    /// A pointer to a variable of the function.
     LocalVariable(Handle<LocalVariableTag>),
-    /// What stands at a place.
+    /// The value that a pointer points to.
     Load {
         pointer: Handle<ExpressionTag>,
     },
-    /// What a sampler makes of an image.
+    /// A sample of an image.
     ImageSample {
         image: Handle<ExpressionTag>,
         sampler: Handle<ExpressionTag>,
-        /// The component that is gathered of four texels, where that is asked.
+        /// The component that is gathered of four texels, of a gather.
         gather: Option<SwizzleComponent>,
         coordinate: Handle<ExpressionTag>,
         array_index: Option<Handle<ExpressionTag>>,
@@ -260,6 +264,7 @@ pub enum Expression {
         level: SampleLevel,
         /// What depths are compared with.
         depth_ref: Option<Handle<ExpressionTag>>,
+        /// Whether coordinates are clamped to within half a texel of the edges.
         clamp_to_edge: bool,
     },
     /// A texel of an image.
@@ -267,10 +272,11 @@ pub enum Expression {
         image: Handle<ExpressionTag>,
         coordinate: Handle<ExpressionTag>,
         array_index: Option<Handle<ExpressionTag>>,
+        /// Which sample, of a multisampled image.
         sample: Option<Handle<ExpressionTag>>,
         level: Option<Handle<ExpressionTag>>,
     },
-    /// What is known of an image.
+    /// A property of an image.
     ImageQuery {
         image: Handle<ExpressionTag>,
         query: ImageQuery,
@@ -292,16 +298,16 @@ pub enum Expression {
         accept: Handle<ExpressionTag>,
         reject: Handle<ExpressionTag>,
     },
-    /// How a value changes from one fragment to the next.
+    /// The derivative of a value across fragments.
     Derivative {
         expr: Handle<ExpressionTag>,
     },
-    /// A question about a value.
+    /// A query of a value.
     Relational {
         fun: RelationalFunction,
         argument: Handle<ExpressionTag>,
     },
-    /// A function of mathematics.
+    /// A mathematical function.
     Math {
         fun: MathFunction,
         arg: Handle<ExpressionTag>,
@@ -309,51 +315,54 @@ pub enum Expression {
         arg2: Option<Handle<ExpressionTag>>,
         arg3: Option<Handle<ExpressionTag>>,
     },
-    /// A value as another scalar type.
+    /// A conversion to another scalar kind.
     As {
         expr: Handle<ExpressionTag>,
         kind: ScalarKind,
-        /// The width in bytes that the value is converted to; where there is none, its bits are taken
-        /// as they are.
+        /// The width in bytes that the value is converted to; without one, its bits are reinterpreted.
         convert: Option<u8>,
     },
-    /// What a call of this function answered.
+    /// The result of a call of this function.
     CallResult(Handle<FunctionTag>),
-    /// What an atomic operation answered.
+    /// The result of an atomic operation.
     AtomicResult {
+        /// The type of the result.
         ty: Handle<TypeTag>,
-        /// Whether it was a comparing exchange.
+        /// Whether it was a compare-and-exchange.
         comparison: bool,
     },
-    /// What a load for the whole workgroup answered.
+    /// The result of a load for the whole workgroup.
     WorkGroupUniformLoadResult {
+        /// The type of the result.
         ty: Handle<TypeTag>,
     },
-    /// How many elements an array of unknown length has.
+    /// The number of elements of the runtime-sized array that a pointer points to.
     ArrayLength(Handle<ExpressionTag>),
     /// Whether a ray goes on.
     RayQueryProceedResult,
     /// What a ray has hit.
     RayQueryGetIntersection {
         query: Handle<ExpressionTag>,
-        /// Whether the hit is one that counts, and no candidate.
+        /// Whether it is the committed hit, and no candidate.
         committed: bool,
     },
     /// The corners of what a ray has hit.
     RayQueryVertexPositions {
         query: Handle<ExpressionTag>,
-        /// Whether the hit is one that counts, and no candidate.
+        /// Whether it is the committed hit, and no candidate.
         committed: bool,
     },
-    /// What a ballot of the subgroup answered.
+    /// The result of a ballot of the subgroup.
     SubgroupBallotResult,
-    /// What an operation of the subgroup answered.
+    /// The result of an operation of the subgroup.
     SubgroupOperationResult {
+        /// The type of the result.
         ty: Handle<TypeTag>,
     },
     /// A cooperative matrix from memory.
     CooperativeLoad {
         pointer: Handle<ExpressionTag>,
+        /// From the start of a column or row to that of the next, in elements.
         stride: Handle<ExpressionTag>,
     },
     /// `a * b + c` of cooperative matrices.

@@ -1,7 +1,7 @@
 //! A shader module and what it holds beside types, expressions and statements.
 
 ghost use Rattle.std.specs.Prelude.{◌≡◌, [], None};
-ghost use Rattle.naga_ir.specs.Scope.{HasNoComments, HasNoSpecialTypes, HasOnlyTypes};
+ghost use Rattle.naga_ir.specs.OnlyTypes.{HasNoComments, HasNoSpecialTypes, HasOnlyTypes};
 
 use crate::expression::Expression;
 use crate::statement::Block;
@@ -26,14 +26,14 @@ pub struct Constant {
     pub init: Handle<ExpressionTag>,
 }
 
-/// A value with a name or number, known when a pipeline is made.
+/// A value that is given when a pipeline is made, by its name or its number.
 #[derive(Debug, Drop)]
 pub struct Override {
     pub name: Option<Text>,
-    /// The number by which a pipeline may give the value.
+    /// The number by which a pipeline may give the value (WGSL, "id").
     pub id: Option<u16>,
     pub ty: Handle<TypeTag>,
-    /// The value where the pipeline gives none: a global expression.
+    /// The value if the pipeline gives none: a global expression.
     pub init: Option<Handle<ExpressionTag>>,
 }
 
@@ -41,6 +41,7 @@ pub struct Override {
 #[derive(Debug, Drop)]
 pub struct GlobalVariable {
     pub name: Option<Text>,
+    /// Where the variable is kept.
     pub space: AddressSpace,
     pub ty: Handle<TypeTag>,
     /// The first value: a global expression.
@@ -56,43 +57,45 @@ pub struct LocalVariable {
     pub init: Option<Handle<ExpressionTag>>,
 }
 
-/// What a function is called with.
+/// An argument of a function.
 #[derive(Debug, Drop)]
 pub struct FunctionArgument {
     pub name: Option<Text>,
     pub ty: Handle<TypeTag>,
+    /// Of an entry point, where the value comes from or goes to.
     pub binding: Option<Binding>,
 }
 
-/// What a function answers.
+/// What a function returns.
 #[derive(Debug, Drop)]
 pub struct FunctionResult {
     pub ty: Handle<TypeTag>,
+    /// Of an entry point, where the value comes from or goes to.
     pub binding: Option<Binding>,
 }
 
-/// A function: what it is called with, what it answers, and what it does.
+/// A function: its arguments, its result, and its body.
 #[derive(Debug, Drop)]
 pub struct Function {
     pub name: Option<Text>,
     pub arguments: List<FunctionArgument>,
     pub result: Option<FunctionResult>,
     pub local_variables: Arena<LocalVariable, LocalVariableTag>,
-    /// Each stands after all that it is worked out from.
+    /// Each follows its operands.
     pub expressions: Arena<Expression, ExpressionTag>,
     /// Names that the source gives to expressions.
     pub named_expressions: List<(Handle<ExpressionTag>, Text)>,
     pub body: Block,
-    /// The innermost of the filters that hold for the function.
+    /// The innermost of the filters that apply to the function.
     pub diagnostic_filter_leaf: Option<Handle<DiagnosticFilterNodeTag>>,
 }
 
 impl Function {
-    /// A function without a name, that takes nothing, does nothing and answers nothing.
+    /// A function without name, arguments and result, whose body is empty.
     pub fn new(alloc: Global) -> Function
         ensures name { result.name ≡ None }
         ensures arguments { result.arguments ≡ [] }
-        ensures answer { result.result ≡ None }
+        ensures no_result { result.result ≡ None }
         ensures local_variables { result.local_variables ≡ [] }
         ensures expressions { result.expressions ≡ [] }
         ensures named_expressions { result.named_expressions ≡ [] }
@@ -112,50 +115,54 @@ impl Function {
     }
 }
 
-/// What a mesh shader puts out.
+/// The output of a mesh shader.
 #[derive(Clone, Copy, Debug, PartialEq, Eq)]
 pub struct MeshStageInfo {
-    /// The variable that it puts its output into.
+    /// The variable that it writes its output to.
     pub output_variable: Handle<GlobalVariableTag>,
     pub vertex_output_type: Handle<TypeTag>,
     pub primitive_output_type: Handle<TypeTag>,
-    /// The greatest number of vertices, where overrides decide it: a global expression.
+    /// The greatest number of vertices, if overrides decide it: a global expression.
     pub max_vertices_override: Option<Handle<ExpressionTag>>,
-    /// The greatest number of primitives, where overrides decide it: a global expression.
+    /// The greatest number of primitives, if overrides decide it: a global expression.
     pub max_primitives_override: Option<Handle<ExpressionTag>>,
 }
 
-/// A function that a pipeline begins with.
+/// A function that a pipeline calls first in one of its stages.
 #[derive(Debug, Drop)]
 pub struct EntryPoint {
     pub name: Text,
-    /// The sizes of a workgroup, where overrides decide them: global expressions.
+    /// The sizes of a workgroup in three dimensions, if overrides decide them: global expressions.
     pub workgroup_size_overrides: Option<[Option<Handle<ExpressionTag>>; 3]>,
     pub function: Function,
     /// The variable that a task shader hands to its mesh shaders.
     pub task_payload: Option<Handle<GlobalVariableTag>>,
+    /// The output, of a mesh shader.
     pub mesh_info: Option<MeshStageInfo>,
 }
 
-/// A filter of diagnostics, which holds together with those around it.
+/// A filter of diagnostics (WGSL, "Filtering Diagnostics"), which applies together with its parents.
 #[derive(Clone, Copy, Debug, PartialEq, Eq)]
 pub struct DiagnosticFilterNode {
-    /// The filter around this one.
+    /// The filter of the enclosing scope.
     pub parent: Option<Handle<DiagnosticFilterNodeTag>>,
 }
 
-/// Types that some built-in functions take or answer.
+/// Types that some built-in functions take or return.
 #[derive(Debug, Drop)]
 pub struct SpecialTypes {
+    /// The descriptor that begins a ray query.
     pub ray_desc: Option<Handle<TypeTag>>,
+    /// What a ray query says of an intersection.
     pub ray_intersection: Option<Handle<TypeTag>>,
+    /// The corners of a triangle that a ray has hit.
     pub ray_vertex_return: Option<Handle<TypeTag>>,
     /// The types of the results of built-in functions.
     pub others: List<Handle<TypeTag>>,
 }
 
 impl SpecialTypes {
-    /// None.
+    /// No special types.
     pub fn new(alloc: Global) -> SpecialTypes
         ensures { HasNoSpecialTypes result }
     {
@@ -174,9 +181,9 @@ pub struct DocComments {
     /// Of the module itself.
     pub module: List<Text>,
     pub types: List<(Handle<TypeTag>, List<Text>)>,
-    /// Of a member of a struct, by the type and the number of the member.
+    /// Of a member of a struct, by the type and the index of the member.
     pub struct_members: List<((Handle<TypeTag>, usize), List<Text>)>,
-    /// Of an entry point, by its number.
+    /// Of an entry point, by its index.
     pub entry_points: List<(usize, List<Text>)>,
     pub functions: List<(Handle<FunctionTag>, List<Text>)>,
     pub constants: List<(Handle<ConstantTag>, List<Text>)>,
@@ -184,7 +191,7 @@ pub struct DocComments {
 }
 
 impl DocComments {
-    /// None.
+    /// No comments.
     pub fn new(alloc: Global) -> DocComments
         ensures { HasNoComments result }
     {
@@ -202,25 +209,25 @@ impl DocComments {
 
 /// A shader module. `triangle.rt`, among the tests, builds one by hand.
 ///
-/// Nothing is known of a module that was built by hand or read from outside: a validator says
+/// Nothing is known of a module that was built by hand or read from outside: a validator decides
 /// whether it keeps the rules.
 #[derive(Debug, Drop)]
 pub struct Module {
-    /// The types, each once.
+    /// The types, of which no two are equal.
     pub types: UniqueArena,
     pub special_types: SpecialTypes,
     pub constants: Arena<Constant, ConstantTag>,
     pub overrides: Arena<Override, OverrideTag>,
     pub global_variables: Arena<GlobalVariable, GlobalVariableTag>,
-    /// What constants, overrides and variables begin with. Each stands after all that it is worked
-    /// out from.
+    /// The initialisers of constants, overrides and variables, and their operands. Each follows its
+    /// operands.
     pub global_expressions: Arena<Expression, ExpressionTag>,
-    /// Each stands after all that it calls.
+    /// Each follows all functions that it calls.
     pub functions: Arena<Function, FunctionTag>,
     pub entry_points: List<EntryPoint>,
-    /// Each stands after the one around it.
+    /// Each follows its parent.
     pub diagnostic_filters: Arena<DiagnosticFilterNode, DiagnosticFilterNodeTag>,
-    /// The innermost of the filters that hold for the module.
+    /// The innermost of the filters that apply to the module.
     pub diagnostic_filter_leaf: Option<Handle<DiagnosticFilterNodeTag>>,
     pub doc_comments: DocComments,
 }

@@ -1,7 +1,8 @@
-//! What an expression is worked out from, and what else it names.
+//! The operands of an expression, and what else it names.
 
 ghost use Rattle.std.specs.Prelude.{◌≡◌, [], ◌++◌, IfNone, option_to_list};
-ghost use Rattle.naga_ir.specs.Operands.{ReadsNoImage, listed, present};
+ghost use Rattle.naga_ir.specs.Operands.{present};
+ghost use Rattle.naga_ir.specs.steps.OperandForms.{ReadsNoImage, listed};
 ghost use Rattle.naga_ir.specs.References as spec;
 
 use crate::expression::{Expression, ImageQuery, SampleLevel};
@@ -14,7 +15,7 @@ use std::marker::Model;
 #[derive(Drop)]
 struct Fields {
     operands: [Option<Handle<ExpressionTag>>; 8],
-    /// The place of the first that is left.
+    /// The index of the first that is left.
     next: usize,
 }
 
@@ -28,7 +29,7 @@ impl Model for Fields {
 }
 
 impl Fields {
-    /// The next operand that is there.
+    /// The next operand, without the fields that have none.
     fn next(&mut self) -> Option<Handle<ExpressionTag>>
         ensures operand { self.old ≡ option_to_list result ++ self.new }
         ensures end { IfNone result (self.old ≡ []) }
@@ -111,7 +112,7 @@ fn both(
 }
 
 impl Expression {
-    /// The expressions that this one is worked out from.
+    /// The expressions that this one is computed from, in the order of its fields.
     pub fn operands(&self) -> Operands<'_>
         ensures { result ≡ spec.operands self.now }
     {

@@ -7,7 +7,7 @@ use naga_arena::tags::{
     LocalVariableTag, OverrideTag, TypeTag,
 };
 
-/// What a type, an expression, a statement or another item refers to. It need not be there.
+/// What a type, an expression, a statement or another item refers to. It may be dangling.
 #[derive(Clone, Copy, Debug, PartialEq, Eq)]
 pub enum Reference {
     /// A type of the module.
@@ -18,7 +18,7 @@ pub enum Reference {
     Override(Handle<OverrideTag>),
     /// A variable of the module.
     GlobalVariable(Handle<GlobalVariableTag>),
-    /// An expression: of the same function, or a global one where there is no function around.
+    /// An expression: of the same function, or outside of functions a global one.
     Expression(Handle<ExpressionTag>),
     /// A variable of the same function.
     LocalVariable(Handle<LocalVariableTag>),

@@ -1,4 +1,4 @@
-//! Statements, which stand in blocks and have blocks in them.
+//! Statements, and the blocks that they form and contain.
 
 ghost use Rattle.std.specs.Prelude.{◌≡◌, [], ◌∷◌, ◌++◌, OnErr, OnOk};
 
@@ -9,7 +9,7 @@ use naga_arena::range::Range;
 use naga_arena::tags::{ExpressionTag, FunctionTag};
 use std::alloc::Global;
 
-/// Statements that are run one after another.
+/// Statements that are executed in order.
 #[derive(Debug, Drop)]
 #[cycle(statement)]
 pub struct Block {
@@ -26,8 +26,11 @@ impl Block {
         }
     }
 
-    /// Adds a statement at the end. Refused memory leaves the block as it was, and drops the
-    /// statement.
+    /// Adds a statement at the end.
+    ///
+    /// # Errors
+    ///
+    /// `OutOfMemory` if memory was refused, which leaves the block as it was and drops the statement.
     pub fn push(&mut self, statement: Statement) -> Result<(), OutOfMemory>
         ensures pushed { OnOk result (self.new.body.items ≡ self.old.body.items ++ statement ∷ []) }
         ensures refused { OnErr result (self.new.body.items ≡ self.old.body.items) }
@@ -37,12 +40,12 @@ impl Block {
     }
 }
 
-/// One of the ways that a `switch` may go.
+/// A case of a `switch`.
 #[derive(Debug, Drop)]
 #[cycle(statement)]
 pub struct SwitchCase {
     pub body: Block,
-    /// Whether the next case is run after this one.
+    /// Whether the next case is executed after this one.
     pub fall_through: bool,
 }
 
@@ -56,38 +59,39 @@ pub enum AtomicFunction {
     InclusiveOr,
     Min,
     Max,
-    /// Puts the value there: always, or only where `compare` stood there.
+    /// Replaces the value: always, or only if it equals `compare`.
     Exchange {
         compare: Option<Handle<ExpressionTag>>,
     },
 }
 
-/// What is done with a ray query.
+/// A step of a ray query.
 #[derive(Clone, Copy, Debug, PartialEq, Eq)]
 pub enum RayQueryFunction {
-    /// It is begun.
+    /// Begins it.
     Initialize {
         acceleration_structure: Handle<ExpressionTag>,
         descriptor: Handle<ExpressionTag>,
     },
-    /// It goes on, and says whether it goes on further.
+    /// Proceeds to the next candidate.
     Proceed {
+        /// Whether there was one.
         result: Handle<ExpressionTag>,
     },
-    /// A hit is made up, at this distance.
+    /// Commits a generated hit, at this distance.
     GenerateIntersection {
         hit_t: Handle<ExpressionTag>,
     },
-    /// The candidate counts as a hit.
+    /// Commits the candidate.
     ConfirmIntersection,
-    /// It ends.
+    /// Ends it.
     Terminate,
 }
 
-/// What is done in a ray tracing pipeline.
+/// A step of a ray tracing pipeline.
 #[derive(Clone, Copy, Debug, PartialEq, Eq)]
 pub enum RayPipelineFunction {
-    /// A ray is sent.
+    /// Traces a ray.
     TraceRay {
         acceleration_structure: Handle<ExpressionTag>,
         descriptor: Handle<ExpressionTag>,
@@ -104,11 +108,11 @@ pub enum GatherMode {
     Broadcast(Handle<ExpressionTag>),
     /// For each, the one of this number.
     Shuffle(Handle<ExpressionTag>),
-    /// The one that stands so many further.
+    /// For each, the one whose number is greater by this.
     ShuffleDown(Handle<ExpressionTag>),
-    /// The one that stands so many before.
+    /// For each, the one whose number is less by this.
     ShuffleUp(Handle<ExpressionTag>),
-    /// The one whose number differs in these bits.
+    /// For each, the one whose number differs in these bits.
     ShuffleXor(Handle<ExpressionTag>),
     /// The one of this number in the quad.
     QuadBroadcast(Handle<ExpressionTag>),
@@ -130,11 +134,11 @@ pub enum SubgroupOperation {
     Xor,
 }
 
-/// A step of a function.
+/// A statement.
 #[derive(Debug, Drop)]
 #[cycle(statement)]
 pub enum Statement {
-    /// The values of these expressions are worked out here.
+    /// Evaluates these expressions.
     Emit(Range<ExpressionTag>),
     /// A block of its own.
     Block(Block),
@@ -149,7 +153,7 @@ pub enum Statement {
         selector: Handle<ExpressionTag>,
         cases: Vec<SwitchCase>,
     },
-    /// Two blocks again and again, until a `Break` or until `break_if` holds after them.
+    /// Two blocks again and again, until a `Break` or until `break_if` is true after them.
     Loop {
         body: Block,
         continuing: Block,
@@ -169,19 +173,19 @@ pub enum Statement {
     ControlBarrier,
     /// Orders accesses to memory.
     MemoryBarrier,
-    /// Puts a value at a place.
+    /// Writes a value to what a pointer points to.
     Store {
         pointer: Handle<ExpressionTag>,
         value: Handle<ExpressionTag>,
     },
-    /// Puts a texel into an image.
+    /// Writes a texel of an image.
     ImageStore {
         image: Handle<ExpressionTag>,
         coordinate: Handle<ExpressionTag>,
         array_index: Option<Handle<ExpressionTag>>,
         value: Handle<ExpressionTag>,
     },
-    /// An atomic operation on a place.
+    /// An atomic operation on what a pointer points to.
     Atomic {
         pointer: Handle<ExpressionTag>,
         fun: AtomicFunction,
@@ -207,7 +211,7 @@ pub enum Statement {
         arguments: List<Handle<ExpressionTag>>,
         result: Option<Handle<ExpressionTag>>,
     },
-    /// Goes on with a ray query.
+    /// A step of a ray query.
     RayQuery {
         query: Handle<ExpressionTag>,
         fun: RayQueryFunction,
@@ -231,10 +235,11 @@ pub enum Statement {
         argument: Handle<ExpressionTag>,
         result: Handle<ExpressionTag>,
     },
-    /// Puts a cooperative matrix into memory.
+    /// Writes a cooperative matrix to memory.
     CooperativeStore {
         target: Handle<ExpressionTag>,
         pointer: Handle<ExpressionTag>,
+        /// From the start of a column or row to that of the next, in elements.
         stride: Handle<ExpressionTag>,
     },
 }

@@ -13,27 +13,31 @@ use naga_arena::text::Text;
 use std::fmt::{Debug, Display};
 use std::process::Abort;
 
-/// Makes sure that a value is as wanted. Each `assert_eq!` in a test is proved anew, text and all; this one
+/// Checks that a value is as wanted. Each `assert_eq!` in a test is proved anew, text and all; this one
 /// is proved once.
-pub(crate) fn assert_same<T: Debug + PartialEq>(rt: &impl Abort, of: &str, got: &T, want: &T) {
-    assert!(rt; *got == *want, "{of}: {got:?}, and not {want:?}");
+pub(crate) fn assert_same<T: Debug + PartialEq>(rt: &impl Abort, of: &str, got: &T, expected: &T) {
+    assert!(rt; *got == *expected, "{of}: {got:?}, and not {expected:?}");
 }
 
-/// Makes sure that something holds.
+/// Checks that something holds.
 pub(crate) fn assert_holds(rt: &impl Abort, of: &str, holds: bool) {
     assert!(rt; holds, "{of}");
 }
 
-/// Makes sure that a value is shown as this text.
-pub(crate) fn assert_shown<T: Display>(rt: &(impl AllocGlobal + Abort), value: &T, want: &str) {
+/// Checks that a value is shown as this text.
+pub(crate) fn assert_shown<T: Display>(rt: &(impl AllocGlobal + Abort), value: &T, expected: &str) {
     let shown = format!(in rt.alloc(); "{value}").expect(rt, "memory");
-    assert!(rt; shown.as_str() == want, "{shown}");
+    assert!(rt; shown.as_str() == expected, "{shown}");
 }
 
-/// Makes sure that the debug text of a value is this.
-pub(crate) fn assert_debugged<T: Debug>(rt: &(impl AllocGlobal + Abort), value: &T, want: &str) {
+/// Checks that the debug text of a value is this.
+pub(crate) fn assert_debugged<T: Debug>(
+    rt: &(impl AllocGlobal + Abort),
+    value: &T,
+    expected: &str,
+) {
     let shown = format!(in rt.alloc(); "{value:?}").expect(rt, "memory");
-    assert!(rt; shown.as_str() == want, "{shown}");
+    assert!(rt; shown.as_str() == expected, "{shown}");
 }
 
 /// A text of these bytes.

@@ -1,4 +1,4 @@
--- What an `IndexSet` says of its keys, where `==` decides equality of values.
+-- The keys of an `IndexSet`, if `==` decides equality of values.
 use Rattle.std.proofs.Common.{◌≡◌, ℕ, ◌+◌, ◌<◌, Bool, true, false, cond, not, List, [], ◌∷◌, ◌++◌, length, slice_get, position, nat_lt, is_some, Option, Some, None, Contains, refl, sym, ap, subst, ◌∙◌, true≢false, ◌||◌, if◌then◌else◌, arith}
 use Rattle.std.specs.Cmp.{IsEquivalence}
 use Rattle.std.specs.List.{list_any, position_or_len, IsDistinct}
@@ -19,7 +19,7 @@ use Rattle.naga_ir_types.proofs.SameType.{type_same}
 use Rattle.naga_ir_types.specs.Distinct.{AllDistinct}
 
 module _ {K : Type 0} {eq : K → K → Bool} (laws : IsEquivalence eq) where
-  -- an item stands where the first item equal to it stands
+  -- the index of an item is that of the first item equal to it
   pub place_is : (ks : List K) (i : ℕ) (k : K) → IsDistinct eq ks → slice_get ks i ≡ Some k → position_or_len (eq k) ks ≡ i
   place_is ks i k unique at =
       let here : get_or ks i k ≡ k = get_or_from_slice_get ks i k k at in
@@ -79,7 +79,7 @@ module _ (ks : List «Type») (t : «Type») where
   pub kept : (i : ℕ) → slice_get ks i ≡ Some t → insert_key types.ghosts.eq ks t ≡ ks
   kept i at = insert_key-present types.ghosts.eq ks t (listed i at)
 
-  -- where b says that t was new
+  -- if b, t was new
   module _ (b : Bool) (is : b ≡ not (list_any (types.ghosts.eq t) ks)) where
     pub new_key : b ≡ true → list_any (types.ghosts.eq t) ks ≡ false
     new_key h = not_true _ (sym is ∙ h)

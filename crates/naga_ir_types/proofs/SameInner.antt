@@ -62,7 +62,7 @@ dimension_same a b h = search rules
 class_same : (a b : ImageClass) → of_class.ghosts.eq a b ≡ true → a ≡ b
 class_same a b h = search rules
 
--- two numbers above 0 are the same where their values are
+-- two numbers above 0 are equal if their values are
 pub non_zero_same : (a b : NonZeroU32) → a.value ≡ b.value → a ≡ b
 non_zero_same a b p = λ j. record { value = p j; ok = is_prop→PathP (λ j. 0 < p j) (λ j. le_prop) a.ok b.ok j }
 
@@ -146,6 +146,6 @@ inner_same (RayQuery v) (RayQuery w) h = search rules
 inner_same (BindingArray base size) (BindingArray base' size') h = binding_array base base' size size' h
 inner_same _ _ h = cc
 
--- `==` of two forms says whether they are equal
+-- `==` of two forms decides whether they are equal
 pub inner_decides : (a b : TypeInner) → Decides (ghosts.eq a b) (a ≡ b)
 inner_decides a b = (inner_same a b, λ e. subst (λ (x : TypeInner). ghosts.eq a x ≡ true) e (inner_laws.laws-law.refl a))

@@ -31,10 +31,11 @@ impl Alignment {
     /// One byte: any place will do.
     pub const ONE: Alignment = Alignment { bytes: 1 };
 
-    /// 16 bytes, the least alignment of an array or a struct in the uniform address space (WGSL).
+    /// 16 bytes, the least alignment of an array or a struct in the uniform address space (WGSL, "Address Space
+    /// Layout Constraints").
     pub const MIN_UNIFORM: Alignment = Alignment { bytes: 16 };
 
-    /// The alignment of `bytes`, where that is a power of two.
+    /// The alignment of `bytes`, if that is a power of two.
     pub fn new(bytes: u32) -> Option<Alignment>
         ensures power { is_some result ≡ is_power_of_two bytes }
         ensures value { IfSome result (λ a. a ≡ bytes) }
@@ -64,14 +65,14 @@ impl Alignment {
         self.bytes
     }
 
-    /// Whether `n` bytes are a multiple.
+    /// Whether `n` bytes are a multiple of the alignment.
     pub fn is_aligned(self, n: u32) -> bool
         ensures { IsTrue result ↔ (n % self ≡ 0) }
     {
         n % self.bytes == 0
     }
 
-    /// The least multiple that is `n` bytes or more. It may pass the greatest `u32`.
+    /// The least multiple of the alignment that is `n` bytes or more. It may exceed `u32::MAX`.
     pub fn round_up(self, n: u32) -> u64
         ensures multiple { result % self ≡ 0 }
         ensures not_below { n ≤ result }
@@ -87,7 +88,7 @@ impl From<VectorSize> for Alignment {
 
     ghost from_gives = { λ size a. a ≡ vector_alignment size };
 
-    /// How many components a vector of `size` is aligned to (WGSL).
+    /// How many components a vector of `size` is aligned to (WGSL, "Alignment and Size").
     fn from(size: VectorSize) -> Alignment {
         match size {
             VectorSize::Bi => Alignment { bytes: 2 },

@@ -1,4 +1,4 @@
-//! The types of a shader module, and the arena in which each stands once.
+//! The types of a shader module, and the arena in which no two are equal.
 //!
 //! Contracts see the arena as the list of its types.
 #![tactic(auto)]

@@ -53,8 +53,8 @@ fn pending(size: ArraySize) -> Option<Handle<OverrideTag>>
 }
 
 impl TypeInner {
-    /// The types that this one is made of: what stands at a pointer, the elements of an array, or the
-    /// members of a struct.
+    /// The types that this one is made of: that of a pointer's target, of an array's elements, or of
+    /// each member of a struct.
     #[tactic(auto, unfolding(crate::specs::Parts::parts))]
     pub fn parts(&self) -> Parts<'_>
         ensures { result ≡ spec.parts self.now }
@@ -70,21 +70,41 @@ impl TypeInner {
                 base: None,
                 members: members.as_slice(),
             },
-            _ => Parts {
+            TypeInner::Scalar(_)
+            | TypeInner::Vector { .. }
+            | TypeInner::Matrix { .. }
+            | TypeInner::CooperativeMatrix { .. }
+            | TypeInner::Atomic(_)
+            | TypeInner::ValuePointer { .. }
+            | TypeInner::Image { .. }
+            | TypeInner::Sampler { .. }
+            | TypeInner::AccelerationStructure { .. }
+            | TypeInner::RayQuery { .. } => Parts {
                 base: None,
                 members: &[],
             },
         }
     }
 
-    /// The override that says how many elements there are, where one does.
+    /// The override that gives the number of elements, if one does.
     #[tactic(auto, unfolding(crate::specs::Parts::size_override))]
     pub fn size_override(&self) -> Option<Handle<OverrideTag>>
         ensures { result ≡ spec.size_override self.now }
     {
         match *self {
             TypeInner::Array { size, .. } | TypeInner::BindingArray { size, .. } => pending(size),
-            _ => None,
+            TypeInner::Scalar(_)
+            | TypeInner::Vector { .. }
+            | TypeInner::Matrix { .. }
+            | TypeInner::CooperativeMatrix { .. }
+            | TypeInner::Atomic(_)
+            | TypeInner::Pointer { .. }
+            | TypeInner::ValuePointer { .. }
+            | TypeInner::Struct { .. }
+            | TypeInner::Image { .. }
+            | TypeInner::Sampler { .. }
+            | TypeInner::AccelerationStructure { .. }
+            | TypeInner::RayQuery { .. } => None,
         }
     }
 }

@@ -11,10 +11,10 @@ use naga_arena::tags::{OverrideTag, TypeTag};
 use naga_arena::text::Text;
 use std::num::NonZeroU32;
 
-/// The width of a Boolean scalar, in bytes.
+/// The width of a Boolean scalar, in bytes (naga).
 pub const BOOL_WIDTH: u8 = 1;
 
-/// The width of an abstract scalar, in bytes.
+/// The width of an abstract scalar, in bytes (naga).
 pub const ABSTRACT_WIDTH: u8 = 8;
 
 /// What the bits of a scalar mean.
@@ -53,6 +53,7 @@ impl ScalarKind {
 /// A scalar type.
 #[derive(Clone, Copy, Debug, PartialEq, Eq, Hash)]
 pub struct Scalar {
+    /// What the bits mean.
     pub kind: ScalarKind,
     /// The size of a value, in bytes.
     pub width: u8,
@@ -184,7 +185,7 @@ impl CooperativeSize {
     }
 }
 
-/// What a cooperative matrix stands for in a multiplication `a * b + c`.
+/// Which operand of a multiplication `a * b + c` a cooperative matrix may be.
 #[derive(Clone, Copy, Debug, PartialEq, Eq, Hash)]
 pub enum CooperativeRole {
     /// The left factor.
@@ -200,7 +201,7 @@ pub enum CooperativeRole {
 pub enum ArraySize {
     /// That many.
     Constant(NonZeroU32),
-    /// As many as an override says when a pipeline is made.
+    /// As many as the value of an override, which is given when a pipeline is made.
     Pending(Handle<OverrideTag>),
     /// As many as the buffer has room for.
     Dynamic,
@@ -213,8 +214,9 @@ pub enum Binding {
     BuiltIn(u32),
     /// A value that the stage before or after gives or takes.
     Location {
+        /// The number of the location.
         location: u32,
-        /// Which of two sources of blending an output is, where there are two.
+        /// Which of two sources of blending an output is, if there are two: 0 or 1.
         blend_src: Option<u32>,
     },
 }
@@ -224,6 +226,7 @@ pub enum Binding {
 pub struct StructMember {
     pub name: Option<Text>,
     pub ty: Handle<TypeTag>,
+    /// Where an input or output of the shader comes from or goes to.
     pub binding: Option<Binding>,
     /// The place of the first byte from the start of the struct, in bytes.
     pub offset: u32,
@@ -231,6 +234,10 @@ pub struct StructMember {
 
 impl StructMember {
     /// An equal member, in memory of its own.
+    ///
+    /// # Errors
+    ///
+    /// `OutOfMemory` if memory was refused for its name.
     pub fn try_clone(&self) -> Result<StructMember, OutOfMemory>
         ensures { IfOk result (λ copy. copy ≡ self.now) }
     {
@@ -254,8 +261,11 @@ pub enum ImageDimension {
 /// What a storage image may be used for.
 #[derive(Clone, Copy, Debug, PartialEq, Eq, Hash)]
 pub struct StorageAccess {
+    /// Values may be read.
     pub load: bool,
+    /// Values may be written.
     pub store: bool,
+    /// Atomic operations may change values.
     pub atomic: bool,
 }
 
@@ -268,6 +278,7 @@ pub struct StorageFormat(pub u32);
 pub enum ImageClass {
     /// Values that a sampler reads.
     Sampled {
+        /// The kind of the components.
         kind: ScalarKind,
         /// Whether there are several samples of each.
         multi: bool,
@@ -308,7 +319,7 @@ impl ImageClass {
     }
 }
 
-/// Where a variable is kept.
+/// Where a variable is kept (WGSL, "Address Spaces").
 #[derive(Clone, Copy, Debug, PartialEq, Eq, Hash)]
 pub enum AddressSpace {
     /// In a function.
@@ -340,52 +351,72 @@ pub enum TypeInner {
     Scalar(Scalar),
     /// Scalars of one type, by their components.
     Vector {
+        /// The number of components.
         size: VectorSize,
+        /// The type of a component.
         scalar: Scalar,
     },
     /// Scalars of one type, in columns and rows.
     Matrix {
+        /// The number of columns.
         columns: VectorSize,
+        /// The number of rows: the components of a column.
         rows: VectorSize,
+        /// The type of a component.
         scalar: Scalar,
     },
     /// A matrix that the invocations of a subgroup hold together.
     CooperativeMatrix {
+        /// The number of columns.
         columns: CooperativeSize,
+        /// The number of rows.
         rows: CooperativeSize,
+        /// The type of a component.
         scalar: Scalar,
+        /// Which operand of a multiplication it may be.
         role: CooperativeRole,
     },
     /// A scalar that invocations change one after another.
     Atomic(Scalar),
     /// A place that holds a value of another type.
     Pointer {
+        /// The type of the value.
         base: Handle<TypeTag>,
+        /// Where the value is kept.
         space: AddressSpace,
     },
-    /// A place that holds a scalar, or a vector where there is a size.
+    /// A place that holds a scalar, or a vector if there is a size.
     ValuePointer {
+        /// The number of components of the vector, if it holds one.
         size: Option<VectorSize>,
+        /// The type of the scalar, or of a component.
         scalar: Scalar,
+        /// Where the value is kept.
         space: AddressSpace,
     },
     /// Values of one type, one after another.
     Array {
+        /// The type of an element.
         base: Handle<TypeTag>,
+        /// The number of elements.
         size: ArraySize,
         /// From the start of an element to that of the next, in bytes.
         stride: u32,
     },
-    /// Members, each with a type and a place.
+    /// Members, each with a type and an offset.
     Struct {
+        /// The members, in the order of their declaration.
         members: List<StructMember>,
-        /// The size, in bytes.
+        /// The size, in bytes, with the padding at the end.
         span: u32,
     },
     /// An image.
     Image {
+        /// The number of coordinates.
         dim: ImageDimension,
+        /// Whether it has several layers.
         arrayed: bool,
+        /// What it holds.
         class: ImageClass,
     },
     /// How an image is sampled.
@@ -405,13 +436,19 @@ pub enum TypeInner {
     },
     /// Bindings of one type under one number.
     BindingArray {
+        /// The type of a binding.
         base: Handle<TypeTag>,
+        /// The number of bindings.
         size: ArraySize,
     },
 }
 
 impl TypeInner {
     /// An equal form, in memory of its own. Only a struct takes any.
+    ///
+    /// # Errors
+    ///
+    /// `OutOfMemory` if memory was refused.
     pub fn try_clone(&self) -> Result<TypeInner, OutOfMemory>
         ensures copy { IfOk result (λ copy. copy ≡ self.now) }
         ensures no_struct { IsNoStruct self.now → IsOk result }
@@ -429,30 +466,57 @@ impl TypeInner {
             | TypeInner::Vector { scalar, .. }
             | TypeInner::Matrix { scalar, .. }
             | TypeInner::CooperativeMatrix { scalar, .. } => Some(scalar),
-            _ => None,
+            TypeInner::Atomic(_)
+            | TypeInner::Pointer { .. }
+            | TypeInner::ValuePointer { .. }
+            | TypeInner::Array { .. }
+            | TypeInner::Struct { .. }
+            | TypeInner::Image { .. }
+            | TypeInner::Sampler { .. }
+            | TypeInner::AccelerationStructure { .. }
+            | TypeInner::RayQuery { .. }
+            | TypeInner::BindingArray { .. } => None,
         }
     }
 
-    /// The type of what stands at a pointer, where that type has a handle.
+    /// The type that a pointer points to, if that type has a handle: of a `Pointer`, not of a
+    /// `ValuePointer`.
     pub fn pointer_base_type(&self) -> Option<Handle<TypeTag>>
         ensures { result ≡ pointer_base self.now }
     {
         match *self {
             TypeInner::Pointer { base, .. } => Some(base),
-            _ => None,
+            TypeInner::Scalar(_)
+            | TypeInner::Vector { .. }
+            | TypeInner::Matrix { .. }
+            | TypeInner::CooperativeMatrix { .. }
+            | TypeInner::Atomic(_)
+            | TypeInner::ValuePointer { .. }
+            | TypeInner::Array { .. }
+            | TypeInner::Struct { .. }
+            | TypeInner::Image { .. }
+            | TypeInner::Sampler { .. }
+            | TypeInner::AccelerationStructure { .. }
+            | TypeInner::RayQuery { .. }
+            | TypeInner::BindingArray { .. } => None,
         }
     }
 }
 
-/// A type of a module. Two types are equal where name and form are.
+/// A type of a module. Two types are equal if their names and their forms are.
 #[derive(Clone, Debug, PartialEq, Eq, Hash, Drop)]
 pub struct Type {
     pub name: Option<Text>,
+    /// The form.
     pub inner: TypeInner,
 }
 
 impl Type {
     /// An equal type, in memory of its own.
+    ///
+    /// # Errors
+    ///
+    /// `OutOfMemory` if memory was refused.
     pub fn try_clone(&self) -> Result<Type, OutOfMemory>
         ensures { IfOk result (λ copy. copy ≡ self.now) }
     {

@@ -1,4 +1,4 @@
-//! The arena of types, in which each type stands once.
+//! The arena of types, in which no two are equal.
 
 ghost use Rattle.std.specs.Prelude.{◌≡◌, ◌==◌, ℕ, ◌<◌, ◌≤◌, [], ◌∷◌, ◌++◌, length, IsOk, IfOk, OnOk, OnErr, IfSome, IsSome, Contains, ◌↔◌, Some, slice_get, codes, IfErr};
 ghost use Rattle.naga_arena.specs.Existence.{IsGoodRange};
@@ -18,10 +18,11 @@ use std::fmt;
 use std::marker::Model;
 use std::ops::Index;
 
-/// Types, each once, in the order in which they came, each with its place in the source. Contracts
-/// see the list of the types.
+/// Types, of which no two are equal, in the order in which they were added, each with its span in the
+/// source. Contracts see the list of the types.
 ///
-/// An insertion hashes the type and scans nothing, so a module's types cost as much as they are many.
+/// An insertion hashes the type, so the expected cost of a module's types is linear in their size. The
+/// hasher has a fixed seed, as naga's has: types that were chosen to collide cost up to the square.
 #[derive(Drop)]
 pub struct UniqueArena {
     set: IndexSet<Type>,
@@ -50,7 +51,7 @@ impl UniqueArena {
         }
     }
 
-    /// How many types there are.
+    /// The number of types.
     pub fn len(&self) -> usize
         ensures value { result ≡ length self.now }
         ensures bound { result ≤ 4294967295 }
@@ -74,7 +75,7 @@ impl UniqueArena {
         self.set.as_slice()
     }
 
-    /// The places of the types that came after the first `old_length` ones.
+    /// The range of the types that were added after the first `old_length` ones.
     pub fn range_from(&self, old_length: usize) -> Range<TypeTag>
         requires { old_length ≤ length self.now }
         ensures start { result.start ≡ old_length }
@@ -99,14 +100,14 @@ impl UniqueArena {
         &self.set.as_slice()[handle.index()]
     }
 
-    /// Where a type stands in the source; the default span where that isn't known.
+    /// The part of the source that a type was made from; the default span if that isn't known.
     pub fn get_span(&self, handle: Handle<TypeTag>) -> Span
         requires { handle < length self.now }
     {
         self.span_info[handle.index()]
     }
 
-    /// The handle of a type, where an equal one stands in the arena.
+    /// The handle of the type of the arena that equals `value`, if there is one.
     pub fn get_handle(&self, value: &Type) -> Option<Handle<TypeTag>>
         ensures place { IfSome result (λ h. slice_get self.now h ≡ Some value.now) }
         ensures found { IsSome result ↔ Contains self.now value.now }
@@ -115,10 +116,12 @@ impl UniqueArena {
         Some(Handle::new(index as u32))
     }
 
-    /// The handle of `value`, which is added with its `span` unless an equal type stands there.
+    /// The handle of `value`, which is added with its `span` unless the arena has an equal type.
     ///
-    /// Refused memory leaves the arena as it was, and drops the type. A type that stands there
-    /// already is never refused.
+    /// # Errors
+    ///
+    /// `OutOfMemory` if memory was refused, which leaves the arena as it was and drops `value`. A type
+    /// that the arena has is never refused.
     pub fn insert(&mut self, value: Type, span: Span) -> Result<Handle<TypeTag>, OutOfMemory>
         requires { length self.old < 4294967295 }
         ensures present { (k : ℕ) → slice_get self.old k ≡ Some value → IsOk result × IfOk result (λ h. h ≡ k) × (self.new ≡ self.old) }
@@ -142,7 +145,11 @@ impl UniqueArena {
 }
 
 impl UniqueArena {
-    /// Whether the arena has a type at a handle's place.
+    /// Whether a handle names a type of the arena.
+    ///
+    /// # Errors
+    ///
+    /// `BadHandle` if its index is the number of types or more.
     pub fn check_contains_handle(&self, handle: Handle<TypeTag>) -> Result<(), BadHandle>
         ensures exists { IsOk result ↔ (handle < length self.now) }
         ensures missing { IfErr result (λ e. e ≡ record { kind = codes "Type"; index = handle }) }
@@ -150,7 +157,11 @@ impl UniqueArena {
         handle.check_valid_for(self.len())
     }
 
-    /// Whether the arena has a type at each place of a range. An empty range is everywhere.
+    /// Whether every handle of a range names a type of the arena. Of an empty range each does, whatever its ends.
+    ///
+    /// # Errors
+    ///
+    /// `BadRangeError` if the range goes back, or ends after the last type.
     pub fn check_contains_range(&self, range: Range<TypeTag>) -> Result<(), BadRangeError>
         ensures good { IsOk result ↔ IsGoodRange (length self.now) range }
         ensures bad { IfErr result (λ e. e ≡ record { kind = codes "Type"; start = range.start; end = range.end }) }

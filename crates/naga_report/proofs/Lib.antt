@@ -1,3 +1,3 @@
-pub mod Reports
-pub mod Runs
-pub mod Writes
+pub mod AppendedBytes
+pub mod ReadBytes
+pub mod TypeLines

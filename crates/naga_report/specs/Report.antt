@@ -10,7 +10,8 @@ use Rattle.naga_types.specs.declared.error.TypeError.TheVariants.{MissingCapabil
 use Rattle.naga_types.specs.declared.info.TypeInfo.{TypeInfo}
 use Rattle.naga_typing.specs.declared.layouter.LayoutErrorInner.{LayoutErrorInner}
 use Rattle.naga_typing.specs.declared.layouter.LayoutErrorInner.TheVariants.{TooLarge, NonPowerOfTwoWidth, OutOfMemory}
-use Rattle.naga_valid.specs.Accepted.{IsAccepted, IsRefusal, Settings}
+use Rattle.naga_valid.specs.Accepted.{IsAccepted, Refuses, Settings}
+use Rattle.naga_valid.specs.State.{Facts}
 use Rattle.naga_valid.specs.declared.error.ValidationError.{ValidationError}
 use Rattle.naga_valid.specs.declared.error.ValidationError.TheVariants.{InvalidHandle, Layouter, Type_, OutOfMemory as NoMemory}
 use Rattle.naga_text.specs.Text.{IsFirstUnreadable, IsText}
@@ -23,7 +24,7 @@ use Rattle.naga_text.specs.declared.text.Contents.{Contents}
 abbrev pub hex_byte : ℕ → List ℕ
 hex_byte n = digit_glyph false (n / 16) ∷ digit_glyph false (n % 16) ∷ []
 
--- the name of what stands against a layout
+-- the name of the reason why a type can't be laid out for an address space
 abbrev pub disalignment_name : Disalignment → List ℕ
 disalignment_name (ArrayStride stride alignment) = codes "ArrayStride"
 disalignment_name (StructSpan span alignment) = codes "StructSpan"
@@ -32,32 +33,32 @@ disalignment_name (MemberOffsetAfterStruct index offset expected) = codes "Membe
 disalignment_name (UnsizedMember index) = codes "UnsizedMember"
 disalignment_name NonHostShareable = codes "NonHostShareable"
 
--- a layout's alignment, or the name of what stands against it
+-- the alignment of a layout in bytes, or the name of the reason why there is none
 abbrev pub layout_text : Result ℕ (ℕ × Disalignment) → List ℕ
 layout_text (Ok alignment) = decimal alignment
 layout_text (Err e) = disalignment_name e.1
 
--- the line of an accepted type: its number, its flags, and its layouts
+-- the line of an accepted type: its index, its flags, and its layouts in the uniform and the storage space
 abbrev pub type_line : ℕ → TypeInfo → List ℕ
 type_line i info =
     codes "T" ++ (decimal i ++ (codes " " ++ (hex_byte info.flags.0 ++ (codes " " ++ (layout_text info.uniform_layout ++ (codes " " ++ (layout_text info.storage_layout ++ codes "\n")))))))
 
--- the lines of types from number i on
+-- the lines of types from index i on
 abbrev pub type_lines : ℕ → List TypeInfo → List ℕ
 type_lines i [] = []
 type_lines i (info ∷ infos) = type_line i info ++ type_lines (i + 1) infos
 
 -- the report on an accepted module
-abbrev pub accepted_text : List TypeInfo → List ℕ
-accepted_text infos = type_lines 0 infos ++ codes "ok\n"
+abbrev pub accepted_text : Facts → List ℕ
+accepted_text facts = type_lines 0 facts.infos ++ codes "ok\n"
 
--- the name of what is wrong with a handle or range
+-- the name of what is wrong with a handle or a range
 abbrev pub handle_error_name : InvalidHandleError → List ℕ
 handle_error_name (BadHandle source) = codes "BadHandle"
 handle_error_name (ForwardDependency source) = codes "ForwardDependency"
 handle_error_name (BadRange source) = codes "BadRange"
 
--- the name of why a type has no layout
+-- the name of the reason why a type has no layout
 abbrev pub layout_error_name : LayoutErrorInner → List ℕ
 layout_error_name TooLarge = codes "TooLarge"
 layout_error_name NonPowerOfTwoWidth = codes "NonPowerOfTwoWidth"
@@ -87,11 +88,11 @@ type_error_name (UnresolvedOverride handle) = codes "UnresolvedOverride"
 type_error_name (InvalidArraySize handle) = codes "InvalidArraySize"
 type_error_name TypeOutOfMemory = codes "OutOfMemory"
 
--- the line of what is refused: its kind and number, and the name of the refusal
+-- the line of a refused type: its kind and index, and the name of the error
 abbrev pub refused_line : List ℕ → ℕ → List ℕ → List ℕ
 refused_line kind number name = codes "refused " ++ (kind ++ (decimal number ++ (codes " " ++ (name ++ codes "\n"))))
 
--- the report where memory was refused while a module was validated
+-- the report if memory was refused while a module was validated
 abbrev pub refused_memory_text : List ℕ
 refused_memory_text = codes "refused memory\n"
 
@@ -102,22 +103,22 @@ refused_text (Layouter e) = refused_line (codes "layout T") e.ty (layout_error_n
 refused_text (Type_ handle name source) = refused_line (codes "type T") handle (type_error_name source)
 refused_text NoMemory = refused_memory_text
 
--- the report on a text that can't be read
+-- the report on a text that can't be read, whose first unreadable line has number n
 abbrev pub unreadable_text : ℕ → List ℕ
 unreadable_text n = codes "line " ++ (decimal n ++ codes " not readable\n")
 
--- what the module of a text is judged by
+-- the settings by which the module of a text is validated
 abbrev pub settings_in : Contents → Settings
 settings_in contents = record { flags = contents.flags; capabilities = contents.capabilities; resolved = contents.resolved }
 
--- what may be reported of contents, and of which kind that is
+-- a text is a report on contents, of this kind
 abbrev pub IsReportOn : Contents → List ℕ → Outcome → Type 0
-IsReportOn contents text Accepted = (infos : List TypeInfo) × IsAccepted contents.«module» (settings_in contents) infos × (text ≡ accepted_text infos)
+IsReportOn contents text Accepted = (facts : Facts) × IsAccepted contents.«module» (settings_in contents) facts × (text ≡ accepted_text facts)
 IsReportOn contents text Refused =
-    (text ≡ refused_memory_text) ⊎ ((e : ValidationError) × IsRefusal contents.«module» (settings_in contents) e × (text ≡ refused_text e))
+    (text ≡ refused_memory_text) ⊎ ((e : ValidationError) × Refuses contents.«module» (settings_in contents) e × (text ≡ refused_text e))
 IsReportOn contents text Unreadable = ⊥
 
--- what may be reported of a text, and of which kind that is
+-- a text is a report on an input, of this kind: on what the input says, or on its first unreadable line
 pub data IsReport (input text : List ℕ) (outcome : Outcome) : Type 0 where
   readable : (contents : Contents) → IsText (lines_of input) contents → IsReportOn contents text outcome → IsReport input text outcome
   unreadable : (n : ℕ) → IsFirstUnreadable (lines_of input) n → text ≡ unreadable_text n → outcome ≡ Unreadable → IsReport input text outcome

@@ -19,7 +19,7 @@ AppendsFront text old new = (n : ℕ) × Appends old new (take n text)
 abbrev pub BeginsReport : List ℕ → Option (List ℕ) → Option (List ℕ) → Type 0
 BeginsReport input old new = (text : List ℕ) × (outcome : Outcome) × IsReport input text outcome × AppendsFront text old new
 
--- what a fault reads as
+-- the message of a fault
 abbrev pub fault_text : RunFault → List ℕ
 fault_text fault.Read = codes "reading failed"
 fault_text fault.Write = codes "writing failed"

@@ -7,24 +7,48 @@ ghost use Rattle.std.specs.Prelude.{◌≡◌, ◌+◌, ◌-◌, ◌^◌, ◌<�
 use std::io;
 use std::io::{Read, Write};
 
-/// A reader or a writer beside the number of its calls that failed.
+/// A reader or a writer, and the number of its calls that failed.
+///
+/// Both fields are private: code that borrows one can neither make up a failure nor hide one, since the
+/// number changes in the calls below alone, by one for each that fails.
 #[derive(Debug, Drop)]
 pub struct Counted<S> {
-    pub inner: S,
-    pub failed: u64,
+    inner: S,
+    /// The number of calls that failed.
+    failed: u64,
 }
 
-impl<S> Counted<S> {
+impl<S: Drop> Counted<S> {
+    /// A reader or a writer, with no failure counted yet.
     pub fn new(inner: S) -> Counted<S>
         ensures inner { result.inner ≡ inner }
         ensures failed { result.failed ≡ 0 }
     {
         Counted { inner, failed: 0 }
     }
+
+    /// The number of calls that failed so far.
+    pub fn failed(&self) -> u64
+        ensures { result ≡ self.now.failed }
+    {
+        self.failed
+    }
+
+    /// The reader or writer itself.
+    pub fn into_inner(self) -> S
+        ensures { result ≡ self.inner }
+    {
+        self.inner
+    }
 }
 
 impl<R: Read> Counted<R> {
-    /// One call of `read`. An interrupted one has failed too.
+    /// One call of `read`, which returns the number of bytes read into `buf`, or 0 at the end. A call
+    /// that was interrupted has failed too.
+    ///
+    /// # Errors
+    ///
+    /// The error of the call, which is counted.
     pub fn read(&mut self, buf: &mut [u8]) -> io::Result<usize>
         requires { self.old.failed < 2 ^ 64 - 1 }
         ensures bound { ReadsAtMost result buf.new }
@@ -41,13 +65,15 @@ impl<R: Read> Counted<R> {
 }
 
 impl<W: Write> Counted<W> {
-    /// One call of `write`: how many bytes it took, or `None` where it failed or took none of them.
+    /// One call of `write` with at least one byte. Returns the number of bytes that it took, or `None` if
+    /// it failed or took none, which is counted.
     pub fn write(&mut self, buf: &[u8]) -> Option<usize>
-        requires { self.old.failed < 2 ^ 64 - 1 }
+        requires some { 0 < length buf.now }
+        requires count { self.old.failed < 2 ^ 64 - 1 }
         ensures bound { IfSome result (λ n. (0 < n) × (n ≤ length buf.now)) }
         ensures bytes { MatchOption result (Keeps (W.contents self.old.inner) (W.contents self.new.inner)) (λ n. Appends (W.contents self.old.inner) (W.contents self.new.inner) (take n buf.now)) }
-        ensures some { OnSome result (self.new.failed ≡ self.old.failed) }
-        ensures none { IfNone result (self.new.failed ≡ self.old.failed + 1) }
+        ensures count { OnSome result (self.new.failed ≡ self.old.failed) }
+        ensures failure { IfNone result (self.new.failed ≡ self.old.failed + 1) }
     {
         match self.inner.write(buf) {
             Ok(n) if n > 0 => Some(n),
@@ -58,7 +84,7 @@ impl<W: Write> Counted<W> {
         }
     }
 
-    /// One call of `flush`: whether it succeeded.
+    /// One call of `flush`. Returns whether it succeeded; a failure is counted.
     pub fn flush(&mut self) -> bool
         requires { self.old.failed < 2 ^ 64 - 1 }
         ensures bytes { Keeps (W.contents self.old.inner) (W.contents self.new.inner) }

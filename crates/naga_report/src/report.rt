@@ -1,8 +1,8 @@
 //! The report on a text.
 
-ghost use Rattle.naga_arena.specs.Memory.{AnsweredOrRefused};
+ghost use Rattle.naga_arena.specs.Memory.{UnlessOutOfMemory};
 ghost use Rattle.naga_arena.specs.Span.{inner_of};
-ghost use Rattle.naga_valid.specs.Accepted.{AcceptsWith, HasNoValues, IsRefusal, settings_of};
+ghost use Rattle.naga_valid.specs.Accepted.{Accepts, HasNoValues, Refuses, settings_of};
 ghost use Rattle.naga_valid.specs.declared.error.ValidationError.TheVariants as error;
 ghost use Rattle.naga_report.specs.Report.{IsReport, IsReportOn, accepted_text, disalignment_name, handle_error_name, hex_byte, layout_error_name, layout_text, refused_text, type_error_name, type_line};
 ghost use Rattle.std.specs.Prelude.{◌≡◌, ◌++◌, IfOk, OnOk, codes, decimal, length, string_bytes};
@@ -15,25 +15,27 @@ use naga_valid::{
 };
 use std::alloc::{AllocError, Global};
 
-/// What became of a text.
+/// What a text was found to be.
 #[derive(Clone, Copy, Debug, PartialEq)]
 pub enum Outcome {
     /// Its module keeps the rules.
     Accepted,
     /// Its module breaks a rule, or memory was refused while it was validated.
     Refused,
-    /// It is no text that can be read.
+    /// The text can't be read.
     Unreadable,
 }
 
-/// A report, and of which kind it is.
+/// A report on a text.
 #[derive(Debug, Drop)]
 pub struct Report {
+    /// The lines of the report, each ended by a line feed.
     pub text: String,
+    /// Which kind of report it is.
     pub outcome: Outcome,
 }
 
-/// The name of what stands against a layout.
+/// The name of the reason why a type can't be laid out for an address space.
 fn disalignment_name(disalignment: Disalignment) -> &'static str
     ensures { result.now ≡ disalignment_name disalignment }
 {
@@ -47,7 +49,7 @@ fn disalignment_name(disalignment: Disalignment) -> &'static str
     }
 }
 
-/// The name of what is wrong with a handle or range.
+/// The name of what is wrong with a handle or a range.
 fn handle_error_name(error: &InvalidHandleError) -> &'static str
     ensures { result.now ≡ handle_error_name error.now }
 {
@@ -58,7 +60,7 @@ fn handle_error_name(error: &InvalidHandleError) -> &'static str
     }
 }
 
-/// The name of why a type has no layout.
+/// The name of the reason why a type has no layout.
 fn layout_error_name(error: LayoutErrorInner) -> &'static str
     ensures { result.now ≡ layout_error_name error }
 {
@@ -69,7 +71,7 @@ fn layout_error_name(error: LayoutErrorInner) -> &'static str
     }
 }
 
-/// The name of why a type is refused.
+/// The name of the rule that a type breaks.
 fn type_error_name(error: &TypeError) -> &'static str
     ensures { result.now ≡ type_error_name error.now }
 {
@@ -98,7 +100,7 @@ fn type_error_name(error: &TypeError) -> &'static str
     }
 }
 
-/// Adds a layout's alignment, or the name of what stands against it.
+/// Adds the alignment of a layout in bytes, or the name of the reason why there is none.
 fn add_layout(text: &mut String, layout: LayoutCompatibility) -> Result<(), AllocError>
     ensures { OnOk result (string_bytes text.new ≡ string_bytes text.old ++ layout_text layout) }
 {
@@ -111,7 +113,7 @@ fn add_layout(text: &mut String, layout: LayoutCompatibility) -> Result<(), Allo
     }
 }
 
-/// Adds a type's number and its flags.
+/// Adds the index of a type and its flags.
 fn add_flags(text: &mut String, handle: Handle<TypeTag>, flags: TypeFlags) -> Result<(), AllocError>
     ensures { OnOk result (string_bytes text.new ≡ string_bytes text.old ++ (codes "T" ++ (decimal handle ++ (codes " " ++ (hex_byte flags.0 ++ codes " "))))) }
 {
@@ -132,10 +134,10 @@ fn add_type(text: &mut String, handle: Handle<TypeTag>, info: TypeInfo) -> Resul
     text.push_str("\n")
 }
 
-/// A line for each type, and then that all is well.
+/// The report on an accepted module: a line for each type, and `ok`.
 fn accepted(alloc: Global, module: &Module, validator: &Validator) -> Result<String, AllocError>
-    requires { length validator.now.infos ≡ length «module».now.types }
-    ensures { IfOk result (λ text. string_bytes text ≡ accepted_text validator.now.infos) }
+    requires { length validator.now.facts.infos ≡ length «module».now.types }
+    ensures { IfOk result (λ text. string_bytes text ≡ accepted_text validator.now.facts) }
 {
     let mut text = String::new(alloc);
     for (handle, _) in module.types.iter() {
@@ -145,7 +147,7 @@ fn accepted(alloc: Global, module: &Module, validator: &Validator) -> Result<Str
     Ok(text)
 }
 
-/// One line, of what is refused.
+/// The report on a refused module: one line with the kind of the error and its name.
 fn refused(alloc: Global, error: &ValidationError) -> Result<String, AllocError>
     ensures { IfOk result (λ text. string_bytes text ≡ refused_text error.now) }
 {
@@ -168,14 +170,15 @@ fn refused(alloc: Global, error: &ValidationError) -> Result<String, AllocError>
     }
 }
 
-/// What the rules say of what a text says.
-fn judge(
+/// Validates the module of a text as the text says.
+fn validate(
     validator: &mut Validator,
     contents: &Contents,
 ) -> Result<ModuleInfo, WithSpan<ValidationError>>
     requires { HasNoValues contents.now.«module» }
-    ensures { AnsweredOrRefused (λ e. inner_of e ≡ error.OutOfMemory) result (AcceptsWith contents.now.«module» (settings_of validator.old contents.now.resolved) validator.new.infos)
-        (λ e. IsRefusal contents.now.«module» (settings_of validator.old contents.now.resolved) (inner_of e)) }
+    ensures { UnlessOutOfMemory (λ e. inner_of e ≡ error.OutOfMemory) result
+        (λ info. Accepts contents.now.«module» (settings_of validator.old contents.now.resolved) validator.new.facts info.lists)
+        (λ e. Refuses contents.now.«module» (settings_of validator.old contents.now.resolved) (inner_of e)) }
 {
     if contents.resolved {
         validator.validate_resolved_overrides(&contents.module)
@@ -184,13 +187,13 @@ fn judge(
     }
 }
 
-/// The report on what a text says.
-fn report_on(alloc: Global, contents: &Contents) -> Result<Report, AllocError>
+/// The report on the module of a readable text.
+fn report_contents(alloc: Global, contents: &Contents) -> Result<Report, AllocError>
     requires { HasNoValues contents.now.«module» }
     ensures { IfOk result (λ report. IsReportOn contents.now (string_bytes report.text) report.outcome) }
 {
     let mut validator = Validator::new(alloc, contents.flags, contents.capabilities);
-    match judge(&mut validator, contents) {
+    match validate(&mut validator, contents) {
         Ok(_) => Ok(Report {
             text: accepted(alloc, &contents.module, &validator)?,
             outcome: Outcome::Accepted,
@@ -202,13 +205,17 @@ fn report_on(alloc: Global, contents: &Contents) -> Result<Report, AllocError>
     }
 }
 
-/// The report on a text. `AllocError` says that memory was refused while the text was read or the
-/// report was made.
-pub fn respond(alloc: Global, input: &[u8]) -> Result<Report, AllocError>
+/// Makes the report on a text.
+///
+/// # Errors
+///
+/// `AllocError` if memory was refused while the text was read or the report was made. Memory that is
+/// refused while the module is validated is reported.
+pub fn make_report(alloc: Global, input: &[u8]) -> Result<Report, AllocError>
     ensures { IfOk result (λ report. IsReport input.now (string_bytes report.text) report.outcome) }
 {
     match read_text(alloc, input) {
-        Ok(contents) => report_on(alloc, &contents),
+        Ok(contents) => report_contents(alloc, &contents),
         Err(TextError::Line(n)) => Ok(Report {
             text: format!(in alloc; "line {n} not readable\n")?,
             outcome: Outcome::Unreadable,

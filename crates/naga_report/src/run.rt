@@ -1,21 +1,22 @@
-//! From what a reader gives to what a writer takes.
+//! From the bytes of a reader to the bytes of a writer.
 
 ghost use Rattle.naga_report.specs.Run.{AppendsFront, BeginsReport, Reports, status_of};
 ghost use Rattle.std.specs.Io.KnownBytes.{Appends, IsAtEnd, Keeps};
 ghost use Rattle.std.specs.Prelude.{◌≡◌, ◌+◌, ◌-◌, ◌^◌, ◌<◌, ◌⊎◌, ℕ, List, ◌++◌, IfErr, IfOk, IfSome, OnOk, IsErrOf};
 
 use crate::counted::Counted;
-use crate::report::{Outcome, respond};
+use crate::report::{Outcome, make_report};
 use std::alloc::Global;
 use std::fmt;
 use std::io::{Read, Write};
 
-/// Why a run gave no whole report.
+/// Why a run wrote no whole report.
 #[derive(Clone, Copy, Debug, PartialEq)]
 pub enum RunFault {
     /// A call of `read` failed. Nothing was written.
     Read,
-    /// A call of `write` or `flush` failed. What was written is a beginning of the report.
+    /// A call of `write` or `flush` failed, or a call of `write` took no byte. What was written is a
+    /// beginning of the report.
     Write,
     /// A request for memory was refused while the text was read or the report was made. Nothing was
     /// written.
@@ -37,13 +38,13 @@ impl fmt::Display for RunFault {
     }
 }
 
-/// All that a reader has.
-fn read_whole<R: Read>(alloc: Global, reader: &mut Counted<R>) -> Result<Vec<u8>, RunFault>
+/// Reads all bytes that a reader has.
+fn read_all<R: Read>(alloc: Global, reader: &mut Counted<R>) -> Result<Vec<u8>, RunFault>
     requires { reader.old.failed < 2 ^ 64 - 1 }
     ensures bytes { IfOk result (λ v. IfSome (R.remaining reader.old.inner) (λ input. v.items ≡ input)) }
     ensures end { OnOk result (IsAtEnd (R.remaining reader.new.inner)) }
     ensures count { OnOk result (reader.new.failed ≡ reader.old.failed) }
-    ensures err { IfErr result (λ e. (e ≡ RunFault.OutOfMemory) ⊎ ((e ≡ RunFault.Read) × (reader.new.failed ≡ reader.old.failed + 1))) }
+    ensures err { IfErr result (λ e. ((e ≡ RunFault.OutOfMemory) × (reader.new.failed ≡ reader.old.failed)) ⊎ ((e ≡ RunFault.Read) × (reader.new.failed ≡ reader.old.failed + 1))) }
 {
     let mut input = Vec::new(alloc);
     let mut buf = [0; 4096];
@@ -60,8 +61,8 @@ fn read_whole<R: Read>(alloc: Global, reader: &mut Counted<R>) -> Result<Vec<u8>
     }
 }
 
-/// Writes a text whole, and flushes.
-fn write_whole<W: Write>(writer: &mut Counted<W>, text: &[u8]) -> Result<(), RunFault>
+/// Writes all bytes of a text, and flushes.
+fn write_all<W: Write>(writer: &mut Counted<W>, text: &[u8]) -> Result<(), RunFault>
     requires { writer.old.failed < 2 ^ 64 - 1 }
     ensures ok { OnOk result (Appends (W.contents writer.old.inner) (W.contents writer.new.inner) text.now) }
     ensures count { OnOk result (writer.new.failed ≡ writer.old.failed) }
@@ -82,7 +83,18 @@ fn write_whole<W: Write>(writer: &mut Counted<W>, text: &[u8]) -> Result<(), Run
     }
 }
 
-/// Reads all there is, and writes the report on it and nothing else.
+/// Reads a text to the end of the reader, and writes the report on it, and nothing else, to the writer.
+///
+/// The text is the line text of `naga_text`; its module is validated by `naga_valid`. The counts of both
+/// arguments are below `u64::MAX`, so that a failure can be counted.
+///
+/// # Errors
+///
+/// - `Read` if a call of `read` failed: the reader's count is one more. Nothing was written.
+/// - `Write` if a call of `write` or `flush` failed, or a `write` took nothing: the writer's count is one
+///   more. What was written is a beginning of the report.
+/// - `OutOfMemory` if a request for memory was refused while the text was read or the report was made. No
+///   call failed, and nothing was written.
 pub fn run<R: Read, W: Write>(
     alloc: Global,
     reader: &mut Counted<R>,
@@ -90,27 +102,29 @@ pub fn run<R: Read, W: Write>(
 ) -> Result<Outcome, RunFault>
     requires reads { reader.old.failed < 2 ^ 64 - 1 }
     requires writes { writer.old.failed < 2 ^ 64 - 1 }
-    // What was written is the report on what was read, and the outcome is its kind.
+    // What was written is a report on what was read, and the outcome is its kind.
     ensures report { IfOk result (λ outcome. IfSome (R.remaining reader.old.inner) (λ input.
         Reports input outcome (W.contents writer.old.inner) (W.contents writer.new.inner))) }
     ensures end { OnOk result (IsAtEnd (R.remaining reader.new.inner)) }
     ensures no_failure { OnOk result ((reader.new.failed ≡ reader.old.failed) × (writer.new.failed ≡ writer.old.failed)) }
-    // Each fault has its cause, and leaves a beginning of the report or nothing.
-    ensures read { IsErrOf result RunFault.Read → reader.new.failed ≡ reader.old.failed + 1 }
-    ensures write { IsErrOf result RunFault.Write → writer.new.failed ≡ writer.old.failed + 1 }
+    // Each fault has its cause, and leaves a beginning of a report or nothing.
+    ensures read { IsErrOf result RunFault.Read → (reader.new.failed ≡ reader.old.failed + 1) × (writer.new.failed ≡ writer.old.failed) }
+    ensures write { IsErrOf result RunFault.Write → (reader.new.failed ≡ reader.old.failed) × (writer.new.failed ≡ writer.old.failed + 1) }
+    ensures memory { IsErrOf result RunFault.OutOfMemory → (reader.new.failed ≡ reader.old.failed) × (writer.new.failed ≡ writer.old.failed) }
     ensures nothing { IsErrOf result RunFault.Read ⊎ IsErrOf result RunFault.OutOfMemory → Keeps (W.contents writer.old.inner) (W.contents writer.new.inner) }
     ensures beginning { IsErrOf result RunFault.Write → IfSome (R.remaining reader.old.inner) (λ input.
         BeginsReport input (W.contents writer.old.inner) (W.contents writer.new.inner)) }
 {
-    let input = read_whole(alloc, reader)?;
-    let Ok(report) = respond(alloc, &input) else {
+    let input = read_all(alloc, reader)?;
+    let Ok(report) = make_report(alloc, &input) else {
         return Err(RunFault::OutOfMemory);
     };
-    write_whole(writer, report.text.as_bytes())?;
+    write_all(writer, report.text.as_bytes())?;
     Ok(report.outcome)
 }
 
-/// The exit status of a run.
+/// The exit status of a run: 0 if the module was accepted, 1 if it was refused, 2 if the text can't be
+/// read, and 3 if the run failed.
 pub fn status(ended: &Result<Outcome, RunFault>) -> u8
     ensures { result ≡ status_of ended.now }
 {

@@ -3,12 +3,13 @@
 use std::fmt::{Debug, Display};
 use std::process::Abort;
 
+mod large;
 mod refused_memory;
 mod run;
 mod valid;
 
-/// Makes sure that a value is as wanted. Each `assert_eq!` is proved where it stands, with its message; this
-/// is proved once.
+/// Makes sure that a value is as wanted. Each `assert_eq!` is proved at its own place, with its message;
+/// this is proved once.
 fn assert_same<T: Debug + PartialEq>(rt: &impl Abort, got: &T, want: &T) {
     assert!(rt; *got == *want, "{got:?}, and not {want:?}");
 }

@@ -1,10 +1,11 @@
-pub mod Chosen
+pub mod EachLaws
 pub mod LineLaws
-pub mod Lists
+pub mod ListLaws
 pub mod MemberLaws
-pub mod Modules
-pub mod NamingLaws
-pub mod Parts
-pub mod Tellings
+pub mod ModuleLaws
+pub mod PartLaws
+pub mod SoFarLaws
+pub mod TableLaws
 pub mod TextLaws
 pub mod TypeLaws
+pub mod WordLaws

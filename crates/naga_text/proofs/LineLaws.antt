@@ -1,50 +1,48 @@
--- What the reader of a line answers is the one line with that form.
-use Rattle.std.proofs.Common.{◌≡◌, ℕ, List, [], ◌∷◌, Some, refl, sym, subst, codes}
+-- The reader of a line returns the one line with that form.
+use Rattle.std.proofs.Common.{◌≡◌, ℕ, List, [], ◌∷◌, Some, refl, subst, codes}
+use Rattle.std.proofs.lemmas.Option.{option_and_then_some, same_Some}
+use Rattle.naga_flags.specs.Bits.{all_capabilities, all_validation_flags}
 use Rattle.naga_text.specs.Words.{number_up_to}
 use Rattle.naga_text.specs.Forms.{IsForm, form}
-use Rattle.naga_text.specs.Reading.{capabilities_of, flags_of, line_of, resolved_of, setting_of, type_line_of, type_of}
+use Rattle.naga_text.specs.Tables.{chosen}
+use Rattle.naga_text.specs.steps.LineForms.{Reader, capabilities_of, flags_of, line_of, line_readers, resolved_of, type_line_of, type_of}
 use Rattle.naga_text.specs.declared.line.Line.{Line}
 use Rattle.naga_text.specs.declared.line.Line.TheVariants.{Flags, Capabilities, Resolved, Type_}
-use Rattle.naga_text.proofs.Chosen.{by_word, map_some, some_same}
-use Rattle.naga_text.proofs.Parts.{by_parts}
+use Rattle.naga_text.proofs.PartLaws.{by_parts}
+use Rattle.naga_text.proofs.TableLaws.{chosen_holds}
 use Rattle.naga_text.proofs.TypeLaws.{type_again, type_found}
 
--- what is read of the words after `flags` has this form
-flags_found : (ws : List (List ℕ)) (line : Line) → flags_of ws ≡ Some line → IsForm (codes "flags" ∷ ws) line
+-- what a reader reads of the words after a keyword has its line's form
+abbrev HasForm : List ℕ → Reader Line → Type 0
+HasForm keyword reader = (ws : List (List ℕ)) (line : Line) → reader ws ≡ Some line → IsForm (keyword ∷ ws) line
+
+flags_found : HasForm (codes "flags") flags_of
 flags_found (n ∷ []) line h =
-    let p = map_some (λ bits. Flags (record { 0 = bits })) (number_up_to 63 n) line h in
-    subst (IsForm (codes "flags" ∷ n ∷ [])) p.2 (refl, (p.1, tt))
+    option_and_then_some _ (number_up_to all_validation_flags n) line h λ bits e h.
+    subst (IsForm (codes "flags" ∷ n ∷ [])) (same_Some (Flags (record { 0 = bits })) line h) (refl, (e, tt))
 flags_found _ line h = cc
 
--- what is read of the words after `caps` has this form
-capabilities_found : (ws : List (List ℕ)) (line : Line) → capabilities_of ws ≡ Some line → IsForm (codes "caps" ∷ ws) line
+capabilities_found : HasForm (codes "caps") capabilities_of
 capabilities_found (n ∷ []) line h =
-    let p = map_some (λ bits. Capabilities (record { 0 = bits })) (number_up_to 17592186044415 n) line h in
-    subst (IsForm (codes "caps" ∷ n ∷ [])) p.2 (refl, (p.1, tt))
+    option_and_then_some _ (number_up_to all_capabilities n) line h λ bits e h.
+    subst (IsForm (codes "caps" ∷ n ∷ [])) (same_Some (Capabilities (record { 0 = bits })) line h) (refl, (e, tt))
 capabilities_found _ line h = cc
 
--- what is read of the words after `resolved` has this form
-resolved_found : (ws : List (List ℕ)) (line : Line) → resolved_of ws ≡ Some line → IsForm (codes "resolved" ∷ ws) line
-resolved_found [] line h = subst (IsForm (codes "resolved" ∷ [])) (some_same Resolved line h) (refl, tt)
+resolved_found : HasForm (codes "resolved") resolved_of
+resolved_found [] line h = subst (IsForm (codes "resolved" ∷ [])) (same_Some Resolved line h) (refl, tt)
 resolved_found _ line h = cc
 
--- what is read of the words after `type` has this form
-type_line_found : (ws : List (List ℕ)) (line : Line) → type_line_of ws ≡ Some line → IsForm (codes "type" ∷ ws) line
-type_line_found ws line h = let p = map_some Type_ (type_of ws) line h in subst (IsForm (codes "type" ∷ ws)) p.2 (refl, type_found ws p.0 p.1)
-
--- what is read of the words after another keyword has this form
-setting_found : (k : List ℕ) (ws : List (List ℕ)) (line : Line) → setting_of k ws ≡ Some line → IsForm (k ∷ ws) line
-setting_found k ws line h =
-    let says = λ (k : List ℕ). IsForm (k ∷ ws) line in
-    by_word k (codes "flags") _ _ line h (λ e p. subst says (sym e) (flags_found ws line p)) (λ h.
-    by_word k (codes "caps") _ _ line h (λ e p. subst says (sym e) (capabilities_found ws line p)) (λ h.
-    by_word k (codes "resolved") _ _ line h (λ e p. subst says (sym e) (resolved_found ws line p)) (λ h. cc)))
+type_line_found : HasForm (codes "type") type_line_of
+type_line_found ws line h =
+    option_and_then_some _ (type_of ws) line h λ inner e h.
+    subst (IsForm (codes "type" ∷ ws)) (same_Some (Type_ inner) line h) (refl, type_found ws inner e)
 
 -- what is read of words is a line of this form
 pub line_found : (ws : List (List ℕ)) (line : Line) → line_of ws ≡ Some line → IsForm ws line
 line_found [] line h = cc
-line_found (k ∷ ws) line h =
-    by_word k (codes "type") _ _ line h (λ e p. subst (λ (k : List ℕ). IsForm (k ∷ ws) line) (sym e) (type_line_found ws line p)) (setting_found k ws line)
+line_found (keyword ∷ ws) line h =
+    option_and_then_some _ (chosen line_readers keyword) line h λ reader e h.
+    chosen_holds HasForm line_readers keyword reader (type_line_found, (flags_found, (capabilities_found, (resolved_found, tt)))) e ws line h
 
 -- words of a line's form are read as that line
 pub line_again : (ws : List (List ℕ)) (line : Line) → IsForm ws line → line_of ws ≡ Some line

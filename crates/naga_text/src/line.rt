@@ -1,13 +1,13 @@
 //! What one line says.
 
 ghost use Rattle.naga_text.specs.Forms.{IsForm};
-ghost use Rattle.naga_text.specs.Reading.{LineAsks, TypeAsks, capabilities_of, flags_of, line_of, resolved_of, setting_of, type_line_of};
+ghost use Rattle.naga_text.specs.steps.LineForms.{capabilities_of, flags_of, line_of, read_by, resolved_of, setting_readers, type_line_of};
 ghost use Rattle.naga_text.specs.declared.line.Line.{Line};
-ghost use Rattle.std.specs.Prelude.{◌≡◌, IfOk, IfSome, OnErr, Some, map};
+ghost use Rattle.std.specs.Prelude.{◌≡◌, IfOk, IfSome, Some, map};
 
 use crate::number::number_up_to;
 use crate::types::type_inner;
-use crate::words::is;
+use crate::words::equals;
 use bitflags::Flags;
 use naga_flags::flags::{Capabilities, ValidationFlags};
 use naga_ir::OutOfMemory;
@@ -23,7 +23,7 @@ pub enum Line {
     Capabilities(Capabilities),
     /// `resolved`: overrides have to have their values.
     Resolved,
-    /// `type ..`: a type without a name.
+    /// `type ..`: a type, which has no name.
     Type_(TypeInner),
 }
 
@@ -54,8 +54,7 @@ fn resolved(words: &[&[u8]]) -> Option<Line>
 }
 
 fn type_line(alloc: Global, words: &[&[u8]]) -> Result<Option<Line>, OutOfMemory>
-    ensures read { IfOk result (λ read. read ≡ type_line_of (map (λ w. w.now) words.now)) }
-    ensures memory { OnErr result (TypeAsks (map (λ w. w.now) words.now)) }
+    ensures { IfOk result (λ read. read ≡ type_line_of (map (λ w. w.now) words.now)) }
 {
     match type_inner(alloc, words)? {
         Some(inner) => Ok(Some(Line::Type_(inner))),
@@ -63,38 +62,36 @@ fn type_line(alloc: Global, words: &[&[u8]]) -> Result<Option<Line>, OutOfMemory
     }
 }
 
-/// Reads by the keyword, any but `type`.
+/// The setting of a keyword and of the words after it.
 fn setting(keyword: &[u8], words: &[&[u8]]) -> Option<Line>
-    ensures { result ≡ setting_of keyword.now (map (λ w. w.now) words.now) }
+    ensures { result ≡ read_by setting_readers keyword.now (map (λ w. w.now) words.now) }
 {
     match keyword {
-        _ if is(keyword, b"flags") => flags(words),
-        _ if is(keyword, b"caps") => capabilities(words),
-        _ if is(keyword, b"resolved") => resolved(words),
+        _ if equals(keyword, b"flags") => flags(words),
+        _ if equals(keyword, b"caps") => capabilities(words),
+        _ if equals(keyword, b"resolved") => resolved(words),
         _ => None,
     }
 }
 
-/// Reads by the keyword, the first word.
+/// The line of a keyword and of the words after it.
 fn keyword(alloc: Global, words: &[&[u8]]) -> Result<Option<Line>, OutOfMemory>
-    ensures read { IfOk result (λ read. read ≡ line_of (map (λ w. w.now) words.now)) }
-    ensures memory { OnErr result (LineAsks (map (λ w. w.now) words.now)) }
+    ensures { IfOk result (λ read. read ≡ line_of (map (λ w. w.now) words.now)) }
 {
     let Some((keyword, rest)) = words.split_first() else {
         return Ok(None);
     };
-    if is(keyword, b"type") {
+    if equals(keyword, b"type") {
         type_line(alloc, rest)
     } else {
         Ok(setting(keyword, rest))
     }
 }
 
-/// The one line that has these words, or that memory was refused.
+/// The line that has these words, if one has.
 pub fn read_line(alloc: Global, words: &[&[u8]]) -> Result<Option<Line>, OutOfMemory>
     ensures found { IfOk result (λ read. IfSome read (λ line. IsForm (map (λ w. w.now) words.now) line)) }
     ensures only { (line : Line) → IsForm (map (λ w. w.now) words.now) line → IfOk result (λ read. read ≡ Some line) }
-    ensures memory { OnErr result (LineAsks (map (λ w. w.now) words.now)) }
 {
     keyword(alloc, words)
 }

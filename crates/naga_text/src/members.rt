@@ -1,8 +1,7 @@
 //! The members of a struct, each in one word.
 
-ghost use Rattle.naga_text.specs.Naming.{bound_member_of, member_in, member_of, members_of};
-ghost use Rattle.naga_text.specs.Reading.{MembersAsk};
-ghost use Rattle.std.specs.Prelude.{◌≡◌, IfOk, OnErr, map};
+ghost use Rattle.naga_text.specs.steps.WordForms.{binding_of, member_in, member_of, read_each};
+ghost use Rattle.std.specs.Prelude.{◌≡◌, IfOk, map};
 
 use crate::number::{handle, number};
 use crate::pieces::pieces;
@@ -11,51 +10,38 @@ use naga_ir::list::List;
 use naga_ir::types::{Binding, StructMember};
 use std::alloc::Global;
 
-fn bound_member(ty: &[u8], offset: &[u8], binding: Option<Binding>) -> Option<StructMember>
-    ensures { result ≡ bound_member_of ty.now offset.now binding }
+/// The binding of the pieces after a member's type and offset: none, or a location, and perhaps a blend
+/// source.
+fn binding(pieces: &[&[u8]]) -> Option<Option<Binding>>
+    ensures { result ≡ binding_of (map (λ piece. piece.now) pieces.now) }
 {
-    Some(StructMember {
-        name: None,
-        ty: handle(ty)?,
-        binding,
-        offset: number(offset)?,
-    })
+    let (location, blend_src) = match pieces {
+        [] => return Some(None),
+        [location] => (number(location)?, None),
+        [location, blend_src] => (number(location)?, Some(number(blend_src)?)),
+        _ => return None,
+    };
+    Some(Some(Binding::Location {
+        location,
+        blend_src,
+    }))
 }
 
 fn member_in(pieces: &[&[u8]]) -> Option<StructMember>
     ensures { result ≡ member_in (map (λ piece. piece.now) pieces.now) }
 {
-    match pieces {
-        [ty, offset] => bound_member(ty, offset, None),
-        [ty, offset, location] => {
-            let location = number(location)?;
-            let blend_src = None;
-            bound_member(
-                ty,
-                offset,
-                Some(Binding::Location {
-                    location,
-                    blend_src,
-                }),
-            )
-        }
-        [ty, offset, location, blend_src] => {
-            let location = number(location)?;
-            let blend_src = Some(number(blend_src)?);
-            bound_member(
-                ty,
-                offset,
-                Some(Binding::Location {
-                    location,
-                    blend_src,
-                }),
-            )
-        }
-        _ => None,
-    }
+    let [ty, offset, rest @ ..] = pieces else {
+        return None;
+    };
+    Some(StructMember {
+        name: None,
+        ty: handle(ty)?,
+        binding: binding(rest)?,
+        offset: number(offset)?,
+    })
 }
 
-/// The member of a word: its type, its offset, and perhaps its location and then its blend source.
+/// The member of a word: its type, its offset and its binding, parted by colons.
 fn member(alloc: Global, word: &[u8]) -> Result<Option<StructMember>, OutOfMemory>
     ensures { IfOk result (λ read. read ≡ member_of word.now) }
 {
@@ -63,10 +49,9 @@ fn member(alloc: Global, word: &[u8]) -> Result<Option<StructMember>, OutOfMemor
     Ok(member_in(&pieces))
 }
 
-/// The members of words, where each word is one.
+/// The members of words, if each is one.
 pub fn members(alloc: Global, words: &[&[u8]]) -> Result<Option<List<StructMember>>, OutOfMemory>
-    ensures read { IfOk result (λ read. read ≡ members_of (map (λ w. w.now) words.now)) }
-    ensures memory { OnErr result (MembersAsk (map (λ w. w.now) words.now)) }
+    ensures { IfOk result (λ read. read ≡ read_each member_of (map (λ w. w.now) words.now)) }
 {
     let mut members = List::new(alloc);
     for word in words {

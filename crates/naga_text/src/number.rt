@@ -1,12 +1,11 @@
 //! Numbers in decimal digits.
 
-ghost use Rattle.naga_text.specs.Naming.{number_of, place_of};
-ghost use Rattle.naga_text.specs.Words.{number_up_to};
+ghost use Rattle.naga_text.specs.Words.{handle_of, number_of, number_up_to};
 ghost use Rattle.std.specs.Prelude.{◌≡◌};
 
 use naga_ir::handle::Handle;
 
-/// The number that a word writes in 1 to 20 digits, where it is at most `most`.
+/// The number that a word writes in 1 to 20 digits, if it is at most `most`.
 pub fn number_up_to(word: &[u8], most: u64) -> Option<u64>
     ensures { result ≡ number_up_to most word.now }
 {
@@ -34,9 +33,9 @@ pub fn number(word: &[u8]) -> Option<u32>
     Some(number_up_to(word, 4_294_967_295)? as u32)
 }
 
-/// A place in an arena.
+/// The handle of an index.
 pub fn handle<K>(word: &[u8]) -> Option<Handle<K>>
-    ensures { result ≡ place_of word.now }
+    ensures { result ≡ handle_of word.now }
 {
     Some(Handle::new(number_up_to(word, 4_294_967_294)? as u32))
 }

@@ -1,13 +1,12 @@
-//! The lines of a text, read into what they say.
+//! The lines of a text, and the module and settings that they say.
 
-ghost use Rattle.naga_text.specs.Results.{NamesLine};
-ghost use Rattle.naga_text.specs.Telling.{AddingAsks, CanJoin, GivenOnce, IsAdded, IsNewType, IsReadOn, Reads, Tells, contents_of};
-ghost use Rattle.naga_text.specs.Text.{IsFirstUnreadable, IsText, speaks};
+ghost use Rattle.naga_arena.specs.Memory.{UnlessOutOfMemory};
+ghost use Rattle.naga_text.specs.Text.{IsFirstUnreadable, IsText, NamesLine, has_content};
 ghost use Rattle.naga_text.specs.Words.{lines_of};
 ghost use Rattle.naga_text.specs.declared.text.Contents.{Contents};
 ghost use Rattle.naga_text.specs.declared.text.TextError.TheVariants as error;
-ghost use Rattle.naga_arena.specs.Memory.{AnsweredOrRefused};
-ghost use Rattle.std.specs.Prelude.{◌≡◌, IfErr, IfOk, IsTrue, None, Ok, OnErr, [], map};
+ghost use Rattle.naga_text.specs.steps.SoFar.{AreRead, IsAdded, IsNewType, IsReadNext, IsSetOnce, ReadSoFar, finished};
+ghost use Rattle.std.specs.Prelude.{◌≡◌, IfErr, IfOk, None, Ok, [], map};
 
 use crate::line::{Line, read_line};
 use crate::pieces::pieces;
@@ -19,20 +18,24 @@ use naga_ir::types::{Type, TypeInner};
 use naga_ir::unique_arena::UniqueArena;
 use std::alloc::{AllocError, Global};
 
-/// What a text says.
+/// What a text says: a module, and how it is validated.
 #[derive(Drop)]
 pub struct Contents {
+    /// The types that the text describes, in its order, without names and with the undefined span. It
+    /// has nothing else.
     pub module: Module,
+    /// Which parts of the module are validated: all, unless a line says otherwise.
     pub flags: ValidationFlags,
+    /// What the module may use: the default, unless a line says otherwise.
     pub capabilities: Capabilities,
-    /// Overrides have to have their values.
+    /// Whether overrides have to have their values.
     pub resolved: bool,
 }
 
 /// Why a text was not read.
 #[derive(Clone, Copy, Debug, PartialEq)]
 pub enum TextError {
-    /// The line of this number, from 1, is the first that can't be read.
+    /// The number, from 1, of the first line that can't be read.
     Line(usize),
     /// A request for memory was refused.
     OutOfMemory,
@@ -54,20 +57,20 @@ impl From<OutOfMemory> for TextError {
     }
 }
 
-/// What the lines so far say: the module, and each setting that was given.
+/// What the lines so far say: the module, and each setting that one of them sets.
 #[derive(Drop)]
-struct Told {
+struct ContentsSoFar {
     module: Module,
     flags: Option<ValidationFlags>,
     capabilities: Option<Capabilities>,
     resolved: Option<bool>,
 }
 
-impl Told {
-    fn new(alloc: Global) -> Told
-        ensures { Tells [] result }
+impl ContentsSoFar {
+    fn new(alloc: Global) -> ContentsSoFar
+        ensures { ReadSoFar [] result }
     {
-        Told {
+        ContentsSoFar {
             module: Module::new(alloc),
             flags: None,
             capabilities: None,
@@ -75,9 +78,9 @@ impl Told {
         }
     }
 
-    /// A setting that was not given has its default.
-    fn contents(self) -> Contents
-        ensures { result ≡ contents_of self }
+    /// The contents, with the default of each setting that was not set.
+    fn finish(self) -> Contents
+        ensures { result ≡ finished self }
     {
         Contents {
             module: self.module,
@@ -88,9 +91,9 @@ impl Told {
     }
 }
 
-/// Gives a setting its value, and answers whether it had none yet.
-fn give<T: Copy>(setting: &mut Option<T>, value: T) -> bool
-    ensures { GivenOnce setting.old value setting.new result }
+/// Gives a setting its value, and returns whether it had none yet.
+fn set_once<T: Copy>(setting: &mut Option<T>, value: T) -> bool
+    ensures { IsSetOnce setting.old value setting.new result }
 {
     if setting.is_some() {
         return false;
@@ -99,11 +102,9 @@ fn give<T: Copy>(setting: &mut Option<T>, value: T) -> bool
     true
 }
 
-/// Adds a type, and answers whether it is new and had room. Memory is asked for such a type alone.
+/// Adds a type, and returns whether it is new and had room.
 fn add_type(types: &mut UniqueArena, inner: TypeInner) -> Result<bool, OutOfMemory>
-    ensures new { IfOk result (IsNewType types.old inner types.new) }
-    ensures memory { OnErr result (CanJoin types.old (record { name = None; inner = inner })) }
-    ensures refused { OnErr result (types.new ≡ types.old) }
+    ensures { IfOk result (IsNewType types.old inner types.new) }
 {
     let count = types.len();
     if count == 4_294_967_295 {
@@ -113,22 +114,21 @@ fn add_type(types: &mut UniqueArena, inner: TypeInner) -> Result<bool, OutOfMemo
     Ok(handle.index() == count)
 }
 
-/// Adds what a line says, and answers whether a line may say it here.
-fn add(told: &mut Told, line: Line) -> Result<bool, OutOfMemory>
-    ensures added { IfOk result (IsAdded told.old line told.new) }
-    ensures memory { OnErr result (AddingAsks told.old line) }
+/// Adds what a line says, and returns whether it can stand after the lines before it.
+fn add(so_far: &mut ContentsSoFar, line: Line) -> Result<bool, OutOfMemory>
+    ensures { IfOk result (IsAdded so_far.old line so_far.new) }
 {
     match line {
-        Line::Flags(flags) => Ok(give(&mut told.flags, flags)),
-        Line::Capabilities(capabilities) => Ok(give(&mut told.capabilities, capabilities)),
-        Line::Resolved => Ok(give(&mut told.resolved, true)),
-        Line::Type_(inner) => add_type(&mut told.module.types, inner),
+        Line::Flags(flags) => Ok(set_once(&mut so_far.flags, flags)),
+        Line::Capabilities(capabilities) => Ok(set_once(&mut so_far.capabilities, capabilities)),
+        Line::Resolved => Ok(set_once(&mut so_far.resolved, true)),
+        Line::Type_(inner) => add_type(&mut so_far.module.types, inner),
     }
 }
 
 /// Whether a line is neither empty nor a comment.
-fn speaks(line: &[u8]) -> bool
-    ensures { result ≡ speaks line.now }
+fn has_content(line: &[u8]) -> bool
+    ensures { result ≡ has_content line.now }
 {
     match line {
         [] | [b'#', ..] => false,
@@ -136,49 +136,49 @@ fn speaks(line: &[u8]) -> bool
     }
 }
 
-/// Reads one line more, and answers whether it could be read.
-fn read_on(alloc: Global, told: &mut Told, line: &[u8]) -> Result<bool, OutOfMemory>
-    ensures read { IfOk result (IsReadOn told.old line.now told.new) }
-    ensures memory { OnErr result (IsTrue (speaks line.now)) }
+/// Reads one line more, and returns whether it could be read.
+fn read_next(alloc: Global, so_far: &mut ContentsSoFar, line: &[u8]) -> Result<bool, OutOfMemory>
+    ensures { IfOk result (IsReadNext so_far.old line.now so_far.new) }
 {
-    if !speaks(line) {
+    if !has_content(line) {
         return Ok(true);
     }
     let words = pieces(alloc, line, b' ')?;
     match read_line(alloc, &words)? {
-        Some(line) => add(told, line),
+        Some(line) => add(so_far, line),
         None => Ok(false),
     }
 }
 
 /// Reads line after line.
 fn read_lines(alloc: Global, lines: &[&[u8]]) -> Result<Contents, TextError>
-    ensures { Reads (map (λ line. line.now) lines.now) result }
+    ensures { AreRead (map (λ line. line.now) lines.now) result }
 {
-    let mut told = Told::new(alloc);
+    let mut so_far = ContentsSoFar::new(alloc);
     for (i, line) in lines.iter().enumerate() {
-        if !read_on(alloc, &mut told, line)? {
+        if !read_next(alloc, &mut so_far, line)? {
             return Err(TextError::Line(i + 1));
         }
     }
-    Ok(told.contents())
+    Ok(so_far.finish())
 }
 
-/// What a text says.
+/// Reads what a text says.
 ///
 /// A line is empty, or a comment that begins with `#`, or has one of the forms of [`Line`], its words
-/// parted by single spaces. A setting is given once at most, and each type once.
+/// parted by single spaces. Each setting is set once at most, and each type described once.
 ///
 /// # Errors
 ///
-/// `Line` of the first line that has no form, gives a setting again, or gives a type that stands
-/// already or has no room. `OutOfMemory` where a request for memory was refused.
+/// - `Line` of the first line that has no form, sets a setting again, or describes a type that the lines
+///   before it describe already, or for which the arena has no room.
+/// - `OutOfMemory` if a request for memory was refused.
 pub fn read_text(alloc: Global, text: &[u8]) -> Result<Contents, TextError>
     // What is read is what the text says, and a line that is named is the first that can't be read.
-    ensures answer { AnsweredOrRefused (λ e. e ≡ TextError.OutOfMemory) result (IsText (lines_of text.now)) (λ e. NamesLine e (IsFirstUnreadable (lines_of text.now))) }
+    ensures text { UnlessOutOfMemory (λ e. e ≡ TextError.OutOfMemory) result (IsText (lines_of text.now)) (λ e. NamesLine e (IsFirstUnreadable (lines_of text.now))) }
     // What the text says is read.
     ensures only { (contents : Contents) → IsText (lines_of text.now) contents →
-        AnsweredOrRefused (λ e. e ≡ TextError.OutOfMemory) result (λ read. read ≡ contents) (λ _. ⊥) }
+        UnlessOutOfMemory (λ e. e ≡ TextError.OutOfMemory) result (λ read. read ≡ contents) (λ _. ⊥) }
 {
     let lines = pieces(alloc, text, b'\n')?;
     read_lines(alloc, &lines)

@@ -1,12 +1,12 @@
-//! The forms of types.
+//! The types that words describe, one function a form.
 
-ghost use Rattle.naga_text.specs.Reading.{StructAsks, TypeAsks, acceleration_structure_of, array_of, atomic_of, binding_array_of, cooperative_matrix_of, image_of, matrix_of, memberless_of, pointer_of, ray_query_of, sampler_of, scalar_of, scalar_type_of, struct_of, type_of, value_pointer_of, vector_of};
-ghost use Rattle.std.specs.Prelude.{◌≡◌, IfOk, OnErr, map};
+ghost use Rattle.naga_text.specs.steps.LineForms.{acceleration_structure_of, array_of, atomic_of, binding_array_of, cooperative_matrix_of, image_of, matrix_of, memberless_readers, pointer_of, ray_query_of, read_by, sampler_of, scalar_of, scalar_type_of, struct_of, type_of, value_pointer_of, vector_of};
+ghost use Rattle.std.specs.Prelude.{◌≡◌, IfOk, map};
 
 use crate::members::members;
 use crate::number::{handle, number, number_up_to};
 use crate::words::{
-    array_size, class, cooperative_size, dimension, is, kind, pointed_size, role, size, space,
+    array_size, class, cooperative_size, dimension, equals, kind, pointed_size, role, size, space,
     truth,
 };
 use naga_ir::OutOfMemory;
@@ -164,8 +164,7 @@ fn ray_query_type(words: &[&[u8]]) -> Option<TypeInner>
 }
 
 fn struct_type(alloc: Global, words: &[&[u8]]) -> Result<Option<TypeInner>, OutOfMemory>
-    ensures read { IfOk result (λ read. read ≡ struct_of (map (λ w. w.now) words.now)) }
-    ensures memory { OnErr result (StructAsks (map (λ w. w.now) words.now)) }
+    ensures { IfOk result (λ read. read ≡ struct_of (map (λ w. w.now) words.now)) }
 {
     let Some((span, rest)) = words.split_first() else {
         return Ok(None);
@@ -179,37 +178,36 @@ fn struct_type(alloc: Global, words: &[&[u8]]) -> Result<Option<TypeInner>, OutO
     }
 }
 
-/// Reads by the form, any but `struct`.
+/// The type of a form other than `struct`, and of the words after it.
 fn memberless_type(form: &[u8], words: &[&[u8]]) -> Option<TypeInner>
-    ensures { result ≡ memberless_of form.now (map (λ w. w.now) words.now) }
+    ensures { result ≡ read_by memberless_readers form.now (map (λ w. w.now) words.now) }
 {
     match form {
-        _ if is(form, b"scalar") => scalar_type(words),
-        _ if is(form, b"vector") => vector_type(words),
-        _ if is(form, b"matrix") => matrix_type(words),
-        _ if is(form, b"coop") => cooperative_matrix_type(words),
-        _ if is(form, b"atomic") => atomic_type(words),
-        _ if is(form, b"pointer") => pointer_type(words),
-        _ if is(form, b"valuepointer") => value_pointer_type(words),
-        _ if is(form, b"array") => array_type(words),
-        _ if is(form, b"bindingarray") => binding_array_type(words),
-        _ if is(form, b"image") => image_type(words),
-        _ if is(form, b"sampler") => sampler_type(words),
-        _ if is(form, b"accel") => acceleration_structure_type(words),
-        _ if is(form, b"rayquery") => ray_query_type(words),
+        _ if equals(form, b"scalar") => scalar_type(words),
+        _ if equals(form, b"vector") => vector_type(words),
+        _ if equals(form, b"matrix") => matrix_type(words),
+        _ if equals(form, b"coop") => cooperative_matrix_type(words),
+        _ if equals(form, b"atomic") => atomic_type(words),
+        _ if equals(form, b"pointer") => pointer_type(words),
+        _ if equals(form, b"valuepointer") => value_pointer_type(words),
+        _ if equals(form, b"array") => array_type(words),
+        _ if equals(form, b"bindingarray") => binding_array_type(words),
+        _ if equals(form, b"image") => image_type(words),
+        _ if equals(form, b"sampler") => sampler_type(words),
+        _ if equals(form, b"accel") => acceleration_structure_type(words),
+        _ if equals(form, b"rayquery") => ray_query_type(words),
         _ => None,
     }
 }
 
-/// The type of the words after `type`. Only a struct takes memory.
+/// The type of the words after `type`. Only a struct's members take memory.
 pub fn type_inner(alloc: Global, words: &[&[u8]]) -> Result<Option<TypeInner>, OutOfMemory>
-    ensures read { IfOk result (λ read. read ≡ type_of (map (λ w. w.now) words.now)) }
-    ensures memory { OnErr result (TypeAsks (map (λ w. w.now) words.now)) }
+    ensures { IfOk result (λ read. read ≡ type_of (map (λ w. w.now) words.now)) }
 {
     let Some((form, rest)) = words.split_first() else {
         return Ok(None);
     };
-    if is(form, b"struct") {
+    if equals(form, b"struct") {
         struct_type(alloc, rest)
     } else {
         Ok(memberless_type(form, rest))

@@ -1,8 +1,8 @@
-//! Words that choose among a few values.
+//! Words that stand for a few values.
 
-ghost use Rattle.naga_text.specs.Naming.{array_size_of, class_of, cooperative_size_of, count_at, count_of, dimension_of, kind_of, pointed_size_of, role_of, size_at, size_of, space_of, truth_of};
-ghost use Rattle.naga_ir_types.specs.declared.types.ImageClass.TheVariants as of_class;
-ghost use Rattle.std.specs.Prelude.{◌≡◌, Some, bytes_eq};
+ghost use Rattle.naga_text.specs.Tables.{chosen, classes, dimensions, kinds, roles, spaces, truths};
+ghost use Rattle.naga_text.specs.steps.WordForms.{array_size_of, cooperative_size_of, count_at, count_of, pointed_size_of, size_at, size_of};
+ghost use Rattle.std.specs.Prelude.{◌≡◌, bytes_eq, map};
 
 use crate::number::{handle, number, number_up_to};
 use naga_ir::types::{
@@ -11,38 +11,49 @@ use naga_ir::types::{
 };
 use std::num::NonZeroU32;
 
-/// Whether a word is this one. Readers choose by tests and not by patterns, since a long byte string in
-/// a pattern is compared byte by byte, and a proof would have to put the word together again.
-pub fn is(word: &[u8], other: &[u8]) -> bool
+/// Whether a word consists of these bytes. Readers choose by tests and not by patterns, since a long
+/// byte string in a pattern is compared byte by byte, and a proof would have to put the word together
+/// again.
+pub fn equals(word: &[u8], other: &[u8]) -> bool
     ensures { result ≡ bytes_eq word.now other.now }
 {
     word == other
 }
 
-/// The kind of a scalar.
-pub fn kind(word: &[u8]) -> Option<ScalarKind>
-    ensures { result ≡ kind_of word.now }
+/// The value beside a word in a table, if it is there.
+fn chosen<T: Copy>(table: &[(&str, T)], word: &[u8]) -> Option<T>
+    ensures { result ≡ chosen (map (λ row. (row.0.now, row.1)) table.now) word.now }
 {
-    match word {
-        _ if is(word, b"sint") => Some(ScalarKind::Sint),
-        _ if is(word, b"uint") => Some(ScalarKind::Uint),
-        _ if is(word, b"float") => Some(ScalarKind::Float),
-        _ if is(word, b"bool") => Some(ScalarKind::Bool),
-        _ if is(word, b"aint") => Some(ScalarKind::AbstractInt),
-        _ if is(word, b"afloat") => Some(ScalarKind::AbstractFloat),
-        _ => None,
+    for (name, value) in table {
+        if word == name.as_bytes() {
+            return Some(*value);
+        }
     }
+    None
 }
 
-/// `0` or `1`.
-pub fn truth(word: &[u8]) -> Option<bool>
-    ensures { result ≡ truth_of word.now }
+/// The kind of a scalar.
+pub fn kind(word: &[u8]) -> Option<ScalarKind>
+    ensures { result ≡ chosen kinds word.now }
 {
-    match word {
-        _ if is(word, b"0") => Some(false),
-        _ if is(word, b"1") => Some(true),
-        _ => None,
-    }
+    chosen(
+        &[
+            ("sint", ScalarKind::Sint),
+            ("uint", ScalarKind::Uint),
+            ("float", ScalarKind::Float),
+            ("bool", ScalarKind::Bool),
+            ("aint", ScalarKind::AbstractInt),
+            ("afloat", ScalarKind::AbstractFloat),
+        ],
+        word,
+    )
+}
+
+/// A truth value: `0` or `1`.
+pub fn truth(word: &[u8]) -> Option<bool>
+    ensures { result ≡ chosen truths word.now }
+{
+    chosen(&[("0", false), ("1", true)], word)
 }
 
 fn size_at(n: u64) -> Option<VectorSize>
@@ -56,14 +67,14 @@ fn size_at(n: u64) -> Option<VectorSize>
     }
 }
 
-/// How many components a vector has, or a matrix columns or rows.
+/// The number of components of a vector, or of columns or rows of a matrix.
 pub fn size(word: &[u8]) -> Option<VectorSize>
     ensures { result ≡ size_of word.now }
 {
     size_at(number_up_to(word, 4)?)
 }
 
-/// How many components a value pointer has, where 0 is written for a scalar's.
+/// The number of components that a value pointer points to. A scalar is written as `0`.
 pub fn pointed_size(word: &[u8]) -> Option<Option<VectorSize>>
     ensures { result ≡ pointed_size_of word.now }
 {
@@ -73,7 +84,7 @@ pub fn pointed_size(word: &[u8]) -> Option<Option<VectorSize>>
     }
 }
 
-/// How many columns or rows a cooperative matrix has.
+/// The number of columns or rows of a cooperative matrix.
 pub fn cooperative_size(word: &[u8]) -> Option<CooperativeSize>
     ensures { result ≡ cooperative_size_of word.now }
 {
@@ -84,84 +95,91 @@ pub fn cooperative_size(word: &[u8]) -> Option<CooperativeSize>
     }
 }
 
-/// What a cooperative matrix stands for.
+/// Which operand a cooperative matrix is.
 pub fn role(word: &[u8]) -> Option<CooperativeRole>
-    ensures { result ≡ role_of word.now }
+    ensures { result ≡ chosen roles word.now }
 {
-    match word {
-        _ if is(word, b"A") => Some(CooperativeRole::A),
-        _ if is(word, b"B") => Some(CooperativeRole::B),
-        _ if is(word, b"C") => Some(CooperativeRole::C),
-        _ => None,
-    }
+    chosen(
+        &[
+            ("A", CooperativeRole::A),
+            ("B", CooperativeRole::B),
+            ("C", CooperativeRole::C),
+        ],
+        word,
+    )
 }
 
 /// An address space. That of storage can be read and written.
 pub fn space(word: &[u8]) -> Option<AddressSpace>
-    ensures { result ≡ space_of word.now }
+    ensures { result ≡ chosen spaces word.now }
 {
-    match word {
-        _ if is(word, b"function") => Some(AddressSpace::Function),
-        _ if is(word, b"private") => Some(AddressSpace::Private),
-        _ if is(word, b"workgroup") => Some(AddressSpace::WorkGroup),
-        _ if is(word, b"uniform") => Some(AddressSpace::Uniform),
-        _ if is(word, b"storage") => Some(AddressSpace::Storage {
-            access: StorageAccess {
-                load: true,
-                store: true,
-                atomic: false,
-            },
-        }),
-        _ if is(word, b"handle") => Some(AddressSpace::Handle),
-        _ if is(word, b"immediate") => Some(AddressSpace::Immediate),
-        _ if is(word, b"taskpayload") => Some(AddressSpace::TaskPayload),
-        _ if is(word, b"raypayload") => Some(AddressSpace::RayPayload),
-        _ if is(word, b"incomingraypayload") => Some(AddressSpace::IncomingRayPayload),
-        _ => None,
-    }
+    let access = StorageAccess {
+        load: true,
+        store: true,
+        atomic: false,
+    };
+    chosen(
+        &[
+            ("function", AddressSpace::Function),
+            ("private", AddressSpace::Private),
+            ("workgroup", AddressSpace::WorkGroup),
+            ("uniform", AddressSpace::Uniform),
+            ("storage", AddressSpace::Storage { access }),
+            ("handle", AddressSpace::Handle),
+            ("immediate", AddressSpace::Immediate),
+            ("taskpayload", AddressSpace::TaskPayload),
+            ("raypayload", AddressSpace::RayPayload),
+            ("incomingraypayload", AddressSpace::IncomingRayPayload),
+        ],
+        word,
+    )
 }
 
-/// How many coordinates an image has.
+/// The dimension of an image.
 pub fn dimension(word: &[u8]) -> Option<ImageDimension>
-    ensures { result ≡ dimension_of word.now }
+    ensures { result ≡ chosen dimensions word.now }
 {
-    match word {
-        _ if is(word, b"1") => Some(ImageDimension::D1),
-        _ if is(word, b"2") => Some(ImageDimension::D2),
-        _ if is(word, b"3") => Some(ImageDimension::D3),
-        _ if is(word, b"cube") => Some(ImageDimension::Cube),
-        _ => None,
-    }
+    chosen(
+        &[
+            ("1", ImageDimension::D1),
+            ("2", ImageDimension::D2),
+            ("3", ImageDimension::D3),
+            ("cube", ImageDimension::Cube),
+        ],
+        word,
+    )
 }
 
-fn sampled(kind: ScalarKind, multi: bool) -> Option<ImageClass>
-    ensures { result ≡ Some (of_class.Sampled kind multi) }
+/// Sampled values, one or several in each texel.
+fn sampled(kind: ScalarKind, multi: bool) -> ImageClass
+    ensures { result ≡ ImageClass.Sampled kind multi }
 {
-    Some(ImageClass::Sampled { kind, multi })
+    ImageClass::Sampled { kind, multi }
 }
 
-/// What an image holds. A storage image has format 0 and all accesses.
+/// The class of an image. A storage image has format 0 and all accesses.
 pub fn class(word: &[u8]) -> Option<ImageClass>
-    ensures { result ≡ class_of word.now }
+    ensures { result ≡ chosen classes word.now }
 {
-    match word {
-        _ if is(word, b"float") => sampled(ScalarKind::Float, false),
-        _ if is(word, b"floatms") => sampled(ScalarKind::Float, true),
-        _ if is(word, b"sint") => sampled(ScalarKind::Sint, false),
-        _ if is(word, b"uint") => sampled(ScalarKind::Uint, false),
-        _ if is(word, b"depth") => Some(ImageClass::Depth { multi: false }),
-        _ if is(word, b"depthms") => Some(ImageClass::Depth { multi: true }),
-        _ if is(word, b"storage") => Some(ImageClass::Storage {
-            format: StorageFormat(0),
-            access: StorageAccess {
-                load: true,
-                store: true,
-                atomic: true,
-            },
-        }),
-        _ if is(word, b"external") => Some(ImageClass::External),
-        _ => None,
-    }
+    let format = StorageFormat(0);
+    let access = StorageAccess {
+        load: true,
+        store: true,
+        atomic: true,
+    };
+    chosen(
+        &[
+            ("float", sampled(ScalarKind::Float, false)),
+            ("floatms", sampled(ScalarKind::Float, true)),
+            ("sint", sampled(ScalarKind::Sint, false)),
+            ("uint", sampled(ScalarKind::Uint, false)),
+            ("depth", ImageClass::Depth { multi: false }),
+            ("depthms", ImageClass::Depth { multi: true }),
+            ("storage", ImageClass::Storage { format, access }),
+            ("external", ImageClass::External),
+        ],
+        word,
+    )
 }
 
 fn count_at(n: u32) -> Option<NonZeroU32>
@@ -176,12 +194,12 @@ fn count(word: &[u8]) -> Option<NonZeroU32>
     count_at(number(word)?)
 }
 
-/// How many elements an array has: a count, the letter `o` and an override, or `dyn`.
+/// The number of elements of an array: a count, the letter `o` and an override, or `dyn`.
 pub fn array_size(word: &[u8]) -> Option<ArraySize>
     ensures { result ≡ array_size_of word.now }
 {
     match word {
-        _ if is(word, b"dyn") => Some(ArraySize::Dynamic),
+        _ if equals(word, b"dyn") => Some(ArraySize::Dynamic),
         [b'o', digits @ ..] => Some(ArraySize::Pending(handle(digits)?)),
         _ => Some(ArraySize::Constant(count(word)?)),
     }

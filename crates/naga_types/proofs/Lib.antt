@@ -1,4 +1,8 @@
-mod Composing
-mod Firsts
-mod Members
-mod Parts
+pub mod CommonFlags
+mod ComposeLemmas
+mod FirstLemmas
+mod JudgingLemmas
+pub mod OverrideValues
+mod PartsBefore
+mod SourceLemmas
+mod WorkedFlags

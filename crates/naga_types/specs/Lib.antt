@@ -1,12 +1,24 @@
-pub mod Answers
+-- To read first:
+-- TypeRule.type_rule: the info of a type, or the first condition of its form that it breaks
+-- Surroundings.Surroundings: what a type is judged by beside its form
+-- Judging.judged: a value, unless one of a list of conditions is broken
+-- FormFlags: what types of each form may be used for at most
+-- StructRule.struct_rule: the conditions of a struct and of its members, and what a struct may be used for
+-- Layouts.uniform_layout_of, storage_layout_of: the layouts of a struct, or why it has none
+-- AcceptedTypes.AreTypesAccepted: all types of a module are accepted, each by the infos of those before it
+-- RuleResults.IsRuleResult: what a call returns by a rule, out of memory aside
+-- Composing.compose_rule: whether a value of a type may be composed of components
+pub mod AcceptedTypes
 pub mod Composing
 pub mod Exchange
+pub mod FormFlags
 pub mod Infos
 pub mod Judging
-pub mod Known
 pub mod Layouts
+pub mod RuleResults
 pub mod StructRule
 pub mod Surroundings
 pub mod Texts
 pub mod TypeMethods
 pub mod TypeRule
+pub mod steps

@@ -1,27 +1,28 @@
 -- The rule of structs.
-use Rattle.std.specs.Prelude.{◌<◌, All, ◌==◌, ◌+◌, ◌^◌, ◌&&◌, ◌||◌, not, leb, ltb, ℕ, zero, suc, Bool as Truth, true, false, List, [], ◌∷◌, Option, Some, None, Result, Ok, Err, bit_and, bit_or, fold, is_some, length, map, take, unwrap_or, if◌then◌else◌}
+use Rattle.std.specs.Prelude.{◌==◌, ◌+◌, ◌-◌, ◌&&◌, ◌||◌, not, leb, ltb, ℕ, Bool as Truth, true, false, List, [], ◌∷◌, Option, Some, None, Result, bit_and, bit_or, fold, is_some, length, map, take, unwrap_or, if◌then◌else◌}
 use Rattle.std.specs.List.{enumerate_from, list_any}
+use Rattle.std.specs.Result.{result_err}
+use Rattle.naga_flags.specs.Bits.{DUAL_SOURCE_BLENDING, HOST_SHAREABLE, IO_SHAREABLE, SIZED, all_type_flags}
 use Rattle.naga_flags.specs.Flags.{has}
 use Rattle.naga_flags.specs.declared.width.ImmediateError.{ImmediateError}
 use Rattle.naga_ir_types.specs.declared.types.Binding.{Binding}
-use Rattle.naga_ir_types.specs.declared.types.Binding.TheVariants.{Location}
+use Rattle.naga_ir_types.specs.declared.types.Binding.TheVariants.{BuiltIn, Location}
 use Rattle.naga_ir_types.specs.declared.types.StructMember.{StructMember}
 use Rattle.naga_ir_types.specs.declared.types.TypeInner.{TypeInner}
 use Rattle.naga_ir_types.specs.declared.types.TypeInner.TheVariants as form
 use Rattle.naga_typing.specs.declared.typifier.TypeResolution.TheVariants.{Handle}
 use Rattle.naga_typing.specs.Sameness.{are_same}
-use Rattle.naga_types.specs.Judging.{first, granted, judged, last, only_if, or_else, unless}
-use Rattle.naga_types.specs.Layouts.{before, storage_layout_of, told, uniform_layout_of}
-use Rattle.naga_types.specs.Surroundings.{KnownBefore, Surroundings, flags_at, form_at, info_at, size_at, surroundings}
+use Rattle.naga_types.specs.FormFlags.{member_flags, unshared_flags}
+use Rattle.naga_types.specs.Judging.{first, granted, judged, last, only_if, unless}
+use Rattle.naga_types.specs.Layouts.{before, storage_layout_of, saturated, uniform_layout_of}
+use Rattle.naga_types.specs.Surroundings.{Surroundings, flags_at, form_at, info_at, size_at}
 use Rattle.naga_types.specs.declared.error.TypeError.{TypeError}
 use Rattle.naga_types.specs.declared.error.TypeError.TheVariants.{EmptyStruct, InvalidBlendSrc, InvalidData, InvalidDynamicArray, MemberOutOfBounds, MemberOverlap, MissingCapability}
 use Rattle.naga_types.specs.declared.error.VaryingError.{VaryingError}
 use Rattle.naga_types.specs.declared.error.VaryingError.TheVariants.{BindingCollisionBlendSrc, BlendSrcOutputTypeMismatch, IncompleteBlendSrcUsage, InvalidBlendSrcIndex, InvalidBlendSrcWithOtherBindings, NotIOShareableType}
 use Rattle.naga_types.specs.declared.info.TypeInfo.{TypeInfo}
-use Rattle.naga_types.specs.declared.structs.StructType.{StructType}
-use Rattle.naga_types.specs.declared.structs.Sources.{Sources}
 
--- the first byte after a member, where there is one
+-- the first byte after a member, and 0 if there is none
 abbrev pub end_in : Surroundings → Option StructMember → ℕ
 end_in s None = 0
 end_in s (Some m) = m.offset + size_at s m.ty
@@ -29,69 +30,81 @@ end_in s (Some m) = m.offset + size_at s m.ty
 -- the location of a source of blending, and which one it is
 abbrev pub source_of : Option Binding → Option (ℕ × ℕ)
 source_of (Some (Location location (Some source))) = Some (location, source)
-source_of _ = None
+source_of (Some (Location location None)) = None
+source_of (Some (BuiltIn value)) = None
+source_of None = None
 
 -- the location of a binding that is no source of blending
 abbrev pub location_of : Option Binding → Option ℕ
 location_of (Some (Location location None)) = Some location
-location_of _ = None
+location_of (Some (Location location (Some source))) = None
+location_of (Some (BuiltIn value)) = None
+location_of None = None
 
--- a type, where this is the source meant
+-- a member's type, if the member is this source of blending
 abbrev pub type_of_source : ℕ → ℕ → Option (ℕ × ℕ) → Option ℕ
 type_of_source source ty None = None
 type_of_source source ty (Some at) = only_if (at.1 == source) (Some ty)
 
--- the type of the member that is this source of blending, where there is one
+-- the type of the first of some members that is this source of blending
 abbrev pub source_type : ℕ → List StructMember → Option ℕ
 source_type source members = first (map (λ (m : StructMember). type_of_source source m.ty (source_of m.binding)) members)
 
--- the type of the source of blending that has this number
-abbrev pub noted : Sources → ℕ → Option ℕ
-noted sources zero = sources.first
-noted sources (suc n) = sources.second
+-- whether one of some members is this source of blending
+abbrev pub has_source : List StructMember → ℕ → Truth
+has_source members source = is_some (source_type source members)
 
--- the sources of blending among members
-abbrev pub sources_of : List StructMember → Sources
-sources_of members = record { first = source_type 0 members; second = source_type 1 members }
-
--- what is asked of a source of blending, where these are taken already
-abbrev pub source_conditions : ℕ → Sources → Option (ℕ × ℕ) → List (Option TypeError)
-source_conditions capabilities taken None = []
-source_conditions capabilities taken (Some (location, source)) =
-    unless (has capabilities (2 ^ 14)) (MissingCapability (record { 0 = 2 ^ 14 })) ∷
+-- the conditions of a source of blending, by the sources that are taken: a capability, source 0 or 1 at location 0, and one that is not taken
+abbrev pub source_conditions : ℕ → (ℕ → Truth) → Option (ℕ × ℕ) → List (Option TypeError)
+source_conditions capabilities is_taken None = []
+source_conditions capabilities is_taken (Some (location, source)) =
+    unless (has capabilities DUAL_SOURCE_BLENDING) (MissingCapability (record { 0 = DUAL_SOURCE_BLENDING })) ∷
     unless (leb source 1 && location == 0) (InvalidBlendSrc (InvalidBlendSrcIndex location source)) ∷
-    unless (not (is_some (noted taken source))) (InvalidBlendSrc (BindingCollisionBlendSrc source)) ∷
+    unless (not (is_taken source)) (InvalidBlendSrc (BindingCollisionBlendSrc source)) ∷
     []
 
 -- a form is that of arrays
 abbrev pub is_array : Option TypeInner → Truth
 is_array (Some (form.Array base size stride)) = true
-is_array _ = false
+is_array (Some (form.Scalar scalar)) = false
+is_array (Some (form.Vector size scalar)) = false
+is_array (Some (form.Matrix columns rows scalar)) = false
+is_array (Some (form.CooperativeMatrix columns rows scalar role)) = false
+is_array (Some (form.Atomic scalar)) = false
+is_array (Some (form.Pointer base space)) = false
+is_array (Some (form.ValuePointer size scalar space)) = false
+is_array (Some (form.Struct members span)) = false
+is_array (Some (form.Image dim arrayed class)) = false
+is_array (Some (form.Sampler comparison)) = false
+is_array (Some (form.AccelerationStructure vertex_return)) = false
+is_array (Some (form.RayQuery vertex_return)) = false
+is_array (Some (form.BindingArray base size)) = false
+is_array None = false
 
--- what is asked of a member's place: it begins after the member before it or at 0, and ends within the struct
+-- the conditions of a member's place: it begins after the member before it or at 0, and ends within the struct
 abbrev pub place_conditions : Surroundings → List StructMember → ℕ → ℕ → StructMember → List (Option TypeError)
 place_conditions s members span i m =
-    unless (m.offset == 0 || leb (end_in s (before members i)) m.offset) (MemberOverlap (told i) m.offset) ∷
-    unless (leb (m.offset + size_at s m.ty) span) (MemberOutOfBounds (told i) m.offset (size_at s m.ty) span) ∷
+    unless (m.offset == 0 || leb (end_in s (before members i)) m.offset) (MemberOverlap (saturated i) m.offset) ∷
+    unless (leb (m.offset + size_at s m.ty) span) (MemberOutOfBounds (saturated i) m.offset (size_at s m.ty) span) ∷
     []
 
--- a member has a fixed size, unless it is an array at the end
+-- the refusal of a member that has no fixed size and is no array at the end
 abbrev pub unsized_member : Surroundings → List StructMember → ℕ → StructMember → Option TypeError
 unsized_member s members i m =
-    unless (has (flags_at s m.ty) 0x2 || is_array (form_at s m.ty) && i + 1 == length members) (InvalidDynamicArray (unwrap_or m.name []) m.ty)
+    unless (has (flags_at s m.ty) SIZED || is_array (form_at s m.ty) && i + 1 == length members) (InvalidDynamicArray (unwrap_or m.name []) m.ty)
 
--- what is asked of a member, where these sources of blending are taken: it is data that is known when a module is made, a source that is right if it is one, at its place, and of a fixed size
-abbrev pub member_conditions : Surroundings → List StructMember → ℕ → Sources → ℕ × StructMember → List (Option TypeError)
-member_conditions s members span taken at =
-    unless (has (flags_at s at.1.ty) 0x21) (InvalidData at.1.ty) ∷
-    first (source_conditions s.capabilities taken (source_of at.1.binding)) ∷
+-- the conditions of a member: it is data whose size no override decides, a source of blending that no member before it is, if it is one at all, in its place, and of a fixed size
+abbrev pub member_conditions : Surroundings → List StructMember → ℕ → ℕ × StructMember → List (Option TypeError)
+member_conditions s members span at =
+    unless (has (flags_at s at.1.ty) member_flags) (InvalidData at.1.ty) ∷
+    first (source_conditions s.capabilities (has_source (take at.0 members)) (source_of at.1.binding)) ∷
     first (place_conditions s members span at.0 at.1) ∷
     unsized_member s members at.0 at.1 ∷
     []
 
--- why a member is refused: by the first condition that it breaks, where the members before it are sources of blending
+-- why a member is refused: by the first condition that it breaks
 abbrev pub member_refusal : Surroundings → List StructMember → ℕ → ℕ × StructMember → Option TypeError
-member_refusal s members span at = first (member_conditions s members span (sources_of (take at.0 members)) at)
+member_refusal s members span at = first (member_conditions s members span at)
 
 -- why each member is refused
 abbrev pub member_refusals : Surroundings → List StructMember → ℕ → List (Option TypeError)
@@ -101,12 +114,12 @@ member_refusals s members span = map (member_refusal s members span) (enumerate_
 abbrev pub other_location : List StructMember → Option ℕ
 other_location members = last (map (λ (m : StructMember). location_of m.binding) members)
 
--- that there is none
+-- the refusal of a location beside sources of blending
 abbrev pub no_location : Option ℕ → Option VaryingError
 no_location None = None
 no_location (Some location) = Some (InvalidBlendSrcWithOtherBindings location)
 
--- what is asked of the types of the two sources: both are there or none is, beside no other location, they are one type, and stages may share it
+-- the conditions of the two sources, by their types: there are both or none, beside no other location, they have one type, and stages may share it
 abbrev pub pair_conditions : Surroundings → List StructMember → Option ℕ → Option ℕ → List (Option VaryingError)
 pair_conditions s members None None = []
 pair_conditions s members (Some t) None = Some (IncompleteBlendSrcUsage 0) ∷ []
@@ -114,7 +127,7 @@ pair_conditions s members None (Some u) = Some (IncompleteBlendSrcUsage 1) ∷ [
 pair_conditions s members (Some t) (Some u) =
     no_location (other_location members) ∷
     unless (are_same s.lists.types (Handle t) (Handle u)) (BlendSrcOutputTypeMismatch t u) ∷
-    unless (has (flags_at s t) 0x8) (NotIOShareableType t) ∷
+    unless (has (flags_at s t) IO_SHAREABLE) (NotIOShareableType t) ∷
     []
 
 -- an error on sources of blending is one of the struct
@@ -122,7 +135,7 @@ abbrev pub of_pair : Option VaryingError → Option TypeError
 of_pair None = None
 of_pair (Some e) = Some (InvalidBlendSrc e)
 
--- what is asked of a struct: members, what is asked of each, and what is asked of the sources of blending
+-- the conditions of a struct: there are members, each keeps its own conditions, and the sources of blending keep theirs
 abbrev pub struct_conditions : Surroundings → List StructMember → ℕ → List (Option TypeError)
 struct_conditions s members span =
     unless (not (length members == 0)) EmptyStruct ∷
@@ -130,9 +143,9 @@ struct_conditions s members span =
     of_pair (first (pair_conditions s members (source_type 0 members) (source_type 1 members))) ∷
     []
 
--- what all members may be used for
+-- what all members may be used for, and structs at all
 abbrev pub common_flags : Surroundings → List StructMember → ℕ
-common_flags s members = fold bit_and 0xf7 (map (λ (m : StructMember). flags_at s m.ty) members)
+common_flags s members = fold bit_and unshared_flags (map (λ (m : StructMember). flags_at s m.ty) members)
 
 -- a member begins at 0, below the end of the one before it
 abbrev pub goes_back : Surroundings → List StructMember → ℕ × StructMember → Truth
@@ -142,17 +155,12 @@ goes_back s members at = at.1.offset == 0 && ltb 0 (end_in s (before members at.
 abbrev pub struct_flags : Surroundings → List StructMember → ℕ
 struct_flags s members =
     let flags = common_flags s members in
-    let hosts = if list_any (goes_back s members) (enumerate_from 0 members) then bit_and flags 0xef else flags in
-    if is_some (source_type 0 members) && is_some (source_type 1 members) then bit_or hosts 0x8 else hosts
+    let hosts = if list_any (goes_back s members) (enumerate_from 0 members) then bit_and flags (all_type_flags - HOST_SHAREABLE) else flags in
+    if has_source members 0 && has_source members 1 then bit_or hosts IO_SHAREABLE else hosts
 
--- the error of a result, where there is one
-abbrev pub error_in : Result (Unit {0}) ImmediateError → Option ImmediateError
-error_in (Ok _) = None
-error_in (Err e) = Some e
-
--- immediates may hold a struct unless they may not hold a member: the last such tells the error
+-- immediates may hold a struct unless they may not hold a member: the last such gives the error
 abbrev pub struct_immediates : Surroundings → List StructMember → Result (Unit {0}) ImmediateError
-struct_immediates s members = granted (last (map (λ (m : StructMember). error_in (info_at s m.ty).immediates_compatibility) members)) tt
+struct_immediates s members = granted (last (map (λ (m : StructMember). result_err (info_at s m.ty).immediates_compatibility) members)) tt
 
 -- the info of a struct, or why it is refused
 abbrev pub struct_rule : Surroundings → ℕ → List StructMember → ℕ → Result TypeInfo TypeError
@@ -164,18 +172,3 @@ struct_rule s t members span =
       storage_layout = storage_layout_of s t members span;
       immediates_compatibility = struct_immediates s members;
     })
-
--- what a struct is judged by
-abbrev pub around : StructType → Surroundings
-around x = surroundings x.ctx x.gctx
-
--- the types of a struct's members stand before it, and are known
-abbrev pub MembersKnown : StructType → Type 0
-MembersKnown x = KnownBefore (around x) x.handle × All (λ (m : StructMember). m.ty < x.handle) x.members.now
-
--- the sources of blending with a member more
-abbrev pub with_member : Sources → StructMember → Sources
-with_member sources m = record {
-  first = or_else sources.first (type_of_source 0 m.ty (source_of m.binding));
-  second = or_else sources.second (type_of_source 1 m.ty (source_of m.binding));
-}

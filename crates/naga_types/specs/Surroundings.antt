@@ -1,5 +1,5 @@
 -- What a type is judged by.
-use Rattle.std.specs.Prelude.{◌<◌, ◌≤◌, ℕ, Bool, List, Option, Some, None, Ok, length, slice_get}
+use Rattle.std.specs.Prelude.{ℕ, Bool, List, Option, Some, None, Ok, slice_get}
 use Rattle.naga_ir.specs.ItemReferences.{GlobalLists}
 use Rattle.naga_ir_types.specs.declared.types.«Type».{«Type»}
 use Rattle.naga_ir_types.specs.declared.types.TypeInner.{TypeInner}
@@ -9,7 +9,7 @@ use Rattle.naga_typing.specs.declared.context.GlobalCtx.{GlobalCtx}
 use Rattle.naga_types.specs.declared.info.TypeContext.{TypeContext}
 use Rattle.naga_types.specs.declared.info.TypeInfo.{TypeInfo}
 
--- what shaders may use, whether overrides have to have their values, the lists that a type refers to, and what is known of the types before it
+-- all that a type is judged by beside its own form: the capabilities, whether overrides must have their values, the lists that types refer to, the layouts of all types, and the infos of those before it
 pub record Surroundings : Type 0 where
   pub capabilities : ℕ
   pub resolved : Bool
@@ -17,26 +17,20 @@ pub record Surroundings : Type 0 where
   pub layouts : List TypeLayout
   pub infos : List TypeInfo
 
--- what a call is given
+-- the surroundings that the arguments of a call make up
 abbrev pub surroundings : TypeContext → GlobalCtx → Surroundings
 surroundings ctx g = record { capabilities = ctx.capabilities.0; resolved = ctx.overrides_resolved; lists = lists_of g; layouts = ctx.layouter.now; infos = ctx.infos.now.infos }
 
--- what the rule of the type at a place looks at is there: the types before it have infos, and it has a layout
-pub record KnownBefore (s : Surroundings) (t : ℕ) : Type 0 where
-  pub judged : t ≤ length s.infos
-  pub laid_out : t < length s.layouts
-  pub there : t < length s.lists.types
-
--- what a type may be used for, with one alignment in both address spaces
+-- the info of a type with these flags, and one alignment in both address spaces
 abbrev pub shared : ℕ → ℕ → TypeInfo
 shared flags alignment = record { flags = record { 0 = flags }; uniform_layout = Ok alignment; storage_layout = Ok alignment; immediates_compatibility = Ok tt }
 
--- an info, and of nothing that it may be used for nothing
+-- an info, or if there is none that of a type of no use
 abbrev pub info_in : Option TypeInfo → TypeInfo
 info_in (Some info) = info
 info_in None = shared 0 1
 
--- what is known of the type at a place
+-- the info of the type at a place
 abbrev pub info_at : Surroundings → ℕ → TypeInfo
 info_at s t = info_in (slice_get s.infos t)
 
@@ -44,7 +38,7 @@ info_at s t = info_in (slice_get s.infos t)
 abbrev pub flags_at : Surroundings → ℕ → ℕ
 flags_at s t = (info_at s t).flags.0
 
--- the form of a type, where there is one
+-- the form of a type, if there is one
 abbrev pub form_in : Option «Type» → Option TypeInner
 form_in (Some t) = Some t.inner
 form_in None = None
@@ -53,7 +47,7 @@ form_in None = None
 abbrev pub form_at : Surroundings → ℕ → Option TypeInner
 form_at s t = form_in (slice_get s.lists.types t)
 
--- the size in a layout, in bytes, and 0 where there is none
+-- the size in a layout, in bytes, and 0 if there is none
 abbrev pub size_in : Option TypeLayout → ℕ
 size_in (Some layout) = layout.size
 size_in None = 0

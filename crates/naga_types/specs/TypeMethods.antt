@@ -1,7 +1,7 @@
 -- What forms of types are.
 use Rattle.std.specs.Prelude.{Bool, true, false, Option, Some, None}
 use Rattle.naga_ir_types.specs.declared.types.ArraySize.{ArraySize}
-use Rattle.naga_ir_types.specs.declared.types.ArraySize.TheVariants.{Constant}
+use Rattle.naga_ir_types.specs.declared.types.ArraySize.TheVariants.{Constant, Pending, Dynamic}
 use Rattle.naga_ir_types.specs.declared.types.ImageDimension.{ImageDimension}
 use Rattle.naga_ir_types.specs.declared.types.ImageDimension.TheVariants.{D1, D2, D3}
 use Rattle.naga_ir_types.specs.declared.types.TypeInner.{TypeInner}
@@ -14,7 +14,8 @@ use Rattle.naga_types.specs.TypeRule.{is_integer}
 -- a count is written in the module
 abbrev pub is_written : ArraySize → Bool
 is_written (Constant n) = true
-is_written _ = false
+is_written (Pending over) = false
+is_written Dynamic = false
 
 -- values of a form have a fixed size: those that are no resources, and of arrays those whose count is written
 abbrev pub is_sized : TypeInner → Bool
@@ -24,9 +25,16 @@ is_sized (form.Sampler comparison) = false
 is_sized (form.AccelerationStructure vertex_return) = false
 is_sized (form.RayQuery vertex_return) = false
 is_sized (form.BindingArray base size) = false
-is_sized _ = true
+is_sized (form.Scalar scalar) = true
+is_sized (form.Vector size scalar) = true
+is_sized (form.Matrix columns rows scalar) = true
+is_sized (form.CooperativeMatrix columns rows scalar role) = true
+is_sized (form.Atomic scalar) = true
+is_sized (form.Pointer base space) = true
+is_sized (form.ValuePointer size scalar space) = true
+is_sized (form.Struct members span) = true
 
--- the dimension that as many integers are coordinates in, where there is one
+-- the dimension of images in which so many integers are coordinates, if there is one
 abbrev pub dimension_of : VectorSize → Option ImageDimension
 dimension_of Bi = Some D2
 dimension_of Tri = Some D3
@@ -36,4 +44,15 @@ dimension_of Quad = None
 abbrev pub image_storage_coordinates : TypeInner → Option ImageDimension
 image_storage_coordinates (form.Scalar scalar) = only_if (is_integer scalar.kind) (Some D1)
 image_storage_coordinates (form.Vector size scalar) = only_if (is_integer scalar.kind) (dimension_of size)
-image_storage_coordinates _ = None
+image_storage_coordinates (form.Matrix columns rows scalar) = None
+image_storage_coordinates (form.CooperativeMatrix columns rows scalar role) = None
+image_storage_coordinates (form.Atomic scalar) = None
+image_storage_coordinates (form.Pointer base space) = None
+image_storage_coordinates (form.ValuePointer size scalar space) = None
+image_storage_coordinates (form.Array base size stride) = None
+image_storage_coordinates (form.Struct members span) = None
+image_storage_coordinates (form.Image dim arrayed class) = None
+image_storage_coordinates (form.Sampler comparison) = None
+image_storage_coordinates (form.AccelerationStructure vertex_return) = None
+image_storage_coordinates (form.RayQuery vertex_return) = None
+image_storage_coordinates (form.BindingArray base size) = None

@@ -1,11 +1,13 @@
-//! The rules of arrays and of binding arrays.
+//! The rules of arrays and of binding arrays (WGSL "Array Types").
 
 ghost use Rattle.std.specs.Prelude.{◌≡◌, ◌<◌, ◌≤◌, IfSome, bit_and, length};
 ghost use Rattle.naga_ir.specs.Handles.{GlobalReferencesOk};
 ghost use Rattle.naga_ir_types.specs.Parts.{pending};
 ghost use Rattle.naga_types.specs.Judging.{judged};
-ghost use Rattle.naga_types.specs.Surroundings.{KnownBefore, flags_at, shared, surroundings};
+ghost use Rattle.naga_types.specs.FormFlags as form;
+ghost use Rattle.naga_types.specs.Surroundings.{flags_at, shared, surroundings};
 ghost use Rattle.naga_types.specs.TypeRule as rule;
+ghost use Rattle.naga_types.specs.steps.KnownTypes.{KnownBefore};
 ghost use Rattle.naga_typing.specs.Context.{lists_of};
 
 use crate::error::{Disalignment, TypeError};
@@ -21,7 +23,7 @@ use naga_typing::type_methods::override_count;
 
 /// What an array may be used for at most.
 fn array_flags(size: ArraySize) -> TypeFlags
-    ensures { result ≡ record { 0 = rule.array_flags size } }
+    ensures { result ≡ record { 0 = form.array_flags size } }
 {
     let shared = TypeFlags::DATA
         .union(TypeFlags::COPY)
@@ -38,7 +40,7 @@ fn array_flags(size: ArraySize) -> TypeFlags
 
 /// What a binding array may be used for at most.
 fn binding_array_flags(size: ArraySize) -> TypeFlags
-    ensures { result ≡ record { 0 = rule.binding_array_flags size } }
+    ensures { result ≡ record { 0 = form.binding_array_flags size } }
 {
     match size {
         ArraySize::Constant(_) => TypeFlags::SIZED
@@ -49,8 +51,8 @@ fn binding_array_flags(size: ArraySize) -> TypeFlags
     }
 }
 
-/// The layout of an array in an address space, from that of its elements there. Its alignment is at
-/// least `least`.
+/// The layout of an array in an address space, from `base`, that of its elements there. Its alignment
+/// is at least `least`, and its stride in bytes a multiple of that.
 fn array_layout(
     handle: Handle<TypeTag>,
     least: Alignment,
@@ -67,7 +69,7 @@ fn array_layout(
     }
 }
 
-/// Whether a size is a count, where overrides have to have their values.
+/// Whether a size is a count: an override that sizes an array has a value above 0.
 fn has_count(size: ArraySize, gctx: GlobalCtx<'_>) -> bool
     requires there { IfSome (pending size) (λ o. o < length gctx.overrides.now) }
     requires references { GlobalReferencesOk (lists_of gctx) }
@@ -75,11 +77,11 @@ fn has_count(size: ArraySize, gctx: GlobalCtx<'_>) -> bool
 {
     match size {
         ArraySize::Pending(over) => override_count(over, gctx).is_some(),
-        _ => true,
+        ArraySize::Constant(_) | ArraySize::Dynamic => true,
     }
 }
 
-/// What is known of an array, or why it is refused.
+/// The info of an array, or why it is refused.
 pub(crate) fn validate_array<'a>(
     ctx: TypeContext<'a>,
     handle: Handle<TypeTag>,
@@ -115,7 +117,7 @@ pub(crate) fn validate_array<'a>(
     })
 }
 
-/// What is known of a binding array, or why it is refused.
+/// The info of a binding array, or why it is refused.
 pub(crate) fn validate_binding_array<'a>(
     ctx: TypeContext<'a>,
     gctx: GlobalCtx<'a>,
@@ -124,7 +126,7 @@ pub(crate) fn validate_binding_array<'a>(
 ) -> Result<TypeInfo, TypeError>
     requires judged { base < length ctx.infos.now.infos }
     requires there { base < length gctx.types.now }
-    ensures { result ≡ judged (rule.binding_array_conditions (surroundings ctx.entry gctx.entry) base) (shared (bit_and (flags_at (surroundings ctx.entry gctx.entry) base) (rule.binding_array_flags size)) 1) }
+    ensures { result ≡ judged (rule.binding_array_conditions (surroundings ctx.entry gctx.entry) base) (shared (bit_and (flags_at (surroundings ctx.entry gctx.entry) base) (form.binding_array_flags size)) 1) }
 {
     let flags = ctx.infos.get(base).flags;
     let inner = &gctx.types[base].inner;

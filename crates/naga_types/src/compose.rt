@@ -1,16 +1,16 @@
-//! The rule of composing.
+//! The rule of composing values of components (naga's `validate_compose`).
 
-ghost use Rattle.std.specs.Prelude.{◌≡◌, ◌<◌, All, Some, length, slice_get};
+ghost use Rattle.std.specs.Prelude.{◌≡◌, ◌<◌, [], ◌∷◌, All, Some, length, slice_get};
 ghost use Rattle.naga_ir.specs.Handles.{GlobalReferencesOk};
 ghost use Rattle.naga_ir_types.specs.Sizes as sizes;
 ghost use Rattle.naga_types.specs.Composing as rule;
-ghost use Rattle.naga_types.specs.Composing.{ComponentsExist, WantedExists, resolutions_of};
-ghost use Rattle.naga_types.specs.Judging.{granted};
+ghost use Rattle.naga_types.specs.Judging.{granted, judged};
 ghost use Rattle.naga_types.specs.Layouts as layouts;
+ghost use Rattle.naga_types.specs.steps.Components.{ComponentsExist, WantedExists, fits, resolutions_of};
 ghost use Rattle.naga_typing.specs.Context.{lists_of};
-ghost use Rattle.naga_typing.specs.Resolutions.{AllPartsExist, ResolutionExists};
+ghost use Rattle.naga_typing.specs.Resolutions.{AllPartsExist, TypesExist};
 
-use crate::error::{ComposeError, told};
+use crate::error::{ComposeError, saturated};
 use naga_ir::handle::Handle;
 use naga_ir::tags::{ExpressionTag, TypeTag};
 use naga_ir::types::{ArraySize, Scalar, StructMember, TypeInner, VectorSize};
@@ -23,7 +23,7 @@ use naga_typing::typifier::{TypeResolution, compare_types};
 enum Components<'a> {
     /// The types of the components.
     Given(&'a [TypeResolution]),
-    /// The components, and the types of all expressions up to them.
+    /// The components by their places among all expressions, with the types of these.
     At {
         components: &'a [Handle<ExpressionTag>],
         types: &'a [TypeResolution],
@@ -54,7 +54,7 @@ impl Components<'_> {
     }
 }
 
-/// One of some types.
+/// One of some types. It is apart, as `place_at` is, for the clause that the prover goes on with.
 fn type_at(types: &[TypeResolution], index: usize) -> &TypeResolution
     requires { index < length types.now }
     ensures { slice_get types.now index ≡ Some result.now }
@@ -75,7 +75,7 @@ fn place_at(components: &[Handle<ExpressionTag>], index: usize) -> usize
 enum Wanted<'a> {
     /// The scalar, or a vector of it.
     PartOf(Scalar),
-    /// A vector of this size.
+    /// A vector of this size: a column of a matrix.
     Column { rows: VectorSize, scalar: Scalar },
     /// Of this type.
     Element(Handle<TypeTag>),
@@ -87,9 +87,9 @@ impl Wanted<'_> {
     /// Whether a component is what is wanted at its place.
     fn fits(&self, index: usize, component: &TypeResolution, types: &UniqueArena) -> bool
         requires wanted { WantedExists types.now self.now }
-        requires component { ResolutionExists types.now component.now }
+        requires component { TypesExist types.now component.now }
         requires parts { AllPartsExist types.now }
-        ensures { result ≡ rule.fits types.now self.now (index, component.now) }
+        ensures { result ≡ fits types.now self.now (index, component.now) }
     {
         match self {
             Wanted::PartOf(scalar) => is_part_of(*scalar, component.inner_with(types)),
@@ -104,7 +104,7 @@ impl Wanted<'_> {
         }
     }
 
-    /// Whether each component is what is wanted at its place.
+    /// Checks that each component is what is wanted at its place.
     fn check_each(
         &self,
         components: &Components<'_>,
@@ -113,16 +113,31 @@ impl Wanted<'_> {
         requires wanted { WantedExists types.now self.now }
         requires components { ComponentsExist types.now components.now }
         requires parts { AllPartsExist types.now }
-        ensures { result ≡ granted (rule.first_misfit (rule.fits types.now self.now) (resolutions_of components.now)) tt }
+        ensures { result ≡ granted (rule.first_misfit (fits types.now self.now) (resolutions_of components.now)) tt }
     {
         for index in 0..components.len() {
             if !self.fits(index, components.get(index, types), types) {
                 return Err(ComposeError::ComponentType {
-                    index: told(index as u64),
+                    index: saturated(index as u64),
                 });
             }
         }
         Ok(())
+    }
+    /// Checks that there are as many components as expected, and then each.
+    fn check_all(
+        &self,
+        expected: u64,
+        components: &Components<'_>,
+        types: &UniqueArena,
+    ) -> Result<(), ComposeError>
+        requires wanted { WantedExists types.now self.now }
+        requires components { ComponentsExist types.now components.now }
+        requires parts { AllPartsExist types.now }
+        ensures { result ≡ judged (rule.miscount (length (resolutions_of components.now)) expected ∷ rule.first_misfit (fits types.now self.now) (resolutions_of components.now) ∷ []) tt }
+    {
+        check_count(components.len() as u64, expected)?;
+        self.check_each(components, types)
     }
 }
 
@@ -132,7 +147,18 @@ fn is_part_of(scalar: Scalar, inner: &TypeInner) -> bool
 {
     match inner {
         TypeInner::Scalar(part) | TypeInner::Vector { scalar: part, .. } => *part == scalar,
-        _ => false,
+        TypeInner::Matrix { .. }
+        | TypeInner::CooperativeMatrix { .. }
+        | TypeInner::Atomic(_)
+        | TypeInner::Pointer { .. }
+        | TypeInner::ValuePointer { .. }
+        | TypeInner::Array { .. }
+        | TypeInner::Struct { .. }
+        | TypeInner::Image { .. }
+        | TypeInner::Sampler { .. }
+        | TypeInner::AccelerationStructure { .. }
+        | TypeInner::RayQuery { .. }
+        | TypeInner::BindingArray { .. } => false,
     }
 }
 
@@ -145,34 +171,58 @@ fn is_vector_of(rows: VectorSize, scalar: Scalar, inner: &TypeInner) -> bool
             size,
             scalar: element,
         } => *size == rows && *element == scalar,
-        _ => false,
+        TypeInner::Scalar(_)
+        | TypeInner::Matrix { .. }
+        | TypeInner::CooperativeMatrix { .. }
+        | TypeInner::Atomic(_)
+        | TypeInner::Pointer { .. }
+        | TypeInner::ValuePointer { .. }
+        | TypeInner::Array { .. }
+        | TypeInner::Struct { .. }
+        | TypeInner::Image { .. }
+        | TypeInner::Sampler { .. }
+        | TypeInner::AccelerationStructure { .. }
+        | TypeInner::RayQuery { .. }
+        | TypeInner::BindingArray { .. } => false,
     }
 }
 
 /// Whether a component is of a type of the module.
 fn is_of(ty: Handle<TypeTag>, component: &TypeResolution, types: &UniqueArena) -> bool
     requires ty { ty < length types.now }
-    requires component { ResolutionExists types.now component.now }
+    requires component { TypesExist types.now component.now }
     requires parts { AllPartsExist types.now }
     ensures { result ≡ rule.is_of types.now ty component.now }
 {
     compare_types(&TypeResolution::Handle(ty), component, types)
 }
 
-/// How many components of a vector a form is.
+/// How many components of a vector values of a form make.
 fn parts_in(inner: &TypeInner) -> u8
     ensures { result ≡ rule.parts_in (Some inner.now) }
 {
     match inner {
         TypeInner::Vector { size, .. } => size.components(),
-        _ => 1,
+        TypeInner::Scalar(_)
+        | TypeInner::Matrix { .. }
+        | TypeInner::CooperativeMatrix { .. }
+        | TypeInner::Atomic(_)
+        | TypeInner::Pointer { .. }
+        | TypeInner::ValuePointer { .. }
+        | TypeInner::Array { .. }
+        | TypeInner::Struct { .. }
+        | TypeInner::Image { .. }
+        | TypeInner::Sampler { .. }
+        | TypeInner::AccelerationStructure { .. }
+        | TypeInner::RayQuery { .. }
+        | TypeInner::BindingArray { .. } => 1,
     }
 }
 
-/// How many components of a vector these are, or the greatest number that an error can tell.
+/// How many components of a vector these make, or the greatest `u32` if they are more.
 fn all_parts(components: &Components<'_>, types: &UniqueArena) -> u32
     requires components { ComponentsExist types.now components.now }
-    ensures { result ≡ layouts.told (rule.all_parts types.now (resolutions_of components.now)) }
+    ensures { result ≡ layouts.saturated (rule.all_parts types.now (resolutions_of components.now)) }
 {
     let mut total: u32 = 0;
     for index in 0..components.len() {
@@ -182,7 +232,7 @@ fn all_parts(components: &Components<'_>, types: &UniqueArena) -> u32
     total
 }
 
-/// Whether there are as many components as there should be.
+/// Checks that there are as many components as expected.
 fn check_count(given: u64, expected: u64) -> Result<(), ComposeError>
     ensures { result ≡ granted (rule.miscount given expected) tt }
 {
@@ -190,12 +240,12 @@ fn check_count(given: u64, expected: u64) -> Result<(), ComposeError>
         return Ok(());
     }
     Err(ComposeError::ComponentCount {
-        given: told(given),
-        expected: told(expected),
+        given: saturated(given),
+        expected: saturated(expected),
     })
 }
 
-/// Whether the components of a vector are as many as it has.
+/// Checks that the components of a vector make as many as it has.
 fn check_parts(
     size: VectorSize,
     components: &Components<'_>,
@@ -208,7 +258,7 @@ fn check_parts(
     check_count(u64::from(given), u64::from(size.components()))
 }
 
-/// Whether a type may be composed of components.
+/// Checks that a type may be composed of components, given themselves or by their places.
 fn compose(
     ty: Handle<TypeTag>,
     components: &Components<'_>,
@@ -219,7 +269,6 @@ fn compose(
     requires parts { AllPartsExist types.now }
     ensures { result ≡ rule.compose_rule types.now ty (resolutions_of components.now) }
 {
-    let given = components.len() as u64;
     match &types[ty].inner {
         TypeInner::Vector { size, scalar } => {
             Wanted::PartOf(*scalar).check_each(components, types)?;
@@ -230,50 +279,65 @@ fn compose(
             rows,
             scalar,
         } => {
-            check_count(given, u64::from(columns.components()))?;
             let column = Wanted::Column {
                 rows: *rows,
                 scalar: *scalar,
             };
-            column.check_each(components, types)
+            column.check_all(u64::from(columns.components()), components, types)
         }
         TypeInner::Array {
             base,
             size: ArraySize::Constant(count),
             ..
-        } => {
-            check_count(given, u64::from(count.get()))?;
-            Wanted::Element(*base).check_each(components, types)
-        }
+        } => Wanted::Element(*base).check_all(u64::from(count.get()), components, types),
         TypeInner::Struct { members, .. } => {
-            check_count(given, members.len() as u64)?;
-            Wanted::Members(members.as_slice()).check_each(components, types)
+            Wanted::Members(members.as_slice()).check_all(members.len() as u64, components, types)
         }
-        _ => Err(ComposeError::Type_(ty)),
+        TypeInner::Scalar(_)
+        | TypeInner::CooperativeMatrix { .. }
+        | TypeInner::Atomic(_)
+        | TypeInner::Pointer { .. }
+        | TypeInner::ValuePointer { .. }
+        | TypeInner::Array { .. }
+        | TypeInner::Image { .. }
+        | TypeInner::Sampler { .. }
+        | TypeInner::AccelerationStructure { .. }
+        | TypeInner::RayQuery { .. }
+        | TypeInner::BindingArray { .. } => Err(ComposeError::Type_(ty)),
     }
 }
 
-/// Whether a type may be composed of components of these types.
+/// Checks that a value of a type may be composed of components of these types.
 ///
 /// A vector takes scalars and vectors of its own scalar, which have as many components together as
 /// it has; a matrix its columns, an array of a constant length its elements and a struct its
-/// members, each of its own type as `compare_types` has it. Of a vector what the components are is
-/// looked at before how many they are, of other types after.
+/// members, each of its own type by `compare_types`.
+///
+/// # Errors
+///
+/// - `Type_` if values of the type are not composed.
+/// - `ComponentCount` if the components are too few or too many.
+/// - `ComponentType` if a component has the wrong type. Of a vector this is checked before the count,
+///   of other types after it.
 pub fn validate_compose(
     ty: Handle<TypeTag>,
     gctx: GlobalCtx<'_>,
     components: &[TypeResolution],
 ) -> Result<(), ComposeError>
     requires there { ty < length gctx.types.now }
-    requires components { All (ResolutionExists gctx.types.now) components.now }
+    requires components { All (TypesExist gctx.types.now) components.now }
     requires references { GlobalReferencesOk (lists_of gctx) }
     ensures { result ≡ rule.compose_rule gctx.entry.types.now ty components.now }
 {
     compose(ty, &Components::Given(components), gctx.types)
 }
 
-/// Whether a type may be composed of these components, given the types of all expressions up to
-/// them. The rule is that of `validate_compose`.
+/// Checks that a value of a type may be composed of these components, given the types of all
+/// expressions up to them.
+///
+/// # Errors
+///
+/// As `validate_compose` does of the components' types.
 pub fn validate_compose_at(
     ty: Handle<TypeTag>,
     gctx: GlobalCtx<'_>,
@@ -282,7 +346,7 @@ pub fn validate_compose_at(
 ) -> Result<(), ComposeError>
     requires there { ty < length gctx.types.now }
     requires components { All (λ e. e < length types.now) components.now }
-    requires types { All (ResolutionExists gctx.types.now) types.now }
+    requires types { All (TypesExist gctx.types.now) types.now }
     requires references { GlobalReferencesOk (lists_of gctx) }
     ensures { result ≡ rule.compose_rule gctx.entry.types.now ty (rule.resolutions_at components.now types.now) }
 {

@@ -1,4 +1,4 @@
-//! Why a type is refused, and why it has no layout that a host may share.
+//! Why a type is refused, why it has no layout that hosts may share, and why a value can't be composed.
 
 ghost use Rattle.std.specs.Prelude.{◌≡◌, codes, if◌then◌else◌};
 ghost use Rattle.naga_types.specs.Layouts as layouts;
@@ -14,37 +14,39 @@ use naga_ir::types::{AddressSpace, ImageClass, ImageDimension, ScalarKind};
 use std::fmt;
 use thiserror::Error;
 
-/// Why a type has no layout for the uniform or the storage address space. Numbers are bytes, indexes
-/// those of members.
+/// Why a type has no layout for the uniform or the storage address space (WGSL "Alignment and Size",
+/// "Address Space Layout Constraints"). Sizes, offsets and alignments are in bytes; an `index` is that of
+/// a member, from 0.
 #[derive(Clone, Copy, Debug, PartialEq)]
 pub enum Disalignment {
-    /// An array's stride is no multiple of its alignment.
+    /// An array's stride is not a multiple of the alignment that the array needs.
     ArrayStride {
         stride: u32,
         alignment: Alignment,
     },
-    /// A struct's span is no multiple of its alignment.
+    /// A struct's span is not a multiple of the struct's alignment.
     StructSpan {
         span: u32,
         alignment: Alignment,
     },
-    /// A member's offset is no multiple of the member's alignment.
+    /// A member's offset is not a multiple of the alignment that the member needs.
     MemberOffset {
         index: u32,
         offset: u32,
         alignment: Alignment,
     },
-    /// A member follows a struct, and stands below the end of the struct's last 16 bytes (WGSL).
+    /// A member follows a struct, and begins before that struct's size rounded up to 16 bytes ends.
     MemberOffsetAfterStruct {
         index: u32,
         offset: u32,
+        /// The least offset that the member may have.
         expected: u32,
     },
     /// A member of a uniform struct has no fixed size.
     UnsizedMember {
         index: u32,
     },
-    /// Host and device can't share values of the type.
+    /// Hosts can't share values of the type (WGSL "Host-shareable Types").
     NonHostShareable,
 }
 
@@ -88,23 +90,27 @@ impl fmt::Display for Disalignment {
     }
 }
 
-/// Why the members of a struct can't be the two sources of blending (WGSL).
+/// Why the members of a struct can't be the two sources of blending (WGSL "blend_src"): the variants of
+/// naga's `VaryingError` that structs give.
 #[derive(Clone, Debug, PartialEq, Drop, Error)]
 pub enum VaryingError {
-    /// The location isn't 0, or the source is neither 0 nor 1.
+    /// A source of blending has another location than 0, or an index other than 0 and 1.
     #[error("A blend source has to be 0 or 1 at location 0, and not {blend_src} at location {location}")]
     InvalidBlendSrcIndex {
         location: u32,
+        /// The index of the source.
         blend_src: u32,
     },
-    /// A member before has the same source.
+    /// A member before is the same source.
     #[error("Several members are the blend source {blend_src}")]
     BindingCollisionBlendSrc {
+        /// The index of the source.
         blend_src: u32,
     },
-    /// Another member has a location, but is no source.
+    /// A member beside the sources has a location, but is no source itself.
     #[error("A member at location {location} stands beside blend sources")]
     InvalidBlendSrcWithOtherBindings {
+        /// The location of the last such member.
         location: u32,
     },
     /// The two sources have different types.
@@ -113,71 +119,75 @@ pub enum VaryingError {
         blend_src_0_type: Handle<TypeTag>,
         blend_src_1_type: Handle<TypeTag>,
     },
-    /// Pipeline stages can't pass on values of the sources' type.
+    /// Pipeline stages can't pass values of the sources' type (WGSL "Input-output Locations").
     #[error("Values of the type {0:?} can't be passed between pipeline stages")]
     NotIOShareableType(Handle<TypeTag>),
-    /// Only one of the two sources is there.
+    /// Only one of the two sources exists.
     #[error("Only the blend source {present_blend_src} is there, and not the other one")]
     IncompleteBlendSrcUsage {
+        /// The index of the source that exists.
         present_blend_src: u32,
     },
 }
 
-/// Why a type is refused. Handles are of types, indexes of members, and numbers are bytes.
+/// Why a type is refused: naga's `TypeError`. A handle is that of the type at fault, an `index` that of a
+/// member, from 0, and offsets, sizes, spans and strides are in bytes.
 #[derive(Debug, PartialEq, Drop, Error)]
 pub enum TypeError {
-    /// The capability isn't given.
+    /// A type needs a capability that isn't given.
     #[error("Capability {0:?} is required")]
     MissingCapability(Capabilities),
-    /// No capability makes atomic scalars of this width and kind good.
+    /// No capability allows atomic scalars of this kind and width, in bytes.
     #[error("The {0:?} scalar width {1} is not supported for an atomic")]
     InvalidAtomicWidth(ScalarKind, u8),
-    /// A pointer's base can't be in a variable.
+    /// A pointer's base is not data (WGSL "Memory Views").
     #[error("Invalid type for pointer target {0:?}")]
     InvalidPointerBase(Handle<TypeTag>),
-    /// A pointer's base has no fixed size, and doesn't live in a storage buffer.
+    /// A pointer's base has no fixed size, and the pointer's space is not that of storage buffers.
     #[error("Unsized types like {base:?} must be in the `Storage` address space, not `{space:?}`")]
     InvalidPointerToUnsized {
         base: Handle<TypeTag>,
+        /// The pointer's space.
         space: AddressSpace,
     },
-    /// A member or element can't be one, or a comment is on a member of a type that has no such
-    /// member.
+    /// The type can't be that of a member or of an element of a binding array, or a doc comment is on a
+    /// member that the type doesn't have.
     #[error("Expected data type, found {0:?}")]
     InvalidData(Handle<TypeTag>),
-    /// An array's elements can't be of this type.
+    /// An array's elements are not data of a size that is fixed when a module is created (WGSL "Array
+    /// Types").
     #[error("Base type {0:?} for the array is invalid")]
     InvalidArrayBaseType(Handle<TypeTag>),
-    /// A matrix holds something other than floating-point numbers (WGSL).
+    /// A matrix has components other than floating-point numbers (WGSL "Matrix Types").
     #[error("Matrix elements must always be floating-point types")]
     MatrixElementNotFloat,
-    /// Never raised: no constant is specialized here.
+    /// Never returned: no constant is specialized here.
     #[error("The constant {0:?} is specialized, and cannot be used as an array size")]
     UnsupportedSpecializedArrayLength(Handle<ConstantTag>),
-    /// No image has this form.
+    /// Images of this form are not supported (WGSL "Texture Types").
     #[error("{what} of dimensionality {dim:?} and class {class:?} are not supported", what = images(.arrayed))]
     UnsupportedImageType {
         dim: ImageDimension,
         arrayed: bool,
         class: ImageClass,
     },
-    /// Never raised so far.
+    /// Never returned so far.
     #[error("Array stride {stride} does not match the expected {expected}")]
     InvalidArrayStride {
         stride: u32,
         expected: u32,
     },
-    /// A member has no fixed size, and isn't an array at the end of its struct. The text is the
-    /// member's name, or empty.
+    /// A member has no fixed size, and isn't an array at the end of its struct (WGSL "Structure Types").
+    /// The text is the member's name, or empty; the handle is that of the member's type.
     #[error("Field '{0}' can't be dynamically-sized, has type {1:?}")]
     InvalidDynamicArray(Text, Handle<TypeTag>),
-    /// The elements of a binding array are data, but no structs.
+    /// The elements of a binding array are data, but not structs. The handle is that of their type.
     #[error("The base handle {0:?} has to be a struct")]
     BindingArrayBaseTypeNotStruct(Handle<TypeTag>),
-    /// The elements of a binding array are images from outside.
+    /// The elements of a binding array are external images.
     #[error("Binding arrays of external textures are not yet supported")]
     BindingArrayBaseExternalTextures,
-    /// A member begins before the end of the one before it.
+    /// A member begins before the end of the one before it, and not at 0.
     #[error("Structure member[{index}] at {offset} overlaps the previous member")]
     MemberOverlap {
         index: u32,
@@ -188,25 +198,27 @@ pub enum TypeError {
     MemberOutOfBounds {
         index: u32,
         offset: u32,
+        /// The size of the member.
         size: u32,
+        /// The size of the struct.
         span: u32,
     },
     /// A struct has no members.
     #[error("Structure types must have at least one member")]
     EmptyStruct,
-    /// Some members are sources of blending, and can't be.
+    /// Some members are sources of blending, and can't be so.
     #[error("Invalid `@blend_src` structure: {0}")]
     InvalidBlendSrc(VaryingError),
-    /// A scalar has no good width.
+    /// A scalar's width is not allowed.
     #[error("{0}")]
     WidthError(WidthError),
-    /// Never raised: sizes that overrides decide are `InvalidArraySize`.
+    /// Never returned: sizes that overrides decide are `InvalidArraySize`.
     #[error("The base handle {0:?} has an override-expression that didn't get resolved to a constant")]
     UnresolvedOverride(Handle<TypeTag>),
-    /// Overrides have to have their values, and the one that sizes the array gives no count above 0.
+    /// Overrides must have their values, and the one that sizes this array gives no count above 0.
     #[error("Override-sized array type {0:?} does not have a positive size")]
     InvalidArraySize(Handle<TypeTag>),
-    /// A request for memory, for a name in an error, was refused.
+    /// Memory was refused for the name in an `InvalidDynamicArray`.
     #[error("Out of memory")]
     OutOfMemory,
 }
@@ -240,23 +252,31 @@ impl From<OutOfMemory> for TypeError {
     }
 }
 
-/// Why a value can't be composed. Handles are of types.
+/// Why a value can't be composed: naga's `ComposeError`.
 #[derive(Clone, Debug, PartialEq, Drop, Error)]
 pub enum ComposeError {
-    /// Values of the type aren't composed.
+    /// Values of this type aren't composed.
     #[error("Composing of type {0:?} can't be done")]
     Type_(Handle<TypeTag>),
     /// The components are too few or too many.
     #[error("Composing expects {expected} components but {given} were given")]
-    ComponentCount { given: u32, expected: u32 },
+    ComponentCount {
+        /// How many there are; of a vector, how many components of it they make.
+        given: u32,
+        /// How many the type has.
+        expected: u32,
+    },
     /// A component has the wrong type.
     #[error("Composing {index}'s component type is not expected")]
-    ComponentType { index: u32 },
+    ComponentType {
+        /// The place of the component, from 0.
+        index: u32,
+    },
 }
 
-/// The greatest number that an error can tell, where a number is above.
-pub(crate) fn told(number: u64) -> u32
-    ensures { result ≡ layouts.told number }
+/// A number as errors give it: the greatest `u32` in place of any above.
+pub(crate) fn saturated(number: u64) -> u32
+    ensures { result ≡ layouts.saturated number }
 {
     u32::try_from(number).unwrap_or(u32::MAX)
 }

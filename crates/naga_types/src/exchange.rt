@@ -1,31 +1,33 @@
-//! The structs that atomic compare-exchanges answer.
+//! The structs that atomic compare-exchanges return.
 
-ghost use Rattle.std.specs.Prelude.{◌≡◌, ◌<◌, All, Some, length};
-ghost use Rattle.std.specs.Fn.{FnOnceReturnsAt};
+ghost use Rattle.std.specs.Prelude.{◌≡◌, ◌<◌, All, IfNone, IfSome, Some, false, length};
+ghost use Rattle.std.specs.Fn.{FnOnceReturnsAt, FnOnceTakesAt};
+ghost use Rattle.std.specs.Option.{ForSome};
 ghost use Rattle.naga_ir_types.specs.declared.types.StructMember as member;
 ghost use Rattle.naga_types.specs.Exchange as spec;
-ghost use Rattle.naga_types.specs.Exchange.{Says};
+ghost use Rattle.naga_types.specs.Exchange.{old_value_form};
 
 use naga_ir::types::{Scalar, StructMember, TypeInner};
 use naga_ir::unique_arena::UniqueArena;
 
-/// Whether these are the members of a struct that an atomic compare-exchange answers: `old_value`, of
-/// a form that `scalar_predicate` accepts, and `exchanged`, a Boolean (naga). The predicate is called
-/// once at most, and only where the first member has its name.
+/// Whether these are the members of a struct that an atomic compare-exchange returns: `old_value`, of
+/// a form that `scalar_predicate` accepts, and `exchanged`, a Boolean. The rule is that of naga's
+/// function of this name. The predicate is called last, and only with the form of `old_value`.
 pub fn validate_atomic_compare_exchange_struct<P: FnOnce(&TypeInner) -> bool>(
     types: &UniqueArena,
     members: &[StructMember],
     scalar_predicate: P,
 ) -> bool
     requires exist { All (λ (m : member.StructMember). m.ty < length types.now) members.now }
-    requires callable { P.IsAlwaysCallable scalar_predicate }
-    ensures { Says (FnOnceReturnsAt P.FnOnce scalar_predicate) (spec.exchanged_form types.now members.now) result }
+    requires callable { ForSome (old_value_form types.now members.now) (λ inner. FnOnceTakesAt P.FnOnce scalar_predicate inner) }
+    ensures accepted { IfSome (old_value_form types.now members.now) (λ inner. FnOnceReturnsAt P.FnOnce scalar_predicate inner result) }
+    ensures others { IfNone (old_value_form types.now members.now) (result ≡ false) }
 {
     members.len() == 2
         && is_named(&members[0], "old_value")
-        && scalar_predicate(&types[members[0].ty].inner)
         && is_named(&members[1], "exchanged")
         && is_boolean(&types[members[1].ty].inner)
+        && scalar_predicate(&types[members[0].ty].inner)
 }
 
 /// Whether a member has this name.

@@ -1,4 +1,4 @@
-//! What is known of a type.
+//! The infos of types, and what types are judged by.
 
 ghost use Rattle.std.specs.Prelude.{◌≡◌, ◌==◌, ◌<◌, ◌≤◌, [], ◌∷◌, ◌++◌, length, IfOk, IsOk, OnErr, OnOk, Some, slice_get};
 
@@ -7,31 +7,32 @@ use naga_flags::flags::{Capabilities, TypeFlags};
 use naga_flags::width::ImmediateCompatibility;
 use naga_ir::alignment::Alignment;
 use naga_ir::handle::Handle;
+use naga_ir::handle_vec::HandleVec;
 use naga_ir::memory::OutOfMemory;
 use naga_ir::tags::TypeTag;
 use naga_typing::layouter::Layouter;
 use std::alloc::Global;
 use std::marker::Model;
 
-/// The alignment at which host and device may share values of a type, or the type inside it that
-/// stands against that, and why. It says something of host-shareable types alone.
+/// The alignment, in bytes, at which host and device may share values of a type in an address space, or
+/// the type inside it because of which they may not, and why. It matters for host-shareable types alone.
 pub type LayoutCompatibility = Result<Alignment, (Handle<TypeTag>, Disalignment)>;
 
-/// What is known of a type that was accepted.
+/// What is known of an accepted type: naga's `TypeInfo`.
 #[derive(Clone, Copy, Debug, PartialEq)]
 pub struct TypeInfo {
     /// What the type may be used for.
     pub flags: TypeFlags,
-    /// Its layout in the uniform address space.
+    /// Its layout in the uniform address space (WGSL "Address Space Layout Constraints").
     pub uniform_layout: LayoutCompatibility,
-    /// Its layout in the storage address space.
+    /// Its layout in the storage address space (WGSL "Alignment and Size").
     pub storage_layout: LayoutCompatibility,
     /// Whether immediates may hold it.
     pub immediates_compatibility: ImmediateCompatibility,
 }
 
 impl TypeInfo {
-    /// A type with one alignment in both address spaces, which immediates may hold.
+    /// The info of a type with one alignment in both address spaces, which immediates may hold.
     pub fn new(flags: TypeFlags, alignment: Alignment) -> TypeInfo
         ensures { result ≡ record { flags = flags; uniform_layout = Ok alignment; storage_layout = Ok alignment; immediates_compatibility = Ok tt } }
     {
@@ -48,27 +49,30 @@ impl TypeInfo {
 /// room for infos that takes no more memory.
 #[derive(Debug, Drop)]
 pub struct TypeInfos {
-    infos: Vec<TypeInfo>,
+    infos: HandleVec<TypeInfo, TypeTag>,
 }
 
 impl Model for TypeInfos {
-    ghost use Rattle.std.specs.Prelude.{vec_capacity};
     ghost use Rattle.naga_types.specs.Infos.{Infos};
 
     ghost Value = { Infos };
 
-    ghost view = { λ i. record { infos = i.infos.items; room = vec_capacity i.infos } };
+    ghost view = { λ i. record { infos = i.infos.items; room = i.infos.room } };
 }
 
 impl TypeInfos {
     /// No infos, with room for `room` of them.
+    ///
+    /// # Errors
+    ///
+    /// `OutOfMemory` if memory was refused; room for none takes no memory.
     pub fn with_room(alloc: Global, room: usize) -> Result<TypeInfos, OutOfMemory>
         ensures infos { IfOk result (λ i. i.infos ≡ []) }
         ensures room { IfOk result (λ i. i.room ≡ room) }
         ensures none { room ≡ 0 → IsOk result }
     {
         Ok(TypeInfos {
-            infos: Vec::with_capacity(alloc, room)?,
+            infos: HandleVec::with_capacity(alloc, room)?,
         })
     }
 
@@ -93,17 +97,20 @@ impl TypeInfos {
         self.infos.is_empty()
     }
 
-    /// Adds the info of the next type. Below the room this takes no memory; refused memory leaves
-    /// the infos as they were.
+    /// Adds the info of the next type. Below the room this takes no memory.
+    ///
+    /// # Errors
+    ///
+    /// `OutOfMemory` if memory was refused, which leaves the infos as they were.
     pub fn push(&mut self, info: TypeInfo) -> Result<(), OutOfMemory>
         ensures pushed { OnOk result (self.new.infos ≡ self.old.infos ++ info ∷ []) }
         ensures refused { OnErr result (self.new.infos ≡ self.old.infos) }
         ensures within_room { length self.old.infos < self.old.room → IsOk result }
         ensures room { self.old.room ≤ self.new.room }
     {
-        let _told = (info.uniform_layout, info.storage_layout);
-        self.infos.push(info)?;
-        Ok(())
+        // The prover has to meet the types inside an info before the info is pushed.
+        let _layouts = (info.uniform_layout, info.storage_layout);
+        self.infos.push(info)
     }
 
     /// The info of the type that a handle names.
@@ -111,7 +118,7 @@ impl TypeInfos {
         requires { handle < length self.now.infos }
         ensures { slice_get self.now.infos handle ≡ Some result }
     {
-        self.infos[handle.index()]
+        self.infos[handle]
     }
 
     /// Forgets all infos, and keeps the room.
@@ -125,11 +132,11 @@ impl TypeInfos {
 /// What a type is judged by, beside the module.
 #[derive(Clone, Copy)]
 pub struct TypeContext<'a> {
-    /// What the module may use.
+    /// What shaders may use.
     pub capabilities: Capabilities,
-    /// Whether overrides have to have their values.
+    /// Whether overrides must have their values.
     pub overrides_resolved: bool,
-    /// The infos of the types before.
+    /// The infos of the types before the one that is judged, or of more.
     pub infos: &'a TypeInfos,
     /// The layouts of all types.
     pub layouter: &'a Layouter,

@@ -1,18 +1,19 @@
-//! The rule of structs.
+//! The rule of structs (WGSL "Structure Types", "Structure Member Layout").
 
-ghost use Rattle.std.specs.Prelude.{◌≡◌, ◌<◌, All, OnOk, Some, length, slice_get};
+ghost use Rattle.std.specs.Prelude.{◌≡◌, ◌+◌, ◌<◌, All, OnOk, Some, length, slice_get, take};
 ghost use Rattle.std.specs.List.{enumerate_from, list_any};
 ghost use Rattle.naga_ir.specs.Handles.{GlobalReferencesOk};
 ghost use Rattle.naga_ir_types.specs.declared.types.StructMember as member;
-ghost use Rattle.naga_types.specs.Answers.{Answers};
+ghost use Rattle.naga_types.specs.RuleResults.{IsRuleResult};
 ghost use Rattle.naga_types.specs.Judging.{granted, judged};
 ghost use Rattle.naga_types.specs.Layouts as layouts;
 ghost use Rattle.naga_types.specs.StructRule as rule;
-ghost use Rattle.naga_types.specs.StructRule.{MembersKnown, around, sources_of};
-ghost use Rattle.naga_types.specs.Surroundings.{KnownBefore, info_at, surroundings};
+ghost use Rattle.naga_types.specs.Surroundings.{info_at, surroundings};
+ghost use Rattle.naga_types.specs.steps.KnownTypes.{KnownBefore};
+ghost use Rattle.naga_types.specs.steps.Structs.{MembersKnown, is_noted, layout_in, sources_of, surroundings_of, with_member};
 ghost use Rattle.naga_typing.specs.Context.{lists_of};
 
-use crate::error::{Disalignment, TypeError, VaryingError, told};
+use crate::error::{Disalignment, TypeError, VaryingError, saturated};
 use crate::info::{LayoutCompatibility, TypeContext, TypeInfo};
 use crate::validate::{require_type_capability, unshared_flags};
 use bitflags::Flags;
@@ -28,7 +29,7 @@ use naga_typing::context::GlobalCtx;
 use naga_typing::typifier::{TypeResolution, compare_types};
 use std::alloc::Global;
 
-/// The address spaces in which hosts share memory.
+/// The address spaces that hosts share.
 #[derive(Clone, Copy)]
 enum SharedSpace {
     Uniform,
@@ -38,7 +39,7 @@ enum SharedSpace {
 impl SharedSpace {
     /// The layout of a type in this space.
     fn layout(self, info: TypeInfo) -> LayoutCompatibility
-        ensures { result ≡ layouts.layout_in self info }
+        ensures { result ≡ layout_in self info }
     {
         match self {
             Self::Uniform => info.uniform_layout,
@@ -55,10 +56,10 @@ struct Sources {
 }
 
 impl Sources {
-    /// Notes a source of blending, where a member is one.
+    /// Notes a source of blending, if a member is one.
     fn note(&mut self, capabilities: Capabilities, member: &StructMember) -> Result<(), TypeError>
-        ensures judged { result ≡ judged (rule.source_conditions capabilities.0 self.old (rule.source_of member.now.binding)) tt }
-        ensures noted { OnOk result (self.new ≡ rule.with_member self.old member.now) }
+        ensures judged { result ≡ judged (rule.source_conditions capabilities.0 (is_noted self.old) (rule.source_of member.now.binding)) tt }
+        ensures noted { OnOk result (self.new ≡ with_member self.old member.now) }
     {
         let Some(
             Binding::Location {
@@ -101,29 +102,29 @@ struct StructType<'a> {
 }
 
 impl StructType<'_> {
-    /// What is known of the type of a member.
+    /// The info of the type of a member.
     fn info(&self, member: &StructMember) -> TypeInfo
         requires known { MembersKnown self.now }
         requires before { member.now.ty < self.now.handle }
-        ensures { result ≡ info_at (around self.now) member.now.ty }
+        ensures { result ≡ info_at (surroundings_of self.now) member.now.ty }
     {
         self.ctx.infos.get(member.ty)
     }
 
-    /// The first byte after a member.
+    /// The offset of the first byte after a member.
     fn end_of(&self, member: &StructMember) -> u64
         requires known { MembersKnown self.now }
         requires before { member.now.ty < self.now.handle }
-        ensures { result ≡ rule.end_in (around self.now) (Some member.now) }
+        ensures { result ≡ rule.end_in (surroundings_of self.now) (Some member.now) }
     {
         u64::from(member.offset) + u64::from(self.ctx.layouter[member.ty].size)
     }
 
-    /// The first byte after the member before the one at a place.
+    /// The offset of the first byte after the member before the one at a place.
     fn end_before(&self, index: usize) -> u64
         requires known { MembersKnown self.now }
         requires member { index < length self.now.members.now }
-        ensures { result ≡ rule.end_in (around self.now) (layouts.before self.now.members.now index) }
+        ensures { result ≡ rule.end_in (surroundings_of self.now) (layouts.before self.now.members.now index) }
     {
         if index == 0 {
             0
@@ -132,22 +133,22 @@ impl StructType<'_> {
         }
     }
 
-    /// Whether a member begins after the one before it or at 0, and ends within the struct.
+    /// Checks that a member begins after the one before it or at 0, and ends within the struct.
     fn check_place(&self, index: usize, member: &StructMember) -> Result<(), TypeError>
         requires known { MembersKnown self.now }
         requires member { slice_get self.now.members.now index ≡ Some member.now }
-        ensures { result ≡ judged (rule.place_conditions (around self.now) self.now.members.now self.now.span index member.now) tt }
+        ensures { result ≡ judged (rule.place_conditions (surroundings_of self.now) self.now.members.now self.now.span index member.now) tt }
     {
         let offset = member.offset;
         if offset != 0 && u64::from(offset) < self.end_before(index) {
             return Err(TypeError::MemberOverlap {
-                index: told(index as u64),
+                index: saturated(index as u64),
                 offset,
             });
         }
         if self.end_of(member) > u64::from(self.span) {
             return Err(TypeError::MemberOutOfBounds {
-                index: told(index as u64),
+                index: saturated(index as u64),
                 offset,
                 size: self.ctx.layouter[member.ty].size,
                 span: self.span,
@@ -156,7 +157,7 @@ impl StructType<'_> {
         Ok(())
     }
 
-    /// Whether a member has a fixed size, or is an array at the end.
+    /// Checks that a member has a fixed size, or is an array at the end.
     fn check_size(
         &self,
         alloc: Global,
@@ -165,7 +166,7 @@ impl StructType<'_> {
     ) -> Result<(), TypeError>
         requires known { MembersKnown self.now }
         requires member { slice_get self.now.members.now index ≡ Some member.now }
-        ensures { Answers (granted (rule.unsized_member (around self.now) self.now.members.now index member.now) tt) result }
+        ensures { IsRuleResult (granted (rule.unsized_member (surroundings_of self.now) self.now.members.now index member.now) tt) result }
     {
         let is_array = matches!(self.gctx.types[member.ty].inner, TypeInner::Array { .. });
         let is_last = index + 1 == self.members.len();
@@ -179,7 +180,7 @@ impl StructType<'_> {
         Err(TypeError::InvalidDynamicArray(name, member.ty))
     }
 
-    /// Whether a member may stand where it does. Its source of blending is noted.
+    /// Checks a member, the one at `index`, and notes the source of blending that it is, if it is one.
     fn check_member(
         &self,
         alloc: Global,
@@ -189,8 +190,9 @@ impl StructType<'_> {
     ) -> Result<(), TypeError>
         requires known { MembersKnown self.now }
         requires member { slice_get self.now.members.now index ≡ Some member.now }
-        ensures judged { Answers (judged (rule.member_conditions (around self.now) self.now.members.now self.now.span sources.old (index, member.now)) tt) result }
-        ensures noted { OnOk result (sources.new ≡ rule.with_member sources.old member.now) }
+        requires noted { sources.old ≡ sources_of (take index self.now.members.now) }
+        ensures judged { IsRuleResult (judged (rule.member_conditions (surroundings_of self.now) self.now.members.now self.now.span (index, member.now)) tt) result }
+        ensures noted { OnOk result (sources.new ≡ sources_of (take (index + 1) self.now.members.now)) }
     {
         let data = TypeFlags::DATA.union(TypeFlags::CREATION_RESOLVED);
         if !self.info(member).flags.contains(data) {
@@ -201,10 +203,10 @@ impl StructType<'_> {
         self.check_size(alloc, index, member)
     }
 
-    /// The sources of blending, where all members may stand where they do.
+    /// Checks all members, and returns the sources of blending.
     fn check_members(&self, alloc: Global) -> Result<Sources, TypeError>
         requires { MembersKnown self.now }
-        ensures { Answers (judged (rule.member_refusals (around self.now) self.now.members.now self.now.span) (sources_of self.now.members.now)) result }
+        ensures { IsRuleResult (judged (rule.member_refusals (surroundings_of self.now) self.now.members.now self.now.span) (sources_of self.now.members.now)) result }
     {
         let mut sources = Sources {
             first: None,
@@ -235,7 +237,7 @@ impl StructType<'_> {
         last
     }
 
-    /// Whether the two sources of blending may stand beside each other.
+    /// Checks that the two sources of blending, of these types, go together.
     fn check_pair(
         &self,
         first: Handle<TypeTag>,
@@ -244,8 +246,8 @@ impl StructType<'_> {
         requires known { MembersKnown self.now }
         requires first { first < self.now.handle }
         requires second { second < self.now.handle }
-        requires references { GlobalReferencesOk (around self.now).lists }
-        ensures { result ≡ judged (rule.pair_conditions (around self.now) self.now.members.now (Some first) (Some second)) tt }
+        requires references { GlobalReferencesOk (surroundings_of self.now).lists }
+        ensures { result ≡ judged (rule.pair_conditions (surroundings_of self.now) self.now.members.now (Some first) (Some second)) tt }
     {
         if let Some(location) = self.other_location() {
             return Err(VaryingError::InvalidBlendSrcWithOtherBindings { location });
@@ -265,12 +267,12 @@ impl StructType<'_> {
         Ok(())
     }
 
-    /// Whether there are both sources of blending, which may stand beside each other, or none.
+    /// Checks that there are both sources of blending, which go together, or none.
     fn check_sources(&self, sources: &Sources) -> Result<(), VaryingError>
         requires known { MembersKnown self.now }
         requires sources { sources.now ≡ sources_of self.now.members.now }
-        requires references { GlobalReferencesOk (around self.now).lists }
-        ensures { result ≡ judged (rule.pair_conditions (around self.now) self.now.members.now sources.now.first sources.now.second) tt }
+        requires references { GlobalReferencesOk (surroundings_of self.now).lists }
+        ensures { result ≡ judged (rule.pair_conditions (surroundings_of self.now) self.now.members.now sources.now.first sources.now.second) tt }
     {
         match (sources.first, sources.second) {
             (None, None) => Ok(()),
@@ -287,7 +289,7 @@ impl StructType<'_> {
     /// What all members may be used for.
     fn common_flags(&self) -> TypeFlags
         requires { MembersKnown self.now }
-        ensures { result ≡ record { 0 = rule.common_flags (around self.now) self.now.members.now } }
+        ensures { result ≡ record { 0 = rule.common_flags (surroundings_of self.now) self.now.members.now } }
     {
         let mut flags = unshared_flags();
         for member in self.members {
@@ -299,7 +301,7 @@ impl StructType<'_> {
     /// Whether a member begins at 0, below the end of the one before it.
     fn goes_back(&self) -> bool
         requires { MembersKnown self.now }
-        ensures { result ≡ list_any (rule.goes_back (around self.now) self.now.members.now) (enumerate_from 0 self.now.members.now) }
+        ensures { result ≡ list_any (rule.goes_back (surroundings_of self.now) self.now.members.now) (enumerate_from 0 self.now.members.now) }
     {
         for index in 0..self.members.len() {
             if self.members[index].offset == 0 && self.end_before(index) > 0 {
@@ -313,7 +315,7 @@ impl StructType<'_> {
     fn flags(&self, sources: &Sources) -> TypeFlags
         requires known { MembersKnown self.now }
         requires sources { sources.now ≡ sources_of self.now.members.now }
-        ensures { result ≡ record { 0 = rule.struct_flags (around self.now) self.now.members.now } }
+        ensures { result ≡ record { 0 = rule.struct_flags (surroundings_of self.now) self.now.members.now } }
     {
         let mut flags = self.common_flags();
         if self.goes_back() {
@@ -328,7 +330,7 @@ impl StructType<'_> {
     /// Whether immediates may hold the struct.
     fn immediates_compatibility(&self) -> ImmediateCompatibility
         requires { MembersKnown self.now }
-        ensures { result ≡ rule.struct_immediates (around self.now) self.now.members.now }
+        ensures { result ≡ rule.struct_immediates (surroundings_of self.now) self.now.members.now }
     {
         let mut compatibility = Ok(());
         for member in self.members {
@@ -340,7 +342,7 @@ impl StructType<'_> {
         compatibility
     }
 
-    /// Whether a member is shared by hosts, and stands at a multiple of its alignment.
+    /// Checks that a member is host-shareable, and stands at a multiple of its alignment.
     fn check_layout(
         &self,
         space: SharedSpace,
@@ -349,7 +351,7 @@ impl StructType<'_> {
     ) -> Result<(), (Handle<TypeTag>, Disalignment)>
         requires known { MembersKnown self.now }
         requires before { member.now.ty < self.now.handle }
-        ensures { result ≡ granted (layouts.member_failure (around self.now) space self.now.handle (index, member.now)) tt }
+        ensures { result ≡ granted (layouts.member_failure (surroundings_of self.now) (layout_in space) self.now.handle (index, member.now)) tt }
     {
         let info = self.info(member);
         if !info.flags.contains(TypeFlags::HOST_SHAREABLE) {
@@ -362,17 +364,17 @@ impl StructType<'_> {
         Err((
             self.handle,
             Disalignment::MemberOffset {
-                index: told(index as u64),
+                index: saturated(index as u64),
                 offset: member.offset,
                 alignment,
             },
         ))
     }
 
-    /// Whether so it is with all members.
+    /// Checks so all members.
     fn check_layouts(&self, space: SharedSpace) -> Result<(), (Handle<TypeTag>, Disalignment)>
         requires { MembersKnown self.now }
-        ensures { result ≡ judged (layouts.member_failures (around self.now) space self.now.handle self.now.members.now) tt }
+        ensures { result ≡ judged (layouts.member_failures (surroundings_of self.now) (layout_in space) self.now.handle self.now.members.now) tt }
     {
         for index in 0..self.members.len() {
             self.check_layout(space, index, &self.members[index])?;
@@ -383,7 +385,7 @@ impl StructType<'_> {
     /// The greatest alignment of the members.
     fn greatest_alignment(&self, space: SharedSpace) -> Alignment
         requires { MembersKnown self.now }
-        ensures { result ≡ layouts.greatest_alignment (around self.now) space self.now.members.now }
+        ensures { result ≡ layouts.greatest_alignment (surroundings_of self.now) (layout_in space) self.now.members.now }
     {
         let mut greatest = Alignment::ONE;
         for member in self.members {
@@ -392,10 +394,10 @@ impl StructType<'_> {
         greatest
     }
 
-    /// Whether the span is a multiple of the struct's alignment.
+    /// Checks that the span is a multiple of the struct's alignment.
     fn check_span(&self) -> Result<(), (Handle<TypeTag>, Disalignment)>
         requires { MembersKnown self.now }
-        ensures { result ≡ granted (layouts.span_failure (around self.now) self.now.handle self.now.span) tt }
+        ensures { result ≡ granted (layouts.span_failure (surroundings_of self.now) self.now.handle self.now.span) tt }
     {
         let alignment = self.ctx.layouter[self.handle].alignment;
         if alignment.is_aligned(self.span) {
@@ -410,21 +412,22 @@ impl StructType<'_> {
         ))
     }
 
-    /// The layout in a storage buffer.
+    /// The layout in the storage address space.
     fn storage_layout(&self) -> LayoutCompatibility
         requires { MembersKnown self.now }
-        ensures { result ≡ layouts.storage_layout_of (around self.now) self.now.handle self.now.members.now self.now.span }
+        ensures { result ≡ layouts.storage_layout_of (surroundings_of self.now) self.now.handle self.now.members.now self.now.span }
     {
         self.check_span()?;
         self.check_layouts(SharedSpace::Storage)?;
         Ok(self.greatest_alignment(SharedSpace::Storage))
     }
 
-    /// The first byte that may follow the member before the one at a place, where that is a struct.
+    /// The first offset that the member at a place may have after the struct before it, and 0 if no
+    /// struct is before it.
     fn room_before(&self, index: usize) -> u64
         requires known { MembersKnown self.now }
         requires member { index < length self.now.members.now }
-        ensures { result ≡ layouts.room_before (around self.now) self.now.members.now index }
+        ensures { result ≡ layouts.room_before (surroundings_of self.now) self.now.members.now index }
     {
         if index == 0 {
             return 0;
@@ -434,14 +437,26 @@ impl StructType<'_> {
             TypeInner::Struct { span, .. } => {
                 u64::from(before.offset) + Alignment::MIN_UNIFORM.round_up(span)
             }
-            _ => 0,
+            TypeInner::Scalar(_)
+            | TypeInner::Vector { .. }
+            | TypeInner::Matrix { .. }
+            | TypeInner::CooperativeMatrix { .. }
+            | TypeInner::Atomic(_)
+            | TypeInner::Pointer { .. }
+            | TypeInner::ValuePointer { .. }
+            | TypeInner::Array { .. }
+            | TypeInner::Image { .. }
+            | TypeInner::Sampler { .. }
+            | TypeInner::AccelerationStructure { .. }
+            | TypeInner::RayQuery { .. }
+            | TypeInner::BindingArray { .. } => 0,
         }
     }
 
-    /// The last member that stands in the room of the struct before it.
+    /// The failure of the last member that stands in the room of the struct before it.
     fn last_in_room(&self) -> Option<(Handle<TypeTag>, Disalignment)>
         requires { MembersKnown self.now }
-        ensures { result ≡ layouts.last_room_failure (around self.now) self.now.handle self.now.members.now }
+        ensures { result ≡ layouts.last_room_failure (surroundings_of self.now) self.now.handle self.now.members.now }
     {
         let mut last = None;
         for index in 0..self.members.len() {
@@ -451,9 +466,9 @@ impl StructType<'_> {
                 last = Some((
                     self.handle,
                     Disalignment::MemberOffsetAfterStruct {
-                        index: told(index as u64),
+                        index: saturated(index as u64),
                         offset,
-                        expected: told(room),
+                        expected: saturated(room),
                     },
                 ));
             }
@@ -461,25 +476,25 @@ impl StructType<'_> {
         last
     }
 
-    /// Whether all members have fixed sizes.
+    /// Checks that all members have fixed sizes.
     fn check_sizes(&self) -> Result<(), (Handle<TypeTag>, Disalignment)>
         requires { MembersKnown self.now }
-        ensures { result ≡ judged (layouts.size_failures (around self.now) self.now.handle self.now.members.now) tt }
+        ensures { result ≡ judged (layouts.size_failures (surroundings_of self.now) self.now.handle self.now.members.now) tt }
     {
         for index in 0..self.members.len() {
             let info = self.info(&self.members[index]);
             if !info.flags.contains(TypeFlags::SIZED) {
-                let index = told(index as u64);
+                let index = saturated(index as u64);
                 return Err((self.handle, Disalignment::UnsizedMember { index }));
             }
         }
         Ok(())
     }
 
-    /// The layout in a uniform buffer.
+    /// The layout in the uniform address space (WGSL "Address Space Layout Constraints").
     fn uniform_layout(&self) -> LayoutCompatibility
         requires { MembersKnown self.now }
-        ensures { result ≡ layouts.uniform_layout_of (around self.now) self.now.handle self.now.members.now self.now.span }
+        ensures { result ≡ layouts.uniform_layout_of (surroundings_of self.now) self.now.handle self.now.members.now self.now.span }
     {
         self.check_span()?;
         if let Some(error) = self.last_in_room() {
@@ -494,7 +509,7 @@ impl StructType<'_> {
     }
 }
 
-/// What is known of a struct, or why it is refused.
+/// The info of a struct, or why it is refused.
 pub(crate) fn validate_struct<'a>(
     alloc: Global,
     ctx: TypeContext<'a>,
@@ -506,25 +521,25 @@ pub(crate) fn validate_struct<'a>(
     requires known { KnownBefore (surroundings ctx gctx) handle }
     requires members { All (λ (m : member.StructMember). m.ty < handle) members.now }
     requires references { GlobalReferencesOk (lists_of gctx) }
-    ensures { Answers (rule.struct_rule (surroundings ctx.entry gctx.entry) handle members.now span) result }
+    ensures { IsRuleResult (rule.struct_rule (surroundings ctx.entry gctx.entry) handle members.now span) result }
 {
     if members.is_empty() {
         return Err(TypeError::EmptyStruct);
     }
-    let it = StructType {
+    let ty = StructType {
         ctx,
         gctx,
         handle,
         members,
         span,
     };
-    let sources = it.check_members(alloc)?;
-    it.check_sources(&sources)
+    let sources = ty.check_members(alloc)?;
+    ty.check_sources(&sources)
         .map_err(TypeError::InvalidBlendSrc)?;
     Ok(TypeInfo {
-        flags: it.flags(&sources),
-        uniform_layout: it.uniform_layout(),
-        storage_layout: it.storage_layout(),
-        immediates_compatibility: it.immediates_compatibility(),
+        flags: ty.flags(&sources),
+        uniform_layout: ty.uniform_layout(),
+        storage_layout: ty.storage_layout(),
+        immediates_compatibility: ty.immediates_compatibility(),
     })
 }

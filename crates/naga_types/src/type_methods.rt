@@ -6,7 +6,8 @@ ghost use Rattle.naga_types.specs.TypeRule as rule;
 
 use naga_ir::types::{ArraySize, ImageDimension, ScalarKind, TypeInner, VectorSize};
 
-/// Whether values of a form have a size, in bytes, that the module alone tells. The rule is naga's.
+/// Whether values of a form have a size that is fixed in the module: no override decides it, and no
+/// buffer. The rule is that of naga's `TypeInner::is_sized`.
 pub fn is_sized(inner: &TypeInner) -> bool
     ensures { result ≡ spec.is_sized inner.now }
 {
@@ -32,8 +33,8 @@ pub fn is_sized(inner: &TypeInner) -> bool
     }
 }
 
-/// The dimension of the storage images that values of a form are coordinates in: of one integer, or
-/// of two or three (WGSL). Other forms are coordinates in none.
+/// The dimension of the storage images in which values of a form are coordinates: those of one, two or
+/// three integers (WGSL "Storage Texture Types"). Other forms are coordinates in none.
 pub fn image_storage_coordinates(inner: &TypeInner) -> Option<ImageDimension>
     ensures { result ≡ spec.image_storage_coordinates inner.now }
 {
@@ -44,7 +45,20 @@ pub fn image_storage_coordinates(inner: &TypeInner) -> Option<ImageDimension>
             VectorSize::Tri => Some(ImageDimension::D3),
             VectorSize::Quad => None,
         },
-        _ => None,
+        TypeInner::Scalar(_)
+        | TypeInner::Vector { .. }
+        | TypeInner::Matrix { .. }
+        | TypeInner::CooperativeMatrix { .. }
+        | TypeInner::Atomic(_)
+        | TypeInner::Pointer { .. }
+        | TypeInner::ValuePointer { .. }
+        | TypeInner::Array { .. }
+        | TypeInner::Struct { .. }
+        | TypeInner::Image { .. }
+        | TypeInner::Sampler { .. }
+        | TypeInner::AccelerationStructure { .. }
+        | TypeInner::RayQuery { .. }
+        | TypeInner::BindingArray { .. } => None,
     }
 }
 

@@ -1,1 +1,2 @@
 mod HoldsBefore
+mod Overloads

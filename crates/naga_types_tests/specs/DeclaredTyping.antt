@@ -1,17 +1,18 @@
--- A typing that knows no type but those that the laws name.
+-- A typing that supports only the forms whose types the laws give.
 use Rattle.std.specs.Prelude.{◌≡◌, List, Ok, Err}
+use Rattle.naga_ir.specs.ItemReferences.{global_lists}
 use Rattle.naga_ir.specs.declared.expression.Expression.{Expression}
 use Rattle.naga_ir.specs.declared.expression.Expression.TheVariants as form
 use Rattle.naga_ir.specs.declared.ir.Module.{Module}
 use Rattle.naga_typing.specs.PlainLaws.{plain_lawful}
-use Rattle.naga_typing.specs.PlainTyping.{Answer, plain_resolves}
+use Rattle.naga_typing.specs.PlainTyping.{ResolveResult, plain_resolves}
 use Rattle.naga_typing.specs.Resolutions.{IsProperResolution, ResolutionExists}
 use Rattle.naga_typing.specs.Typings.{CanResolve, IsLawful}
 use Rattle.naga_typing.specs.declared.typifier.ResolveError.TheVariants.{NotResolvable, OutOfMemory}
 use Rattle.naga_typing.specs.declared.typifier.TypeResolution.{TypeResolution}
 
 -- the type of an expression with a declared type, of a literal or of a splat
-unfoldable pub declared_resolves : Module → Expression → List TypeResolution → Answer
+unfoldable pub declared_resolves : Module → Expression → List TypeResolution → ResolveResult
 declared_resolves m (form.Literal value) earlier = plain_resolves m (form.Literal value) earlier
 declared_resolves m (form.Constant c) earlier = plain_resolves m (form.Constant c) earlier
 declared_resolves m (form.Override o) earlier = plain_resolves m (form.Override o) earlier
@@ -20,8 +21,8 @@ declared_resolves m (form.Compose ty components) earlier = plain_resolves m (for
 declared_resolves m (form.Splat size value) earlier = plain_resolves m (form.Splat size value) earlier
 declared_resolves m _ earlier = Err NotResolvable
 
--- what it answers is there
-exist : (m : Module) (x : Expression) (earlier : List TypeResolution) (r : TypeResolution) → CanResolve m x earlier → declared_resolves m x earlier ≡ Ok r → ResolutionExists m.types r
+-- everything that such a type refers to exists
+exist : (m : Module) (x : Expression) (earlier : List TypeResolution) (r : TypeResolution) → CanResolve m x earlier → declared_resolves m x earlier ≡ Ok r → ResolutionExists (global_lists m) r
 unfolding declared_resolves
 exist m (form.Literal value) earlier r can is = plain_lawful.exist m (form.Literal value) earlier r can is
 exist m (form.Constant c) earlier r can is = plain_lawful.exist m (form.Constant c) earlier r can is
@@ -31,7 +32,7 @@ exist m (form.Compose ty components) earlier r can is = plain_lawful.exist m (fo
 exist m (form.Splat size value) earlier r can is = plain_lawful.exist m (form.Splat size value) earlier r can is
 exist m _ earlier r can is = cc
 
--- and proper
+-- and the type is proper
 proper : (m : Module) (x : Expression) (earlier : List TypeResolution) (r : TypeResolution) → CanResolve m x earlier → declared_resolves m x earlier ≡ Ok r → IsProperResolution r
 unfolding declared_resolves
 proper m (form.Literal value) earlier r can is = plain_lawful.proper m (form.Literal value) earlier r can is
@@ -42,7 +43,7 @@ proper m (form.Compose ty components) earlier r can is = plain_lawful.proper m (
 proper m (form.Splat size value) earlier r can is = plain_lawful.proper m (form.Splat size value) earlier r can is
 proper m _ earlier r can is = cc
 
--- no answer is a want of memory
+-- and the typing is never out of memory
 decided : (m : Module) (x : Expression) (earlier : List TypeResolution) → CanResolve m x earlier → declared_resolves m x earlier ≡ Err OutOfMemory → ⊥
 unfolding declared_resolves
 decided m (form.Literal value) earlier can is = plain_lawful.decided m (form.Literal value) earlier can is
@@ -53,7 +54,7 @@ decided m (form.Compose ty components) earlier can is = plain_lawful.decided m (
 decided m (form.Splat size value) earlier can is = plain_lawful.decided m (form.Splat size value) earlier can is
 decided m _ earlier can is = cc
 
--- it keeps the laws
+-- it is a lawful typing
 pub declared_lawful : IsLawful declared_resolves
 unfolding declared_resolves
 declared_lawful = record {

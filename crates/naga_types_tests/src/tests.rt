@@ -4,8 +4,10 @@
 ghost use Rattle.naga_ir.specs.Handles.{GlobalReferencesOk};
 ghost use Rattle.naga_ir.specs.ItemReferences.{global_lists};
 
+mod arguments;
 mod compose;
 mod constants;
+mod errors;
 mod exprs;
 mod flags;
 mod forms;
@@ -19,6 +21,8 @@ mod structs;
 mod text;
 mod types;
 mod typings;
+mod variables;
+mod whole_infos;
 
 use naga_flags::flags::Capabilities;
 use naga_handles::handles::validate_module_handles;

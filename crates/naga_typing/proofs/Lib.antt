@@ -1,13 +1,15 @@
+pub mod CanResolve
+pub mod Existence
+pub mod ExpressionTypes
 pub mod FormOperands
-pub mod Greatest
-pub mod LatestKinds
-pub mod Laying
+pub mod GreatestAlignment
+pub mod InOrder
+pub mod Iteration
+pub mod ExpressionKinds
+pub mod LayoutPass
 pub mod Layouts
-pub mod Named
+pub mod Lengths
 pub mod Pointers
 pub mod Powers
 pub mod Resolutions
-pub mod Resolving
 mod Sameness
-pub mod WorkedOut
-pub mod Working

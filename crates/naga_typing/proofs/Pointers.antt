@@ -1,4 +1,4 @@
--- Following pointers to what stands behind them.
+-- Following pointers to the form that they lead to.
 use Rattle.std.proofs.Common.{◌≡◌, ◌<◌, ℕ, suc, List, Some, Contains, length, map, slice_get, refl, sym, subst, arith, option_to_list}
 use Rattle.std.proofs.lemmas.List.Elements.{All-contains, Contains-append_left}
 use Rattle.naga_ir.specs.Handles.{ExistsGlobally, GlobalReferencesOk}
@@ -10,12 +10,12 @@ use Rattle.naga_ir_types.specs.declared.types.«Type».{«Type»}
 use Rattle.naga_ir_types.specs.declared.types.AddressSpace.{AddressSpace}
 use Rattle.naga_ir_types.specs.declared.types.TypeInner.{TypeInner}
 use Rattle.naga_ir_types.specs.declared.types.TypeInner.TheVariants.{Pointer}
-use Rattle.naga_ir.proofs.Reached.{parts_come_before}
-use Rattle.naga_typing.proofs.Named.{references_exist}
+use Rattle.naga_ir.proofs.ReferredTo.{parts_come_before}
+use Rattle.naga_typing.proofs.Existence.{references_exist}
 use Rattle.naga_typing.specs.Context.{ReferencesExist}
-use Rattle.naga_typing.specs.Index.{IsNoPointer, StandsBehind, itself, pointed_to}
+use Rattle.naga_typing.specs.Index.{IsNoPointer, PointsTo, itself, pointed_to}
 
--- how far back a pointer leads at most
+-- one more than the index that a pointer points to, and 0 for other forms
 abbrev pub pointers_left : TypeInner → ℕ
 pointers_left (Pointer base space) = suc base
 pointers_left _ = 0
@@ -28,31 +28,31 @@ type_of_pointer : (base : ℕ) (space : AddressSpace) → Contains (map to.Type_
 unfolding parts
 type_of_pointer base space = (0, omega arith, refl)
 
--- the base of a pointer is there
-pub pointer_base_is_there : (g : GlobalLists) (inner : TypeInner) (base : ℕ) (space : AddressSpace) → ReferencesExist g inner → inner ≡ Pointer base space → base < length g.types
-pointer_base_is_there g inner base space there e =
+-- the base of a pointer exists
+pub pointer_base_exists : (g : GlobalLists) (inner : TypeInner) (base : ℕ) (space : AddressSpace) → ReferencesExist g inner → inner ≡ Pointer base space → base < length g.types
+pointer_base_exists g inner base space exist e =
     let form : TypeInner = Pointer base space in
     let named : List Reference = map to.Type_ (parts form) in
-    All-contains (ExistsGlobally g) (type_references form) (to.Type_ base) (subst (ReferencesExist g) e there)
+    All-contains (ExistsGlobally g) (type_references form) (to.Type_ base) (subst (ReferencesExist g) e exist)
     (Contains-append_left named (map to.Override (option_to_list (size_override form))) (to.Type_ base) (type_of_pointer base space))
 
 module _ (g : GlobalLists) where
-  -- from one form pointers were followed to another
+  -- pointers lead from one form to another
   pub record Following (from now : TypeInner) : Type 0 where
-    pub there : ReferencesExist g now
-    pub leads : (x : TypeInner) → StandsBehind g.types now x → StandsBehind g.types from x
+    pub exist : ReferencesExist g now
+    pub leads : (x : TypeInner) → PointsTo g.types now x → PointsTo g.types from x
 
   pub begin : (from : TypeInner) → ReferencesExist g from → Following from from
-  begin from there = record { there = there; leads = λ x h. h }
+  begin from exist = record { exist = exist; leads = λ x h. h }
 
   module _ (ok : GlobalReferencesOk g) (from now : TypeInner) (base : ℕ) (space : AddressSpace) (t : «Type») (e : now ≡ Pointer base space) (at : slice_get g.types base ≡ Some t) where
     pub follow : Following from now → Following from t.inner
     follow f = record {
-      there = references_exist g ok base t at;
-      leads = λ x h. f.leads x (subst (λ i. StandsBehind g.types i x) (sym e) (pointed_to base space t x at h));
+      exist = references_exist g ok base t at;
+      leads = λ x h. f.leads x (subst (λ i. PointsTo g.types i x) (sym e) (pointed_to base space t x at h));
     }
 
-    -- a pointer that is followed leads back
+    -- the base of a pointer precedes it
     pub nearer : pointers_left t.inner < pointers_left now
     nearer = subst (λ i. pointers_left t.inner < pointers_left i) (sym e) (by_form t.inner refl)
       where
@@ -61,5 +61,5 @@ module _ (g : GlobalLists) where
             let back : b < base = parts_come_before g ok base t b at (subst (λ i. Contains (parts i) b) (sym is) (parts_of_pointer b s)) in omega (arith, back)
         by_form _ is = omega arith
 
-  pub end : (from now : TypeInner) → Following from now → IsNoPointer now → StandsBehind g.types from now
+  pub end : (from now : TypeInner) → Following from now → IsNoPointer now → PointsTo g.types from now
   end from now f none = f.leads now (itself now none)

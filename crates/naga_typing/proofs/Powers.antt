@@ -1,4 +1,4 @@
--- Twice and four times a number is a power of two just where the number is.
+-- Twice and four times a number is a power of two exactly if the number is.
 use Rattle.std.proofs.Common.{◌≡◌, ◌==◌, ℕ, true, ◌+◌, ◌*◌, ◌/◌, ◌%◌, count_ones, refl, ap, ◌∙◌, arith}
 use Rattle.std.specs.Int.{is_power_of_two}
 use Rattle.naga_ir_types.specs.declared.types.VectorSize.{VectorSize}
@@ -15,7 +15,7 @@ ones-double n =
 ones-four : (n : ℕ) → count_ones (4 * n) ≡ count_ones n
 ones-four n = ap count_ones (let twice : 4 * n ≡ 2 * (2 * n) = omega arith in twice) ∙ ones-double (2 * n) ∙ ones-double n
 
--- the alignment of a vector is a power of two just where the width of its scalars is
+-- the alignment of a vector is a power of two exactly if the width of its scalars is
 pub power_of_vector : (size : VectorSize) (n : ℕ) → is_power_of_two (vector_alignment size * n) ≡ is_power_of_two n
 power_of_vector Bi n = ap (λ k. k == 1) (ones-double n)
 power_of_vector Tri n = ap (λ k. k == 1) (ones-four n)

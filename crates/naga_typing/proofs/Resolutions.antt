@@ -1,4 +1,4 @@
--- Handles in forms and resolutions are there.
+-- The types that resolutions name exist.
 use Rattle.std.proofs.Common.{◌≡◌, ◌<◌, ℕ, List, length, subst}
 use Rattle.naga_ir_types.specs.declared.types.«Type».{«Type»}
 use Rattle.naga_ir_types.specs.declared.types.AddressSpace.{AddressSpace}
@@ -7,6 +7,6 @@ use Rattle.naga_ir_types.specs.declared.types.TypeInner.TheVariants.{Pointer}
 use Rattle.naga_typing.proofs.Pointers.{parts_of_pointer}
 use Rattle.naga_typing.specs.Resolutions.{PartsExist}
 
--- the base of a pointer is there
+-- the base of a pointer exists
 pub base_exists : (types : List «Type») (inner : TypeInner) (base : ℕ) (space : AddressSpace) → PartsExist types inner → inner ≡ Pointer base space → base < length types
 base_exists types inner base space exist e = subst (PartsExist types) e exist base (parts_of_pointer base space)

@@ -1,4 +1,4 @@
--- What a context refers to, as lists.
+-- The lists of a context.
 use Rattle.std.specs.Prelude.{All}
 use Rattle.naga_ir.specs.Handles.{ExistsGlobally}
 use Rattle.naga_ir.specs.ItemReferences.{GlobalLists, type_references}
@@ -9,6 +9,6 @@ use Rattle.naga_typing.specs.declared.context.GlobalCtx.{GlobalCtx}
 abbrev pub lists_of : GlobalCtx → GlobalLists
 lists_of g = record { types = g.types.now; constants = g.constants.now; overrides = g.overrides.now; expressions = g.global_expressions.now }
 
--- what a form of a type refers to is there
+-- everything that a form refers to exists
 abbrev pub ReferencesExist : GlobalLists → TypeInner → Type 0
 ReferencesExist g inner = All (ExistsGlobally g) (type_references inner)

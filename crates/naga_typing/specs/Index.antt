@@ -1,4 +1,4 @@
--- How many elements a value has that can be indexed.
+-- The indexable length of a type: how many elements a value has that can be indexed.
 use Rattle.std.specs.Prelude.{◌≡◌, ℕ, List, Option, Some, None, Result, Ok, Err, slice_get, ⊤}
 use Rattle.naga_ir.specs.ItemReferences.{GlobalLists}
 use Rattle.naga_ir_types.specs.Sizes.{components}
@@ -7,59 +7,74 @@ use Rattle.naga_ir_types.specs.declared.types.AddressSpace.{AddressSpace}
 use Rattle.naga_ir_types.specs.declared.types.ArraySize.{ArraySize}
 use Rattle.naga_ir_types.specs.declared.types.ArraySize.TheVariants as size
 use Rattle.naga_ir_types.specs.declared.types.TypeInner.{TypeInner}
-use Rattle.naga_ir_types.specs.declared.types.TypeInner.TheVariants.{Vector, Matrix, Pointer, ValuePointer, Array, BindingArray}
+use Rattle.naga_ir_types.specs.declared.types.TypeInner.TheVariants.{Scalar, Vector, Matrix, CooperativeMatrix, Atomic, Pointer, ValuePointer, Array, Struct, Image, Sampler, AccelerationStructure, RayQuery, BindingArray}
 use Rattle.naga_typing.specs.Constants.{override_count}
 use Rattle.naga_typing.specs.declared.index.IndexableLength.{IndexableLength}
 use Rattle.naga_typing.specs.declared.index.IndexableLength.TheVariants.{Known, Pending, Dynamic}
 use Rattle.naga_typing.specs.declared.index.IndexableLengthError.{IndexableLengthError}
 use Rattle.naga_typing.specs.declared.index.IndexableLengthError.TheVariants.{TypeNotIndexable, InvalidArrayLength}
 
--- a form is no pointer to a type
+-- a form is no pointer to a type of the module
 abbrev pub IsNoPointer : TypeInner → Type 0
 IsNoPointer (Pointer base space) = ⊥
-IsNoPointer _ = ⊤
+IsNoPointer (Scalar scalar) = ⊤
+IsNoPointer (Vector size scalar) = ⊤
+IsNoPointer (Matrix columns rows scalar) = ⊤
+IsNoPointer (CooperativeMatrix columns rows scalar role) = ⊤
+IsNoPointer (Atomic scalar) = ⊤
+IsNoPointer (ValuePointer size scalar space) = ⊤
+IsNoPointer (Array base size stride) = ⊤
+IsNoPointer (Struct members span) = ⊤
+IsNoPointer (Image dim arrayed class) = ⊤
+IsNoPointer (Sampler comparison) = ⊤
+IsNoPointer (AccelerationStructure vertex_return) = ⊤
+IsNoPointer (RayQuery vertex_return) = ⊤
+IsNoPointer (BindingArray base size) = ⊤
 
--- a form stands behind itself, where it is no pointer, and behind a pointer what stands behind its base
-pub data StandsBehind (types : List «Type») : TypeInner → TypeInner → Type 0 where
-  itself : (x : TypeInner) → IsNoPointer x → StandsBehind types x x
-  pointed_to : (base : ℕ) (space : AddressSpace) (t : «Type») (x : TypeInner) → slice_get types base ≡ Some t → StandsBehind types t.inner x → StandsBehind types (Pointer base space) x
+-- a form leads through any number of pointers to a form that is no pointer
+pub data PointsTo (types : List «Type») : TypeInner → TypeInner → Type 0 where
+  itself : (x : TypeInner) → IsNoPointer x → PointsTo types x x
+  pointed_to : (base : ℕ) (space : AddressSpace) (t : «Type») (x : TypeInner) → slice_get types base ≡ Some t → PointsTo types t.inner x → PointsTo types (Pointer base space) x
 
--- the length of an array while the values of overrides are open
+-- the length of an array before overrides have their values
 abbrev pub pending_length : ArraySize → Result IndexableLength IndexableLengthError
 pending_length (size.Constant n) = Ok (Known n.value)
 pending_length (size.Pending o) = Ok Pending
 pending_length size.Dynamic = Ok Dynamic
 
--- the length that an override gives
-abbrev pub given_length : Option ℕ → Result IndexableLength IndexableLengthError
-given_length None = Err InvalidArrayLength
-given_length (Some n) = Ok (Known n)
+-- the length that an override gives by its count
+abbrev pub length_of_count : Option ℕ → Result IndexableLength IndexableLengthError
+length_of_count None = Err InvalidArrayLength
+length_of_count (Some n) = Ok (Known n)
 
--- the length of an array where overrides have their values
+-- the length of an array once overrides have their values
 abbrev pub resolved_length : GlobalLists → ArraySize → Result IndexableLength IndexableLengthError
 resolved_length g (size.Constant n) = Ok (Known n.value)
-resolved_length g (size.Pending o) = given_length (override_count g o)
+resolved_length g (size.Pending o) = length_of_count (override_count g o)
 resolved_length g size.Dynamic = Ok Dynamic
 
--- what length arrays have, by their sizes
+-- the length of arrays by their sizes: one of these two
 abbrev pub LengthOfArray : Type 0
 LengthOfArray = ArraySize → Result IndexableLength IndexableLengthError
 
--- a form is no array and no binding array
-abbrev pub HasNoArraySize : TypeInner → Type 0
-HasNoArraySize (Array base size stride) = ⊥
-HasNoArraySize (BindingArray base size) = ⊥
-HasNoArraySize _ = ⊤
-
--- the length of a form that is no pointer to a type, by the length that arrays have
+-- the length of a form that is no pointer to a type of the module, by the length of arrays
 abbrev pub length_of : LengthOfArray → TypeInner → Result IndexableLength IndexableLengthError
 length_of of_array (Vector size scalar) = Ok (Known (components size))
 length_of of_array (Matrix columns rows scalar) = Ok (Known (components columns))
 length_of of_array (ValuePointer (Some size) scalar space) = Ok (Known (components size))
+length_of of_array (ValuePointer None scalar space) = Err TypeNotIndexable
 length_of of_array (Array base size stride) = of_array size
 length_of of_array (BindingArray base size) = of_array size
-length_of of_array _ = Err TypeNotIndexable
+length_of of_array (Scalar scalar) = Err TypeNotIndexable
+length_of of_array (CooperativeMatrix columns rows scalar role) = Err TypeNotIndexable
+length_of of_array (Atomic scalar) = Err TypeNotIndexable
+length_of of_array (Pointer base space) = Err TypeNotIndexable
+length_of of_array (Struct members span) = Err TypeNotIndexable
+length_of of_array (Image dim arrayed class) = Err TypeNotIndexable
+length_of of_array (Sampler comparison) = Err TypeNotIndexable
+length_of of_array (AccelerationStructure vertex_return) = Err TypeNotIndexable
+length_of of_array (RayQuery vertex_return) = Err TypeNotIndexable
 
--- the length of a form is that of what stands behind it
+-- the length of a form is that of the form that it leads to through pointers
 abbrev pub IsLength : GlobalLists → LengthOfArray → TypeInner → Result IndexableLength IndexableLengthError → Type 0
-IsLength g of_array inner answer = (x : TypeInner) × StandsBehind g.types inner x × (answer ≡ length_of of_array x)
+IsLength g of_array inner result = (x : TypeInner) × PointsTo g.types inner x × (result ≡ length_of of_array x)

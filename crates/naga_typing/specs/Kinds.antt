@@ -1,5 +1,6 @@
 -- When the value of an expression is known.
-use Rattle.std.specs.Prelude.{ℕ, List, [], ◌∷◌, map, slice_get, unwrap_or, Option, Some, ⊤}
+use Rattle.std.specs.Prelude.{ℕ, List, [], ◌∷◌, Ok, map, slice_get, unwrap_or, Option, Some, None, ⊤}
+use Rattle.naga_arena.specs.InOrder.{AllAcceptedInOrder, RuleInOrder}
 use Rattle.naga_ir.specs.References.{operands}
 use Rattle.naga_ir.specs.declared.expression.Expression.{Expression}
 use Rattle.naga_ir.specs.declared.expression.Expression.TheVariants as expression
@@ -10,7 +11,8 @@ use Rattle.naga_typing.specs.declared.expression_kind.ExpressionKind.TheVariants
 abbrev pub later : ExpressionKind → ExpressionKind → ExpressionKind
 later Const k = k
 later Override Const = Override
-later Override k = k
+later Override Override = Override
+later Override Runtime = Runtime
 later Runtime k = Runtime
 
 -- the latest of some kinds
@@ -18,15 +20,15 @@ abbrev pub latest : List ExpressionKind → ExpressionKind
 latest [] = Const
 latest (k ∷ rest) = later k (latest rest)
 
--- the kind of the expression at a place
+-- the kind of the expression of an index
 abbrev pub kind_at : List ExpressionKind → ℕ → ExpressionKind
 kind_at kinds e = unwrap_or (slice_get kinds e) Runtime
 
--- the latest kind of what an expression is worked out from
+-- the latest kind of the operands of an expression
 abbrev pub of_operands : List ExpressionKind → Expression → ExpressionKind
 of_operands kinds x = latest (map (kind_at kinds) (operands x))
 
--- the kind of an expression, by those of other expressions
+-- the kind of an expression, by the kinds of other expressions
 abbrev pub kind_of : List ExpressionKind → Expression → ExpressionKind
 kind_of kinds (expression.Literal value) = Const
 kind_of kinds (expression.ZeroValue ty) = Const
@@ -44,15 +46,43 @@ kind_of kinds (expression.As expr kind convert) = of_operands kinds (expression.
 kind_of kinds (expression.Select condition accept reject) = of_operands kinds (expression.Select condition accept reject)
 kind_of kinds (expression.Relational fun argument) = of_operands kinds (expression.Relational fun argument)
 kind_of kinds (expression.ArrayLength expr) = of_operands kinds (expression.ArrayLength expr)
-kind_of kinds _ = Runtime
+kind_of kinds (expression.FunctionArgument index) = Runtime
+kind_of kinds (expression.GlobalVariable v) = Runtime
+kind_of kinds (expression.LocalVariable v) = Runtime
+kind_of kinds (expression.Load pointer) = Runtime
+kind_of kinds (expression.ImageSample image sampler gather coordinate array_index offset level depth_ref clamp_to_edge) = Runtime
+kind_of kinds (expression.ImageLoad image coordinate array_index sample level) = Runtime
+kind_of kinds (expression.ImageQuery image query) = Runtime
+kind_of kinds (expression.Derivative expr) = Runtime
+kind_of kinds (expression.CallResult f) = Runtime
+kind_of kinds (expression.AtomicResult ty comparison) = Runtime
+kind_of kinds (expression.WorkGroupUniformLoadResult ty) = Runtime
+kind_of kinds expression.RayQueryProceedResult = Runtime
+kind_of kinds (expression.RayQueryGetIntersection query committed) = Runtime
+kind_of kinds (expression.RayQueryVertexPositions query committed) = Runtime
+kind_of kinds expression.SubgroupBallotResult = Runtime
+kind_of kinds (expression.SubgroupOperationResult ty) = Runtime
+kind_of kinds (expression.CooperativeLoad pointer stride) = Runtime
+kind_of kinds (expression.CooperativeMultiplyAdd a b c) = Runtime
 
--- a kind is there, and is that of a constant
+-- this as a rule in order, which refuses no expression
+abbrev pub kind_in_order : RuleInOrder Expression ExpressionKind ⊥
+kind_in_order before e x = Ok (kind_of before x)
+
+-- these are the kinds of expressions, each by the kinds of those before it
+abbrev pub AreKinds : List Expression → List ExpressionKind → Type 0
+AreKinds xs kinds = AllAcceptedInOrder kind_in_order xs kinds
+
+-- a value is known when the shader is compiled
 abbrev pub IsConst : Option ExpressionKind → Type 0
 IsConst (Some Const) = ⊤
-IsConst _ = ⊥
+IsConst (Some Override) = ⊥
+IsConst (Some Runtime) = ⊥
+IsConst None = ⊥
 
--- a kind is there, and is that of a constant or an override
+-- a value is known when a pipeline is created, if not before
 abbrev pub IsConstOrOverride : Option ExpressionKind → Type 0
 IsConstOrOverride (Some Const) = ⊤
 IsConstOrOverride (Some Override) = ⊤
-IsConstOrOverride _ = ⊥
+IsConstOrOverride (Some Runtime) = ⊥
+IsConstOrOverride None = ⊥

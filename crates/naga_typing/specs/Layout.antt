@@ -1,32 +1,32 @@
--- Sizes and alignments of types.
-use Rattle.std.specs.Prelude.{ℕ, ◌*◌, List, [], ◌∷◌, Option, Some, None, Result, Ok, Err, map, max, leb, All, IsOk, Contains, length, ◌<◌, slice_get, unwrap_or, ⊤, if◌then◌else◌}
+-- Sizes and alignments of types, in bytes.
+use Rattle.std.specs.Prelude.{ℕ, ◌*◌, ◌≤◌, List, [], ◌∷◌, Option, Some, None, Result, Ok, Err, map, max, leb, All, IsOk, slice_get, unwrap_or, ⊤, if◌then◌else◌}
 use Rattle.std.specs.Int.{is_power_of_two}
+use Rattle.naga_arena.specs.InOrder.{AllAcceptedInOrder, RuleInOrder}
+use Rattle.naga_arena.specs.Numbers.{largest_u32}
 use Rattle.naga_ir.specs.ItemReferences.{GlobalLists}
-use Rattle.naga_ir_types.specs.Parts.{parts}
 use Rattle.naga_ir_types.specs.Sizes.{components, cooperative_components, vector_alignment}
 use Rattle.naga_ir_types.specs.declared.types.«Type».{«Type»}
 use Rattle.naga_ir_types.specs.declared.types.ArraySize.{ArraySize}
 use Rattle.naga_ir_types.specs.declared.types.ArraySize.TheVariants.{Constant, Pending, Dynamic}
 use Rattle.naga_ir_types.specs.declared.types.StructMember.{StructMember}
 use Rattle.naga_ir_types.specs.declared.types.TypeInner.{TypeInner}
-use Rattle.naga_ir_types.specs.declared.types.TypeInner.TheVariants.{Scalar, Vector, Matrix, CooperativeMatrix, Atomic, Pointer, ValuePointer, Array, Struct}
+use Rattle.naga_ir_types.specs.declared.types.TypeInner.TheVariants.{Scalar, Vector, Matrix, CooperativeMatrix, Atomic, Pointer, ValuePointer, Array, Struct, Image, Sampler, AccelerationStructure, RayQuery, BindingArray}
 use Rattle.naga_typing.specs.Constants.{override_count}
-use Rattle.naga_typing.specs.WorkedOut.{WorkedOut}
 use Rattle.naga_typing.specs.declared.layouter.TypeLayout.{TypeLayout}
 use Rattle.naga_typing.specs.declared.layouter.LayoutErrorInner.{LayoutErrorInner}
 use Rattle.naga_typing.specs.declared.layouter.LayoutErrorInner.TheVariants.{TooLarge, NonPowerOfTwoWidth}
 
--- the greatest size of an array, in bytes
+-- the greatest size of an array that has a layout
 abbrev pub max_type_size : ℕ
 max_type_size = 2147483647
 
--- how many elements an array counts: one of unknown length counts one, and one that an override sizes none where the override gives no count
+-- how many elements the size of an array counts: one if the array is runtime-sized, and none if an override that gives no count sizes it
 abbrev pub element_count : GlobalLists → ArraySize → ℕ
 element_count g (Constant n) = n.value
 element_count g (Pending o) = unwrap_or (override_count g o) 0
 element_count g Dynamic = 1
 
--- the size of a value, in bytes: a column of three rows takes the room of four
+-- the size of a value: a column of three rows takes as many bytes as one of four
 abbrev pub size_of : GlobalLists → TypeInner → ℕ
 size_of g (Scalar scalar) = scalar.width
 size_of g (Vector size scalar) = components size * scalar.width
@@ -37,73 +37,119 @@ size_of g (Pointer base space) = 4
 size_of g (ValuePointer size scalar space) = 4
 size_of g (Array base size stride) = element_count g size * stride
 size_of g (Struct members span) = span
-size_of g _ = 0
+size_of g (Image dim arrayed class) = 0
+size_of g (Sampler comparison) = 0
+size_of g (AccelerationStructure vertex_return) = 0
+size_of g (RayQuery vertex_return) = 0
+size_of g (BindingArray base size) = 0
 
--- a form is no array
-abbrev pub IsNoArray : TypeInner → Type 0
-IsNoArray (Array base size stride) = ⊥
-IsNoArray _ = ⊤
+-- the size of a value is a number of 32 bits: that of an array may not be, and that of any other form is
+abbrev pub SizeFits : GlobalLists → TypeInner → Type 0
+SizeFits g (Array base size stride) = element_count g size * stride ≤ largest_u32
+SizeFits g (Scalar scalar) = ⊤
+SizeFits g (Vector size scalar) = ⊤
+SizeFits g (Matrix columns rows scalar) = ⊤
+SizeFits g (CooperativeMatrix columns rows scalar role) = ⊤
+SizeFits g (Atomic scalar) = ⊤
+SizeFits g (Pointer base space) = ⊤
+SizeFits g (ValuePointer size scalar space) = ⊤
+SizeFits g (Struct members span) = ⊤
+SizeFits g (Image dim arrayed class) = ⊤
+SizeFits g (Sampler comparison) = ⊤
+SizeFits g (AccelerationStructure vertex_return) = ⊤
+SizeFits g (RayQuery vertex_return) = ⊤
+SizeFits g (BindingArray base size) = ⊤
 
--- the greatest of some alignments, and 1 where there is none
+-- the greatest of some alignments, and 1 if there are none
 abbrev pub greatest : List ℕ → ℕ
 greatest [] = 1
 greatest (a ∷ rest) = max a (greatest rest)
 
--- the alignment in a layout, and 1 where there is none
+-- the alignment of a layout, and 1 if there is none
 abbrev pub alignment_in : Option TypeLayout → ℕ
 alignment_in None = 1
 alignment_in (Some layout) = layout.alignment
 
--- the alignment of the type at a place
+-- the alignment of the type of an index
 abbrev pub alignment_at : List TypeLayout → ℕ → ℕ
 alignment_at layouts t = alignment_in (slice_get layouts t)
 
--- the alignment of a value, in bytes: a matrix has that of its columns, an array that of its base, and a struct the greatest of its members
+-- the alignment of a value, by the layouts of other types: of a matrix that of its columns, of an array that of its base, of a struct the greatest of its members
 abbrev pub alignment_of : List TypeLayout → TypeInner → ℕ
 alignment_of layouts (Scalar scalar) = scalar.width
 alignment_of layouts (Vector size scalar) = vector_alignment size * scalar.width
 alignment_of layouts (Matrix columns rows scalar) = vector_alignment rows * scalar.width
 alignment_of layouts (CooperativeMatrix columns rows scalar role) = scalar.width
 alignment_of layouts (Atomic scalar) = scalar.width
+alignment_of layouts (Pointer base space) = 1
+alignment_of layouts (ValuePointer size scalar space) = 1
 alignment_of layouts (Array base size stride) = alignment_at layouts base
 alignment_of layouts (Struct members span) = greatest (map (λ (m : StructMember). alignment_at layouts m.ty) members)
-alignment_of layouts _ = 1
+alignment_of layouts (Image dim arrayed class) = 1
+alignment_of layouts (Sampler comparison) = 1
+alignment_of layouts (AccelerationStructure vertex_return) = 1
+alignment_of layouts (RayQuery vertex_return) = 1
+alignment_of layouts (BindingArray base size) = 1
 
--- the layout of a form, by those of its parts
+-- the layout of a form, by the layouts of other types
 abbrev pub layout_of_inner : GlobalLists → List TypeLayout → TypeInner → TypeLayout
 layout_of_inner g layouts inner = record { size = size_of g inner; alignment = alignment_of layouts inner }
 
--- the layout of a type
+-- the layout of a type, by the layouts of other types
 abbrev pub layout_of : GlobalLists → List TypeLayout → «Type» → TypeLayout
 layout_of g layouts t = layout_of_inner g layouts t.inner
 
--- the types that a form names are among those laid out so far
-abbrev pub PartsLaidOut : List TypeLayout → TypeInner → Type 0
-PartsLaidOut layouts inner = (p : ℕ) → Contains (parts inner) p → p < length layouts
-
--- the width of the scalars that a form is made of, in bytes, and 1 where there are none
+-- the width of the scalars of a form, and 1 if it has none of its own
 abbrev pub width_of : TypeInner → ℕ
 width_of (Scalar scalar) = scalar.width
 width_of (Vector size scalar) = scalar.width
 width_of (Matrix columns rows scalar) = scalar.width
 width_of (CooperativeMatrix columns rows scalar role) = scalar.width
 width_of (Atomic scalar) = scalar.width
-width_of _ = 1
+width_of (Pointer base space) = 1
+width_of (ValuePointer size scalar space) = 1
+width_of (Array base size stride) = 1
+width_of (Struct members span) = 1
+width_of (Image dim arrayed class) = 1
+width_of (Sampler comparison) = 1
+width_of (AccelerationStructure vertex_return) = 1
+width_of (RayQuery vertex_return) = 1
+width_of (BindingArray base size) = 1
+
+-- a size is not too large
+abbrev pub within_max_type_size : ℕ → Result (Unit {0}) LayoutErrorInner
+within_max_type_size size = if leb size max_type_size then Ok tt else Err TooLarge
 
 -- an array is not too large
 abbrev pub size_rule : GlobalLists → TypeInner → Result (Unit {0}) LayoutErrorInner
-size_rule g (Array base size stride) = if leb (element_count g size * stride) max_type_size then Ok tt else Err TooLarge
-size_rule g _ = Ok tt
+size_rule g (Array base size stride) = within_max_type_size (element_count g size * stride)
+size_rule g (Scalar scalar) = Ok tt
+size_rule g (Vector size scalar) = Ok tt
+size_rule g (Matrix columns rows scalar) = Ok tt
+size_rule g (CooperativeMatrix columns rows scalar role) = Ok tt
+size_rule g (Atomic scalar) = Ok tt
+size_rule g (Pointer base space) = Ok tt
+size_rule g (ValuePointer size scalar space) = Ok tt
+size_rule g (Struct members span) = Ok tt
+size_rule g (Image dim arrayed class) = Ok tt
+size_rule g (Sampler comparison) = Ok tt
+size_rule g (AccelerationStructure vertex_return) = Ok tt
+size_rule g (RayQuery vertex_return) = Ok tt
+size_rule g (BindingArray base size) = Ok tt
 
--- a form can be laid out where that width is a power of two, and an array where it is not too large
+-- a form has a layout if the width of its scalars is a power of two, and an array if it is not too large
 abbrev pub layout_rule : GlobalLists → TypeInner → Result (Unit {0}) LayoutErrorInner
 layout_rule g inner = if is_power_of_two (width_of inner) then size_rule g inner else Err NonPowerOfTwoWidth
 
--- of each type whether it can be laid out
+-- for each type whether it has a layout
 abbrev pub layout_results : GlobalLists → List (Result (Unit {0}) LayoutErrorInner)
 layout_results g = map (λ (t : «Type»). layout_rule g t.inner) g.types
 
--- these are the layouts of all types: each can be laid out, and has the layout that follows from those of its parts
+-- the layout of a type as a rule in order, which refuses no type
+abbrev pub layout_in_order : GlobalLists → RuleInOrder «Type» TypeLayout ⊥
+layout_in_order g before t x = Ok (layout_of g before x)
+
+-- each type has a layout, and these are the layouts, each by the layouts of the types before it
 pub record AreLayouts (g : GlobalLists) (layouts : List TypeLayout) : Type 0 where
   pub accepted : All IsOk (layout_results g)
-  pub worked_out : WorkedOut (layout_of g) g.types layouts
+  pub in_order : AllAcceptedInOrder (layout_in_order g) g.types layouts

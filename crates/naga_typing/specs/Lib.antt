@@ -1,3 +1,13 @@
+-- To read first, after those of naga_ir:
+-- Constants.index_of, override_count: the number that an expression gives, and the count that an override gives
+-- Layout.size_of, alignment_of: the size and the alignment of a type, in bytes
+-- Layout.layout_results, AreLayouts: which types have a layout, and what the layouts of a module are
+-- Index.IsLength: how many elements can be indexed
+-- Kinds.kind_of, AreKinds: when the value of an expression is known
+-- Resolutions.AreSameTypes: which types are the same
+-- Resolutions.ResolutionExists, IsProperResolution: which types an expression may have
+-- Typings.CanResolve, IsLawful: what a typing may rely on, and what it promises
+-- PlainTyping.plain_resolves: what `PlainTyping` promises beside
 pub mod Constants
 pub mod Context
 pub mod Index
@@ -8,4 +18,4 @@ pub mod PlainTyping
 pub mod Resolutions
 pub mod Sameness
 pub mod Typings
-pub mod WorkedOut
+pub mod steps

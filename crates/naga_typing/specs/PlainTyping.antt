@@ -1,8 +1,8 @@
--- The types that `PlainTyping` works out.
+-- The types that `PlainTyping` resolves.
 use Rattle.std.specs.Prelude.{ℕ, List, Option, Some, None, Result, Ok, Err, slice_get, unwrap_or}
 use Rattle.naga_ir.specs.Literals.{literal_scalar}
 use Rattle.naga_ir.specs.declared.expression.BinaryOperator.{BinaryOperator}
-use Rattle.naga_ir.specs.declared.expression.BinaryOperator.TheVariants.{Multiply, Equal, NotEqual, Less, LessEqual, Greater, GreaterEqual}
+use Rattle.naga_ir.specs.declared.expression.BinaryOperator.TheVariants.{Add, Subtract, Multiply, Divide, Modulo, Equal, NotEqual, Less, LessEqual, Greater, GreaterEqual, And, ExclusiveOr, InclusiveOr, LogicalAnd, LogicalOr, ShiftLeft, ShiftRight}
 use Rattle.naga_ir.specs.declared.expression.Expression.{Expression}
 use Rattle.naga_ir.specs.declared.expression.Expression.TheVariants as form
 use Rattle.naga_ir.specs.declared.expression.RelationalFunction.{RelationalFunction}
@@ -16,7 +16,7 @@ use Rattle.naga_ir_types.specs.declared.types.ScalarKind.{ScalarKind}
 use Rattle.naga_ir_types.specs.declared.types.ScalarKind.TheVariants as kind
 use Rattle.naga_ir_types.specs.declared.types.StructMember.{StructMember}
 use Rattle.naga_ir_types.specs.declared.types.TypeInner.{TypeInner}
-use Rattle.naga_ir_types.specs.declared.types.TypeInner.TheVariants.{Scalar, Vector, Matrix, Array, Struct}
+use Rattle.naga_ir_types.specs.declared.types.TypeInner.TheVariants.{Scalar, Vector, Matrix, CooperativeMatrix, Atomic, Pointer, ValuePointer, Array, Struct, Image, Sampler, AccelerationStructure, RayQuery, BindingArray}
 use Rattle.naga_ir_types.specs.declared.types.VectorSize.{VectorSize}
 use Rattle.naga_typing.specs.Resolutions.{operand}
 use Rattle.naga_typing.specs.declared.typifier.ResolveError.{ResolveError}
@@ -24,98 +24,165 @@ use Rattle.naga_typing.specs.declared.typifier.ResolveError.TheVariants.{Incompa
 use Rattle.naga_typing.specs.declared.typifier.TypeResolution.{TypeResolution}
 use Rattle.naga_typing.specs.declared.typifier.TypeResolution.TheVariants.{Handle, Value}
 
--- what is answered of an expression
-abbrev pub Answer : Type 0
-Answer = Result TypeResolution ResolveError
+-- the type of an expression, or why it has none
+abbrev pub ResolveResult : Type 0
+ResolveResult = Result TypeResolution ResolveError
 
--- truth values
+-- the type of truth values
 abbrev pub bool_scalar : ScalarType
 bool_scalar = record { kind = kind.Bool; width = 1 }
 
--- unsigned integers of four bytes
+-- the type of unsigned integers of four bytes
 abbrev pub u32_scalar : ScalarType
 u32_scalar = record { kind = kind.Uint; width = 4 }
 
--- what a rule makes of an operand's form, where there is an operand
-abbrev pub of_form : Option TypeInner → (TypeInner → Answer) → Answer
+-- the result of a rule on the form of an operand, if there is an operand
+abbrev pub of_form : Option TypeInner → (TypeInner → ResolveResult) → ResolveResult
 of_form None rule = Err NotResolvable
 of_form (Some inner) rule = rule inner
 
--- the type of an operand itself, where there is one
-abbrev pub same_type : Option TypeResolution → Answer
+-- the type of an operand itself, if there is one
+abbrev pub same_type : Option TypeResolution → ResolveResult
 same_type None = Err NotResolvable
 same_type (Some r) = Ok r
 
 -- the declared type of a constant
-abbrev pub type_of_constant : Option Constant → Answer
+abbrev pub type_of_constant : Option Constant → ResolveResult
 type_of_constant None = Err NotResolvable
 type_of_constant (Some c) = Ok (Handle c.ty)
 
 -- the declared type of an override
-abbrev pub type_of_override : Option Override → Answer
+abbrev pub type_of_override : Option Override → ResolveResult
 type_of_override None = Err NotResolvable
 type_of_override (Some o) = Ok (Handle o.ty)
 
 -- an element: a vector's scalar, a matrix's column, or an array's base
-abbrev pub element_of : TypeInner → Answer
+abbrev pub element_of : TypeInner → ResolveResult
 element_of (Vector size scalar) = Ok (Value (Scalar scalar))
 element_of (Matrix columns rows scalar) = Ok (Value (Vector rows scalar))
 element_of (Array base size stride) = Ok (Handle base)
-element_of _ = Err IncompatibleOperands
+element_of (Scalar scalar) = Err IncompatibleOperands
+element_of (CooperativeMatrix columns rows scalar role) = Err IncompatibleOperands
+element_of (Atomic scalar) = Err IncompatibleOperands
+element_of (Pointer base space) = Err IncompatibleOperands
+element_of (ValuePointer size scalar space) = Err IncompatibleOperands
+element_of (Struct members span) = Err IncompatibleOperands
+element_of (Image dim arrayed class) = Err IncompatibleOperands
+element_of (Sampler comparison) = Err IncompatibleOperands
+element_of (AccelerationStructure vertex_return) = Err IncompatibleOperands
+element_of (RayQuery vertex_return) = Err IncompatibleOperands
+element_of (BindingArray base size) = Err IncompatibleOperands
 
--- the type of a member, where there is one
-abbrev pub type_of_member : Option StructMember → Answer
+-- the type of a member, if there is one
+abbrev pub type_of_member : Option StructMember → ResolveResult
 type_of_member None = Err IncompatibleOperands
 type_of_member (Some m) = Ok (Handle m.ty)
 
--- a part at a known place: an element, or a member of a struct
-abbrev pub part_of : ℕ → TypeInner → Answer
+-- a part of a constant index: a member of a struct, or an element
+abbrev pub part_of : ℕ → TypeInner → ResolveResult
 part_of index (Struct members span) = type_of_member (slice_get members index)
-part_of index inner = element_of inner
+part_of index (Scalar scalar) = element_of (Scalar scalar)
+part_of index (Vector size scalar) = element_of (Vector size scalar)
+part_of index (Matrix columns rows scalar) = element_of (Matrix columns rows scalar)
+part_of index (CooperativeMatrix columns rows scalar role) = element_of (CooperativeMatrix columns rows scalar role)
+part_of index (Atomic scalar) = element_of (Atomic scalar)
+part_of index (Pointer base space) = element_of (Pointer base space)
+part_of index (ValuePointer size scalar space) = element_of (ValuePointer size scalar space)
+part_of index (Array base size stride) = element_of (Array base size stride)
+part_of index (Image dim arrayed class) = element_of (Image dim arrayed class)
+part_of index (Sampler comparison) = element_of (Sampler comparison)
+part_of index (AccelerationStructure vertex_return) = element_of (AccelerationStructure vertex_return)
+part_of index (RayQuery vertex_return) = element_of (RayQuery vertex_return)
+part_of index (BindingArray base size) = element_of (BindingArray base size)
 
 -- a vector of one scalar
-abbrev pub splat_of : VectorSize → TypeInner → Answer
+abbrev pub splat_of : VectorSize → TypeInner → ResolveResult
 splat_of size (Scalar scalar) = Ok (Value (Vector size scalar))
-splat_of size _ = Err IncompatibleOperands
+splat_of size (Vector of_size scalar) = Err IncompatibleOperands
+splat_of size (Matrix columns rows scalar) = Err IncompatibleOperands
+splat_of size (CooperativeMatrix columns rows scalar role) = Err IncompatibleOperands
+splat_of size (Atomic scalar) = Err IncompatibleOperands
+splat_of size (Pointer base space) = Err IncompatibleOperands
+splat_of size (ValuePointer of_size scalar space) = Err IncompatibleOperands
+splat_of size (Array base of_size stride) = Err IncompatibleOperands
+splat_of size (Struct members span) = Err IncompatibleOperands
+splat_of size (Image dim arrayed class) = Err IncompatibleOperands
+splat_of size (Sampler comparison) = Err IncompatibleOperands
+splat_of size (AccelerationStructure vertex_return) = Err IncompatibleOperands
+splat_of size (RayQuery vertex_return) = Err IncompatibleOperands
+splat_of size (BindingArray base of_size) = Err IncompatibleOperands
 
 -- a vector of components of a vector
-abbrev pub swizzle_of : VectorSize → TypeInner → Answer
+abbrev pub swizzle_of : VectorSize → TypeInner → ResolveResult
 swizzle_of size (Vector of_size scalar) = Ok (Value (Vector size scalar))
-swizzle_of size _ = Err IncompatibleOperands
+swizzle_of size (Scalar scalar) = Err IncompatibleOperands
+swizzle_of size (Matrix columns rows scalar) = Err IncompatibleOperands
+swizzle_of size (CooperativeMatrix columns rows scalar role) = Err IncompatibleOperands
+swizzle_of size (Atomic scalar) = Err IncompatibleOperands
+swizzle_of size (Pointer base space) = Err IncompatibleOperands
+swizzle_of size (ValuePointer of_size scalar space) = Err IncompatibleOperands
+swizzle_of size (Array base of_size stride) = Err IncompatibleOperands
+swizzle_of size (Struct members span) = Err IncompatibleOperands
+swizzle_of size (Image dim arrayed class) = Err IncompatibleOperands
+swizzle_of size (Sampler comparison) = Err IncompatibleOperands
+swizzle_of size (AccelerationStructure vertex_return) = Err IncompatibleOperands
+swizzle_of size (RayQuery vertex_return) = Err IncompatibleOperands
+swizzle_of size (BindingArray base of_size) = Err IncompatibleOperands
 
 -- truth values in the shape of a scalar or a vector
-abbrev pub truths_of : TypeInner → Answer
+abbrev pub truths_of : TypeInner → ResolveResult
 truths_of (Scalar scalar) = Ok (Value (Scalar bool_scalar))
 truths_of (Vector size scalar) = Ok (Value (Vector size bool_scalar))
-truths_of _ = Err IncompatibleOperands
+truths_of (Matrix columns rows scalar) = Err IncompatibleOperands
+truths_of (CooperativeMatrix columns rows scalar role) = Err IncompatibleOperands
+truths_of (Atomic scalar) = Err IncompatibleOperands
+truths_of (Pointer base space) = Err IncompatibleOperands
+truths_of (ValuePointer size scalar space) = Err IncompatibleOperands
+truths_of (Array base size stride) = Err IncompatibleOperands
+truths_of (Struct members span) = Err IncompatibleOperands
+truths_of (Image dim arrayed class) = Err IncompatibleOperands
+truths_of (Sampler comparison) = Err IncompatibleOperands
+truths_of (AccelerationStructure vertex_return) = Err IncompatibleOperands
+truths_of (RayQuery vertex_return) = Err IncompatibleOperands
+truths_of (BindingArray base size) = Err IncompatibleOperands
 
--- a scalar converted to a kind, and to a width where one is given
+-- a scalar converted to a kind, and to a width if one is given
 abbrev pub cast_scalar : ScalarKind → Option ℕ → ScalarType → ScalarType
 cast_scalar kind convert scalar = record { kind = kind; width = unwrap_or convert scalar.width }
 
 -- a scalar, vector or matrix converted so
-abbrev pub cast_of : ScalarKind → Option ℕ → TypeInner → Answer
+abbrev pub cast_of : ScalarKind → Option ℕ → TypeInner → ResolveResult
 cast_of kind convert (Scalar scalar) = Ok (Value (Scalar (cast_scalar kind convert scalar)))
 cast_of kind convert (Vector size scalar) = Ok (Value (Vector size (cast_scalar kind convert scalar)))
 cast_of kind convert (Matrix columns rows scalar) = Ok (Value (Matrix columns rows (cast_scalar kind convert scalar)))
-cast_of kind convert _ = Err IncompatibleOperands
+cast_of kind convert (CooperativeMatrix columns rows scalar role) = Err IncompatibleOperands
+cast_of kind convert (Atomic scalar) = Err IncompatibleOperands
+cast_of kind convert (Pointer base space) = Err IncompatibleOperands
+cast_of kind convert (ValuePointer size scalar space) = Err IncompatibleOperands
+cast_of kind convert (Array base size stride) = Err IncompatibleOperands
+cast_of kind convert (Struct members span) = Err IncompatibleOperands
+cast_of kind convert (Image dim arrayed class) = Err IncompatibleOperands
+cast_of kind convert (Sampler comparison) = Err IncompatibleOperands
+cast_of kind convert (AccelerationStructure vertex_return) = Err IncompatibleOperands
+cast_of kind convert (RayQuery vertex_return) = Err IncompatibleOperands
+cast_of kind convert (BindingArray base size) = Err IncompatibleOperands
 
--- the type of a product: that of the right factor, of the left, or a new one
-abbrev pub product_of : Answer → Answer → TypeInner → TypeInner → Answer
+-- the type of a product: a new one if a matrix is beside a vector or a matrix, that of the right factor if a scalar is before a vector or a matrix, and else that of the left factor
+abbrev pub product_of : ResolveResult → ResolveResult → TypeInner → TypeInner → ResolveResult
 product_of left right (Scalar s) (Vector size scalar) = right
 product_of left right (Scalar s) (Matrix columns rows scalar) = right
 product_of left right (Matrix columns rows scalar) (Vector size s) = Ok (Value (Vector rows scalar))
 product_of left right (Vector size s) (Matrix columns rows scalar) = Ok (Value (Vector columns scalar))
 product_of left right (Matrix columns rows scalar) (Matrix right_columns right_rows s) = Ok (Value (Matrix right_columns rows scalar))
-product_of left right _ _ = left
+product_of left right x y = left
 
--- that of the factors at two places
-abbrev pub product : List «Type» → List TypeResolution → ℕ → ℕ → Answer
+-- the type of the product of two operands
+abbrev pub product : List «Type» → List TypeResolution → ℕ → ℕ → ResolveResult
 product types earlier left right =
     of_form (operand types earlier left) (λ x. of_form (operand types earlier right) (λ y. product_of (same_type (slice_get earlier left)) (same_type (slice_get earlier right)) x y))
 
--- the type of what an operator makes of two operands
-abbrev pub binary_of : List «Type» → List TypeResolution → BinaryOperator → ℕ → ℕ → Answer
+-- the type of the result of an operator on two operands
+abbrev pub binary_of : List «Type» → List TypeResolution → BinaryOperator → ℕ → ℕ → ResolveResult
 binary_of types earlier Equal left right = of_form (operand types earlier left) truths_of
 binary_of types earlier NotEqual left right = of_form (operand types earlier left) truths_of
 binary_of types earlier Less left right = of_form (operand types earlier left) truths_of
@@ -123,17 +190,27 @@ binary_of types earlier LessEqual left right = of_form (operand types earlier le
 binary_of types earlier Greater left right = of_form (operand types earlier left) truths_of
 binary_of types earlier GreaterEqual left right = of_form (operand types earlier left) truths_of
 binary_of types earlier Multiply left right = product types earlier left right
-binary_of types earlier _ left right = same_type (slice_get earlier left)
+binary_of types earlier Add left right = same_type (slice_get earlier left)
+binary_of types earlier Subtract left right = same_type (slice_get earlier left)
+binary_of types earlier Divide left right = same_type (slice_get earlier left)
+binary_of types earlier Modulo left right = same_type (slice_get earlier left)
+binary_of types earlier And left right = same_type (slice_get earlier left)
+binary_of types earlier ExclusiveOr left right = same_type (slice_get earlier left)
+binary_of types earlier InclusiveOr left right = same_type (slice_get earlier left)
+binary_of types earlier LogicalAnd left right = same_type (slice_get earlier left)
+binary_of types earlier LogicalOr left right = same_type (slice_get earlier left)
+binary_of types earlier ShiftLeft left right = same_type (slice_get earlier left)
+binary_of types earlier ShiftRight left right = same_type (slice_get earlier left)
 
--- the type of the answer to a question
-abbrev pub relational_of : RelationalFunction → TypeInner → Answer
+-- the type of the result of a relational function
+abbrev pub relational_of : RelationalFunction → TypeInner → ResolveResult
 relational_of All inner = Ok (Value (Scalar bool_scalar))
 relational_of Any inner = Ok (Value (Scalar bool_scalar))
 relational_of IsNan inner = truths_of inner
 relational_of IsInf inner = truths_of inner
 
--- the type of an expression, by its form
-unfoldable pub plain_resolves : Module → Expression → List TypeResolution → Answer
+-- the type of an expression
+unfoldable pub plain_resolves : Module → Expression → List TypeResolution → ResolveResult
 plain_resolves m (form.Literal value) earlier = Ok (Value (Scalar (literal_scalar value)))
 plain_resolves m (form.Constant c) earlier = type_of_constant (slice_get m.constants c)
 plain_resolves m (form.Override o) earlier = type_of_override (slice_get m.overrides o)
@@ -150,4 +227,21 @@ plain_resolves m (form.Binary op left right) earlier = binary_of m.types earlier
 plain_resolves m (form.Relational fun argument) earlier = of_form (operand m.types earlier argument) (relational_of fun)
 plain_resolves m (form.As expr kind convert) earlier = of_form (operand m.types earlier expr) (cast_of kind convert)
 plain_resolves m (form.ArrayLength expr) earlier = Ok (Value (Scalar u32_scalar))
-plain_resolves m _ earlier = Err NotResolvable
+plain_resolves m (form.FunctionArgument index) earlier = Err NotResolvable
+plain_resolves m (form.GlobalVariable v) earlier = Err NotResolvable
+plain_resolves m (form.LocalVariable v) earlier = Err NotResolvable
+plain_resolves m (form.Load pointer) earlier = Err NotResolvable
+plain_resolves m (form.ImageSample image sampler gather coordinate array_index offset level depth_ref clamp_to_edge) earlier = Err NotResolvable
+plain_resolves m (form.ImageLoad image coordinate array_index sample level) earlier = Err NotResolvable
+plain_resolves m (form.ImageQuery image query) earlier = Err NotResolvable
+plain_resolves m (form.Math fun arg arg1 arg2 arg3) earlier = Err NotResolvable
+plain_resolves m (form.CallResult f) earlier = Err NotResolvable
+plain_resolves m (form.AtomicResult ty comparison) earlier = Err NotResolvable
+plain_resolves m (form.WorkGroupUniformLoadResult ty) earlier = Err NotResolvable
+plain_resolves m form.RayQueryProceedResult earlier = Err NotResolvable
+plain_resolves m (form.RayQueryGetIntersection query committed) earlier = Err NotResolvable
+plain_resolves m (form.RayQueryVertexPositions query committed) earlier = Err NotResolvable
+plain_resolves m form.SubgroupBallotResult earlier = Err NotResolvable
+plain_resolves m (form.SubgroupOperationResult ty) earlier = Err NotResolvable
+plain_resolves m (form.CooperativeLoad pointer stride) earlier = Err NotResolvable
+plain_resolves m (form.CooperativeMultiplyAdd a b c) earlier = Err NotResolvable

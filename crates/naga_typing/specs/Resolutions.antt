@@ -1,15 +1,17 @@
 -- The types of expressions.
 use Rattle.std.specs.Prelude.{◌≡◌, ◌<◌, ◌⊎◌, ℕ, List, Option, Some, None, All, Contains, length, option_and_then, option_map, slice_get, ⊤}
+use Rattle.naga_ir.specs.ItemReferences.{GlobalLists}
 use Rattle.naga_ir_types.specs.Parts.{parts}
 use Rattle.naga_ir_types.specs.TypeWords.{IsNoStruct, IsStruct}
 use Rattle.naga_ir_types.specs.declared.types.«Type».{«Type»}
 use Rattle.naga_ir_types.specs.declared.types.AddressSpace.{AddressSpace}
 use Rattle.naga_ir_types.specs.declared.types.TypeInner.{TypeInner}
-use Rattle.naga_ir_types.specs.declared.types.TypeInner.TheVariants.{Scalar, Vector, Pointer, ValuePointer, Array, Struct, BindingArray}
+use Rattle.naga_ir_types.specs.declared.types.TypeInner.TheVariants as form
+use Rattle.naga_typing.specs.Context.{ReferencesExist}
 use Rattle.naga_typing.specs.declared.typifier.TypeResolution.{TypeResolution}
 use Rattle.naga_typing.specs.declared.typifier.TypeResolution.TheVariants.{Handle, Value}
 
--- the handle of a type that is given by one
+-- the handle of a type, if it is given by one
 abbrev pub handle_of : TypeResolution → Option ℕ
 handle_of (Handle t) = Some t
 handle_of (Value inner) = None
@@ -19,31 +21,46 @@ abbrev pub inner_in : List «Type» → TypeResolution → Option TypeInner
 inner_in types (Handle t) = option_map (λ (x : «Type»). x.inner) (slice_get types t)
 inner_in types (Value inner) = Some inner
 
--- the form of the operand at a place
+-- the form of the type of an operand
 abbrev pub operand : List «Type» → List TypeResolution → ℕ → Option TypeInner
 operand types earlier e = option_and_then (inner_in types) (slice_get earlier e)
 
--- the types that a form names are there
+-- the types that a form names exist
 abbrev pub PartsExist : List «Type» → TypeInner → Type 0
 PartsExist types inner = (p : ℕ) → Contains (parts inner) p → p < length types
 
--- so it is with all types of a list
+-- the types that the types of a list name exist
 abbrev pub AllPartsExist : List «Type» → Type 0
 AllPartsExist types = All (λ (t : «Type»). PartsExist types t.inner) types
 
--- the handles in a resolution are there
-abbrev pub ResolutionExists : List «Type» → TypeResolution → Type 0
-ResolutionExists types (Handle t) = t < length types
-ResolutionExists types (Value inner) = PartsExist types inner
+-- the types that a resolution names exist
+abbrev pub TypesExist : List «Type» → TypeResolution → Type 0
+TypesExist types (Handle t) = t < length types
+TypesExist types (Value inner) = PartsExist types inner
+
+-- everything that a resolution refers to exists: its type, or what its form refers to
+abbrev pub ResolutionExists : GlobalLists → TypeResolution → Type 0
+ResolutionExists g (Handle t) = t < length g.types
+ResolutionExists g (Value inner) = ReferencesExist g inner
 
 -- a form may be given as a value: it is no array, binding array or struct
 abbrev pub IsValueForm : TypeInner → Type 0
-IsValueForm (Array base size stride) = ⊥
-IsValueForm (BindingArray base size) = ⊥
-IsValueForm (Struct members span) = ⊥
-IsValueForm _ = ⊤
+IsValueForm (form.Array base size stride) = ⊥
+IsValueForm (form.BindingArray base size) = ⊥
+IsValueForm (form.Struct members span) = ⊥
+IsValueForm (form.Scalar scalar) = ⊤
+IsValueForm (form.Vector size scalar) = ⊤
+IsValueForm (form.Matrix columns rows scalar) = ⊤
+IsValueForm (form.CooperativeMatrix columns rows scalar role) = ⊤
+IsValueForm (form.Atomic scalar) = ⊤
+IsValueForm (form.Pointer base space) = ⊤
+IsValueForm (form.ValuePointer size scalar space) = ⊤
+IsValueForm (form.Image dim arrayed class) = ⊤
+IsValueForm (form.Sampler comparison) = ⊤
+IsValueForm (form.AccelerationStructure vertex_return) = ⊤
+IsValueForm (form.RayQuery vertex_return) = ⊤
 
--- only such forms are given as values
+-- a resolution is a handle, or a form that may be given as a value
 abbrev pub IsProperResolution : TypeResolution → Type 0
 IsProperResolution (Handle t) = ⊤
 IsProperResolution (Value inner) = IsValueForm inner
@@ -53,25 +70,53 @@ abbrev pub IsStructValue : TypeResolution → Type 0
 IsStructValue (Handle t) = ⊥
 IsStructValue (Value inner) = IsStruct inner
 
--- a pointer to a scalar or to a vector is written as a value pointer
-abbrev pub pointer_to : ℕ → AddressSpace → Option TypeInner → TypeInner
-pointer_to base space (Some (Scalar scalar)) = ValuePointer None scalar space
-pointer_to base space (Some (Vector size scalar)) = ValuePointer (Some size) scalar space
-pointer_to base space _ = Pointer base space
+-- a pointer to a form, as it is compared: to a scalar or a vector it is a value pointer
+abbrev pub pointer_to : ℕ → AddressSpace → TypeInner → TypeInner
+pointer_to base space (form.Scalar scalar) = form.ValuePointer None scalar space
+pointer_to base space (form.Vector size scalar) = form.ValuePointer (Some size) scalar space
+pointer_to base space (form.Matrix columns rows scalar) = form.Pointer base space
+pointer_to base space (form.CooperativeMatrix columns rows scalar role) = form.Pointer base space
+pointer_to base space (form.Atomic scalar) = form.Pointer base space
+pointer_to base space (form.Pointer base_of_base space_of_base) = form.Pointer base space
+pointer_to base space (form.ValuePointer size scalar space_of_base) = form.Pointer base space
+pointer_to base space (form.Array base_of_base size stride) = form.Pointer base space
+pointer_to base space (form.Struct members span) = form.Pointer base space
+pointer_to base space (form.Image dim arrayed class) = form.Pointer base space
+pointer_to base space (form.Sampler comparison) = form.Pointer base space
+pointer_to base space (form.AccelerationStructure vertex_return) = form.Pointer base space
+pointer_to base space (form.RayQuery vertex_return) = form.Pointer base space
+pointer_to base space (form.BindingArray base_of_base size) = form.Pointer base space
 
--- a form as it is compared
+-- a pointer to a type of a list, as it is compared
+abbrev pub pointer_to_found : ℕ → AddressSpace → Option TypeInner → TypeInner
+pointer_to_found base space None = form.Pointer base space
+pointer_to_found base space (Some x) = pointer_to base space x
+
+-- a form as it is compared: pointers so, and other forms as they are
 abbrev pub canonical : List «Type» → TypeInner → TypeInner
-canonical types (Pointer base space) = pointer_to base space (inner_in types (Handle base))
-canonical types inner = inner
+canonical types (form.Pointer base space) = pointer_to_found base space (inner_in types (Handle base))
+canonical types (form.Scalar scalar) = form.Scalar scalar
+canonical types (form.Vector size scalar) = form.Vector size scalar
+canonical types (form.Matrix columns rows scalar) = form.Matrix columns rows scalar
+canonical types (form.CooperativeMatrix columns rows scalar role) = form.CooperativeMatrix columns rows scalar role
+canonical types (form.Atomic scalar) = form.Atomic scalar
+canonical types (form.ValuePointer size scalar space) = form.ValuePointer size scalar space
+canonical types (form.Array base size stride) = form.Array base size stride
+canonical types (form.Struct members span) = form.Struct members span
+canonical types (form.Image dim arrayed class) = form.Image dim arrayed class
+canonical types (form.Sampler comparison) = form.Sampler comparison
+canonical types (form.AccelerationStructure vertex_return) = form.AccelerationStructure vertex_return
+canonical types (form.RayQuery vertex_return) = form.RayQuery vertex_return
+canonical types (form.BindingArray base size) = form.BindingArray base size
 
--- two resolutions are one handle
+-- two resolutions are the same handle
 abbrev pub AreOneHandle : TypeResolution → TypeResolution → Type 0
 AreOneHandle lhs rhs = (t : ℕ) × (lhs ≡ Handle t) × (rhs ≡ Handle t)
 
--- two forms are of one type: both are structs and have one handle, or neither is a struct and they are equal as they are compared
+-- two forms are of the same type: structs if they have the same handle, other forms if they are equal as they are compared
 abbrev pub AreSameInners : List «Type» → TypeResolution → TypeResolution → TypeInner → TypeInner → Type 0
 AreSameInners types lhs rhs x y = (IsStruct x × IsStruct y × AreOneHandle lhs rhs) ⊎ (IsNoStruct x × IsNoStruct y × (canonical types x ≡ canonical types y))
 
--- two resolutions are of one type
+-- two resolutions are of the same type
 abbrev pub AreSameTypes : List «Type» → TypeResolution → TypeResolution → Type 0
 AreSameTypes types lhs rhs = (x : TypeInner) × (y : TypeInner) × (inner_in types lhs ≡ Some x) × (inner_in types rhs ≡ Some y) × AreSameInners types lhs rhs x y

@@ -1,32 +1,46 @@
--- Whether two types are one.
-use Rattle.std.specs.Prelude.{◌==◌, ◌&&◌, ◌||◌, not, ℕ, Bool as Truth, true, false, List, Option, Some}
+-- Whether two types are the same, as a truth value.
+use Rattle.std.specs.Prelude.{◌==◌, ◌&&◌, ◌||◌, not, ℕ, Bool as Truth, true, false, List, Option, Some, None}
 use Rattle.naga_ir_types.specs.contracts.types.TypeInnerPartialEq.TheImpl as of_inner
 use Rattle.naga_ir_types.specs.declared.types.«Type».{«Type»}
 use Rattle.naga_ir_types.specs.declared.types.TypeInner.{TypeInner}
-use Rattle.naga_ir_types.specs.declared.types.TypeInner.TheVariants.{Struct}
+use Rattle.naga_ir_types.specs.declared.types.TypeInner.TheVariants.{Scalar, Vector, Matrix, CooperativeMatrix, Atomic, Pointer, ValuePointer, Array, Struct, Image, Sampler, AccelerationStructure, RayQuery, BindingArray}
 use Rattle.naga_typing.specs.Resolutions.{canonical, handle_of, inner_in}
 use Rattle.naga_typing.specs.declared.typifier.TypeResolution.{TypeResolution}
 
 -- whether a form is a struct
 abbrev pub is_struct : TypeInner → Truth
 is_struct (Struct members span) = true
-is_struct _ = false
+is_struct (Scalar scalar) = false
+is_struct (Vector size scalar) = false
+is_struct (Matrix columns rows scalar) = false
+is_struct (CooperativeMatrix columns rows scalar role) = false
+is_struct (Atomic scalar) = false
+is_struct (Pointer base space) = false
+is_struct (ValuePointer size scalar space) = false
+is_struct (Array base size stride) = false
+is_struct (Image dim arrayed class) = false
+is_struct (Sampler comparison) = false
+is_struct (AccelerationStructure vertex_return) = false
+is_struct (RayQuery vertex_return) = false
+is_struct (BindingArray base size) = false
 
--- whether two handles are there and one
+-- whether there are two handles, and they are equal
 abbrev pub is_one_handle : Option ℕ → Option ℕ → Truth
 is_one_handle (Some t) (Some u) = t == u
-is_one_handle _ _ = false
+is_one_handle (Some t) None = false
+is_one_handle None _ = false
 
--- whether two forms are of one type: both are structs and have one handle, or neither is a struct and they are equal as they are compared
+-- whether two forms are of the same type: structs if they have the same handle, other forms if they are equal as they are compared
 abbrev pub are_same_inners : List «Type» → Truth → TypeInner → TypeInner → Truth
 are_same_inners types one_handle x y =
     is_struct x && (is_struct y && one_handle) || not (is_struct x) && (not (is_struct y) && of_inner.ghosts.eq (canonical types x) (canonical types y))
 
--- whether two forms are there and of one type
+-- whether there are two forms, and they are of the same type
 abbrev pub are_same_found : List «Type» → Truth → Option TypeInner → Option TypeInner → Truth
 are_same_found types one_handle (Some x) (Some y) = are_same_inners types one_handle x y
-are_same_found types one_handle _ _ = false
+are_same_found types one_handle (Some x) None = false
+are_same_found types one_handle None _ = false
 
--- whether two resolutions are of one type
+-- whether two resolutions are of the same type
 unfoldable pub are_same : List «Type» → TypeResolution → TypeResolution → Truth
 are_same types lhs rhs = are_same_found types (is_one_handle (handle_of lhs) (handle_of rhs)) (inner_in types lhs) (inner_in types rhs)

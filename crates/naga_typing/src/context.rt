@@ -1,12 +1,11 @@
-//! The parts of a module that its types and global expressions speak of, and the numbers that
-//! expressions give.
+//! The arenas of a module that its types and global expressions refer to, and index constants.
 
 ghost use Rattle.std.specs.Prelude.{◌≡◌, ◌<◌, length, slice_get, IfSome, Some};
 ghost use Rattle.naga_ir.specs.Handles.{GlobalReferencesOk};
 ghost use Rattle.naga_ir.specs.ItemReferences.{global_lists};
 ghost use Rattle.naga_ir.specs.References.{named_type};
 ghost use Rattle.naga_typing.specs.Constants as spec;
-ghost use Rattle.naga_typing.specs.Constants.{NamedAreThere, index_of};
+ghost use Rattle.naga_typing.specs.Constants.{NamedItemsExist, index_of};
 ghost use Rattle.naga_typing.specs.Context.{lists_of};
 
 use naga_ir::arena::Arena;
@@ -18,7 +17,7 @@ use naga_ir::types::{Scalar, ScalarKind, TypeInner};
 use naga_ir::unique_arena::UniqueArena;
 use thiserror::Error;
 
-/// The arenas of a module that its types and global expressions refer to.
+/// The arenas of a module that its types and global expressions refer to: naga's `GlobalCtx`.
 #[derive(Clone, Copy)]
 pub struct GlobalCtx<'a> {
     pub types: &'a UniqueArena,
@@ -27,7 +26,7 @@ pub struct GlobalCtx<'a> {
     pub global_expressions: &'a Arena<Expression, ExpressionTag>,
 }
 
-/// The arenas of `module` that its types and global expressions refer to.
+/// The arenas of `module` that its types and global expressions refer to: naga's `Module::to_ctx`.
 pub fn to_ctx(module: &Module) -> GlobalCtx<'_>
     ensures types { result.types.now ≡ «module».now.types }
     ensures constants { result.constants.now ≡ «module».now.constants }
@@ -43,49 +42,52 @@ pub fn to_ctx(module: &Module) -> GlobalCtx<'_>
     }
 }
 
-/// Why an expression gives no index.
+/// Why an expression is no index constant.
 #[derive(Clone, Copy, Debug, PartialEq, Eq, Error)]
 pub enum ConstValueError {
-    /// It is no literal, no zero of a scalar type, and no constant that begins with one of these.
+    /// It is no literal, no zero value of a scalar type, and no constant whose initialiser is one of
+    /// these.
     #[error("The expression is not a constant")]
     NonConst,
-    /// It is below 0.
+    /// It is a negative integer.
     #[error("The constant is negative")]
     Negative,
-    /// It is no whole number of two or four bytes.
+    /// Its type is none of `u16`, `u32`, `i16` and `i32`.
     #[error("The constant is not a whole number of 16 or 32 bits")]
     InvalidType,
 }
 
-/// The index that an expression gives: a count of elements, or the number of one.
+/// The number that an index constant gives: a number of elements, or the index of one.
 ///
-/// The rule is this project's own: a literal or the zero of a scalar type, by itself or as what a
-/// constant begins with, whose type is `u16`, `u32`, `i16` or `i32`. The type is looked at before
-/// the sign. The expression may be one of a function, and the constant's initialiser is a global
-/// one.
+/// An index constant is a literal or the zero value of a scalar type, or a constant whose initialiser
+/// is one of these, and its type is `u16`, `u32`, `i16` or `i32`. The rule is narrower than that of
+/// naga's `GlobalCtx::get_const_val_from`. The expression may be one of a function; the initialiser of
+/// a constant is a global one.
 ///
-/// `NonConst` is answered for any other form, `InvalidType` for any other scalar type, and
-/// `Negative` for a number below 0.
+/// # Errors
+///
+/// - `NonConst` if the expression has another form.
+/// - `InvalidType` if it has another scalar type.
+/// - `Negative` if it is negative. The type is checked before the sign.
 pub fn get_const_val_from(
     handle: Handle<ExpressionTag>,
     expressions: &Arena<Expression, ExpressionTag>,
     gctx: GlobalCtx<'_>,
 ) -> Result<u32, ConstValueError>
-    requires there { handle < length expressions.now }
+    requires exists { handle < length expressions.now }
     requires references { GlobalReferencesOk (lists_of gctx) }
-    requires named { NamedAreThere (lists_of gctx) expressions.now }
+    requires named { NamedItemsExist (lists_of gctx) expressions.now }
     ensures { result ≡ index_of (lists_of gctx.entry) (slice_get expressions.now handle) }
 {
-    match &expressions[handle] {
-        Expression::Constant(constant) => {
-            let init = gctx.constants[*constant].init;
-            unnamed_index(&gctx.global_expressions[init], gctx.types)
-        }
-        expression => unnamed_index(expression, gctx.types),
+    let expression = &expressions[handle];
+    if let Expression::Constant(constant) = expression {
+        let init = gctx.constants[*constant].init;
+        return unnamed_index(&gctx.global_expressions[init], gctx.types);
     }
+    unnamed_index(expression, gctx.types)
 }
 
-/// The index that an expression gives by itself.
+/// The number that an expression gives by itself, which a constant doesn't.
 #[tactic(auto, unfolding(naga_ir::specs::References::named_type))]
 fn unnamed_index(expression: &Expression, types: &UniqueArena) -> Result<u32, ConstValueError>
     requires { IfSome (named_type expression.now) (λ ty. ty < length types.now) }
@@ -93,15 +95,43 @@ fn unnamed_index(expression: &Expression, types: &UniqueArena) -> Result<u32, Co
 {
     match expression {
         Expression::Literal(literal) => literal_index(*literal),
-        Expression::ZeroValue(ty) => match types[*ty].inner {
-            TypeInner::Scalar(scalar) => zero_index(scalar),
-            _ => Err(ConstValueError::NonConst),
-        },
-        _ => Err(ConstValueError::NonConst),
+        Expression::ZeroValue(ty) => zero_index(&types[*ty].inner),
+        Expression::Constant(_)
+        | Expression::Override(_)
+        | Expression::Compose { .. }
+        | Expression::Access { .. }
+        | Expression::AccessIndex { .. }
+        | Expression::Splat { .. }
+        | Expression::Swizzle { .. }
+        | Expression::FunctionArgument(_)
+        | Expression::GlobalVariable(_)
+        | Expression::LocalVariable(_)
+        | Expression::Load { .. }
+        | Expression::ImageSample { .. }
+        | Expression::ImageLoad { .. }
+        | Expression::ImageQuery { .. }
+        | Expression::Unary { .. }
+        | Expression::Binary { .. }
+        | Expression::Select { .. }
+        | Expression::Derivative { .. }
+        | Expression::Relational { .. }
+        | Expression::Math { .. }
+        | Expression::As { .. }
+        | Expression::CallResult(_)
+        | Expression::AtomicResult { .. }
+        | Expression::WorkGroupUniformLoadResult { .. }
+        | Expression::ArrayLength(_)
+        | Expression::RayQueryProceedResult
+        | Expression::RayQueryGetIntersection { .. }
+        | Expression::RayQueryVertexPositions { .. }
+        | Expression::SubgroupBallotResult
+        | Expression::SubgroupOperationResult { .. }
+        | Expression::CooperativeLoad { .. }
+        | Expression::CooperativeMultiplyAdd { .. } => Err(ConstValueError::NonConst),
     }
 }
 
-/// The index that a literal gives.
+/// The number that a literal gives.
 fn literal_index(literal: Literal) -> Result<u32, ConstValueError>
     ensures { result ≡ spec.literal_index literal }
 {
@@ -110,23 +140,61 @@ fn literal_index(literal: Literal) -> Result<u32, ConstValueError>
         Literal::U32(value) => Ok(value),
         Literal::I16(value) => not_negative(i32::from(value)),
         Literal::I32(value) => not_negative(value),
-        _ => Err(ConstValueError::InvalidType),
+        Literal::F64(_)
+        | Literal::F32(_)
+        | Literal::F16(_)
+        | Literal::U64(_)
+        | Literal::I64(_)
+        | Literal::Bool(_)
+        | Literal::AbstractInt(_)
+        | Literal::AbstractFloat(_) => Err(ConstValueError::InvalidType),
     }
 }
 
-/// A number that is not below 0.
+/// An integer that is not negative.
 fn not_negative(value: i32) -> Result<u32, ConstValueError>
     ensures { result ≡ spec.not_negative value }
 {
     u32::try_from(value).map_err(|_| ConstValueError::Negative)
 }
 
-/// The index that the zero of a scalar type gives.
-fn zero_index(scalar: Scalar) -> Result<u32, ConstValueError>
-    ensures { result ≡ spec.zero_index (TypeInner.Scalar scalar) }
+/// The number that the zero value of a type gives.
+fn zero_index(inner: &TypeInner) -> Result<u32, ConstValueError>
+    ensures { result ≡ spec.zero_index inner.now }
 {
-    match (scalar.kind, scalar.width) {
-        (ScalarKind::Uint | ScalarKind::Sint, 2 | 4) => Ok(0),
-        _ => Err(ConstValueError::InvalidType),
+    match *inner {
+        TypeInner::Scalar(scalar) => {
+            if is_index_type(scalar) {
+                Ok(0)
+            } else {
+                Err(ConstValueError::InvalidType)
+            }
+        }
+        TypeInner::Vector { .. }
+        | TypeInner::Matrix { .. }
+        | TypeInner::CooperativeMatrix { .. }
+        | TypeInner::Atomic(_)
+        | TypeInner::Pointer { .. }
+        | TypeInner::ValuePointer { .. }
+        | TypeInner::Array { .. }
+        | TypeInner::Struct { .. }
+        | TypeInner::Image { .. }
+        | TypeInner::Sampler { .. }
+        | TypeInner::AccelerationStructure { .. }
+        | TypeInner::RayQuery { .. }
+        | TypeInner::BindingArray { .. } => Err(ConstValueError::NonConst),
+    }
+}
+
+/// Whether the values of a scalar type are integers of two or four bytes.
+fn is_index_type(scalar: Scalar) -> bool
+    ensures { result ≡ spec.is_index_type scalar }
+{
+    match scalar.kind {
+        ScalarKind::Sint | ScalarKind::Uint => scalar.width == 2 || scalar.width == 4,
+        ScalarKind::Float
+        | ScalarKind::Bool
+        | ScalarKind::AbstractInt
+        | ScalarKind::AbstractFloat => false,
     }
 }

@@ -4,32 +4,33 @@ ghost use Rattle.std.specs.Prelude.{◌≡◌, ◌↔◌, ◌<◌, [], Contains,
 ghost use Rattle.naga_ir.specs.Handles.{GoBack, OrderedOperands};
 ghost use Rattle.naga_ir.specs.References as references;
 ghost use Rattle.naga_typing.specs.Kinds as spec;
-ghost use Rattle.naga_typing.specs.Kinds.{IsConst, IsConstOrOverride};
-ghost use Rattle.naga_typing.specs.WorkedOut.{WorkedOut};
+ghost use Rattle.naga_typing.specs.Kinds.{AreKinds, IsConst, IsConstOrOverride};
 
 use naga_ir::arena::Arena;
 use naga_ir::expression::Expression;
 use naga_ir::handle::Handle;
+use naga_ir::handle_vec::HandleVec;
 use naga_ir::memory::OutOfMemory;
 use naga_ir::tags::ExpressionTag;
 use std::alloc::Global;
 use std::marker::Model;
 
-/// When the value of an expression is known, the earliest first.
+/// When the value of an expression is known, the earliest first: naga's `ExpressionKind`.
 #[derive(Clone, Copy, Debug, PartialEq, Eq, PartialOrd, Ord)]
 pub enum ExpressionKind {
     /// When the shader is compiled.
     Const,
-    /// When a pipeline is made.
+    /// When a pipeline is created, which gives overrides their values.
     Override,
     /// When the shader runs.
     Runtime,
 }
 
-/// The kinds of the expressions of an arena, which contracts see as a list in their order.
+/// The kinds of the expressions of an arena, which contracts see as a list in their order: naga's
+/// `ExpressionKindTracker`.
 #[derive(Debug, Drop)]
 pub struct ExpressionKindTracker {
-    inner: Vec<ExpressionKind>,
+    inner: HandleVec<ExpressionKind, ExpressionTag>,
 }
 
 impl Model for ExpressionKindTracker {
@@ -42,23 +43,27 @@ impl Model for ExpressionKindTracker {
 }
 
 impl ExpressionKindTracker {
-    /// The kinds of the expressions of an arena: literals, zeros and constants are `Const`, overrides
-    /// `Override`; `Compose`, `Splat`, `Access`, `AccessIndex`, `Swizzle`, `Unary`, `Binary`, `Math`,
-    /// `As`, `Select`, `Relational` and `ArrayLength` are known as late as the latest of their
-    /// operands; all else is `Runtime`. The rule is naga's.
+    /// The kinds of the expressions of an arena, by the rule of naga's
+    /// `ExpressionKindTracker::from_arena`. Literals, zero values and constants are `Const`, overrides
+    /// `Override`. `Compose`, `Splat`, `Access`, `AccessIndex`, `Swizzle`, `Unary`, `Binary`, `Math`,
+    /// `As`, `Select`, `Relational` and `ArrayLength` have the latest kind of their operands. All else
+    /// is `Runtime`.
     ///
-    /// `OutOfMemory` where memory was refused, which is asked where there are expressions. The cost is
-    /// linear in the expressions and their operands.
+    /// The cost is linear in the expressions and their operands.
+    ///
+    /// # Errors
+    ///
+    /// `OutOfMemory` if memory was refused; an empty arena takes none.
     pub fn from_arena(
         alloc: Global,
         arena: &Arena<Expression, ExpressionTag>,
     ) -> Result<ExpressionKindTracker, OutOfMemory>
         requires { GoBack (OrderedOperands arena.now) }
-        ensures kinds { IfOk result (WorkedOut spec.kind_of arena.now) }
+        ensures kinds { IfOk result (AreKinds arena.now) }
         ensures none { arena.now ≡ [] → IsOk result }
     {
         let mut tracker = ExpressionKindTracker {
-            inner: Vec::new(alloc),
+            inner: HandleVec::new(alloc),
         };
         for (_, expression) in arena.iter() {
             let kind = tracker.kind_of(expression);
@@ -72,21 +77,21 @@ impl ExpressionKindTracker {
         requires { value < length self.now }
         ensures { IsTrue result ↔ IsConst (slice_get self.now value) }
     {
-        matches!(self.inner[value.index()], ExpressionKind::Const)
+        matches!(self.inner[value], ExpressionKind::Const)
     }
 
-    /// Whether the value of an expression is known when a pipeline is made, if not before.
+    /// Whether the value of an expression is known when a pipeline is created, if not before.
     pub fn is_const_or_override(&self, value: Handle<ExpressionTag>) -> bool
         requires { value < length self.now }
         ensures { IsTrue result ↔ IsConstOrOverride (slice_get self.now value) }
     {
         matches!(
-            self.inner[value.index()],
+            self.inner[value],
             ExpressionKind::Const | ExpressionKind::Override
         )
     }
 
-    /// The kind of one expression, whose operands' kinds are known.
+    /// The kind of one expression, by those of its operands.
     fn kind_of(&self, expression: &Expression) -> ExpressionKind
         requires { (o : ℕ) → Contains (references.operands expression.now) o → o < length self.now }
         ensures { result ≡ spec.kind_of self.now expression.now }
@@ -108,7 +113,24 @@ impl ExpressionKindTracker {
             | Expression::Select { .. }
             | Expression::Relational { .. }
             | Expression::ArrayLength(_) => self.latest(expression),
-            _ => ExpressionKind::Runtime,
+            Expression::FunctionArgument(_)
+            | Expression::GlobalVariable(_)
+            | Expression::LocalVariable(_)
+            | Expression::Load { .. }
+            | Expression::ImageSample { .. }
+            | Expression::ImageLoad { .. }
+            | Expression::ImageQuery { .. }
+            | Expression::Derivative { .. }
+            | Expression::CallResult(_)
+            | Expression::AtomicResult { .. }
+            | Expression::WorkGroupUniformLoadResult { .. }
+            | Expression::RayQueryProceedResult
+            | Expression::RayQueryGetIntersection { .. }
+            | Expression::RayQueryVertexPositions { .. }
+            | Expression::SubgroupBallotResult
+            | Expression::SubgroupOperationResult { .. }
+            | Expression::CooperativeLoad { .. }
+            | Expression::CooperativeMultiplyAdd { .. } => ExpressionKind::Runtime,
         }
     }
 
@@ -119,7 +141,7 @@ impl ExpressionKindTracker {
     {
         let mut kind = ExpressionKind::Const;
         for operand in expression.operands() {
-            kind = kind.max(self.inner[operand.index()]);
+            kind = kind.max(self.inner[operand]);
         }
         kind
     }

@@ -1,10 +1,11 @@
-//! How many elements a value has that can be indexed.
+//! Indexable lengths: how many elements a value has that can be indexed.
 
 ghost use Rattle.std.specs.Prelude.{◌≡◌};
 ghost use Rattle.naga_ir.specs.Handles.{GlobalReferencesOk};
 ghost use Rattle.naga_ir.specs.ItemReferences.{global_lists};
 ghost use Rattle.naga_typing.specs.Context.{ReferencesExist, lists_of};
-ghost use Rattle.naga_typing.specs.Index.{HasNoArraySize, IsLength, LengthOfArray, StandsBehind, length_of, pending_length, resolved_length};
+ghost use Rattle.naga_typing.specs.Index.{IsLength, LengthOfArray, PointsTo, length_of, pending_length, resolved_length};
+ghost use Rattle.naga_typing.specs.steps.Index.{HasNoArraySize};
 
 use crate::context::{GlobalCtx, to_ctx};
 use crate::type_methods::override_count;
@@ -12,43 +13,48 @@ use naga_ir::ir::Module;
 use naga_ir::types::{ArraySize, TypeInner};
 use thiserror::Error;
 
-/// How many elements there are.
+/// How many elements can be indexed: naga's `IndexableLength`.
 #[derive(Clone, Copy, Debug, PartialEq, Eq)]
 pub enum IndexableLength {
-    /// That many.
+    /// This number of elements.
     Known(u32),
-    /// As many as an override says when a pipeline is made.
+    /// The number that an override gives when a pipeline is created.
     Pending,
-    /// As many as the buffer has room for.
+    /// The number that the bound buffer has room for.
     Dynamic,
 }
 
-/// Why a value can't be indexed.
+/// Why a type has no indexable length.
 #[derive(Clone, Copy, Debug, PartialEq, Eq, Error)]
 pub enum IndexableLengthError {
-    /// It is no vector, matrix or array, and no pointer to one.
+    /// It is no vector, matrix, array or binding array, and no pointer to one.
     #[error("Type is not indexable, and has no length (validation error)")]
     TypeNotIndexable,
-    /// The override that says how many elements there are gives no count.
+    /// The override that gives the number of elements has no initialiser that is an index constant
+    /// above 0.
     #[error("Array length is not a positive constant")]
     InvalidArrayLength,
 }
 
-/// How many elements can be indexed while the values of overrides are open: the components of a
-/// vector, the columns of a matrix, the elements of an array or binding array. A pointer has the
-/// length of what it points to, through any number of pointers.
+/// How many elements of a value can be indexed, before overrides have their values: the components of
+/// a vector, the columns of a matrix, the elements of an array or a binding array. A pointer has the
+/// length of the type that it points to, through any number of pointers: naga's
+/// `TypeInner::indexable_length_pending` goes through one.
 ///
-/// `TypeNotIndexable` is answered for all other types. The rule is naga's, but for pointers to
-/// pointers. The cost is the number of pointers.
+/// The cost is linear in the number of pointers.
+///
+/// # Errors
+///
+/// `TypeNotIndexable` for all other types.
 pub fn indexable_length_pending(
     inner: &TypeInner,
     module: &Module,
 ) -> Result<IndexableLength, IndexableLengthError>
-    requires there { ReferencesExist (global_lists «module».now) inner.now }
+    requires exist { ReferencesExist (global_lists «module».now) inner.now }
     requires references { GlobalReferencesOk (global_lists «module».now) }
     ensures { IsLength (global_lists «module».now) pending_length inner.now result }
 {
-    match behind_pointers(inner, to_ctx(module)) {
+    match pointed_form(inner, to_ctx(module)) {
         TypeInner::Array { size, .. } | TypeInner::BindingArray { size, .. } => Ok(match *size {
             ArraySize::Constant(count) => IndexableLength::Known(count.get()),
             ArraySize::Pending(_) => IndexableLength::Pending,
@@ -58,22 +64,26 @@ pub fn indexable_length_pending(
     }
 }
 
-/// How many elements can be indexed where overrides have their values: as
-/// `indexable_length_pending`, but what an override sizes has the length that its initialiser gives.
+/// How many elements of a value can be indexed, once overrides have their values: as
+/// `indexable_length_pending`, but an array that an override sizes has the length that the initialiser
+/// of the override gives. naga's `TypeInner::indexable_length_resolved` goes through one pointer.
 ///
-/// `InvalidArrayLength` is answered where that initialiser is no index constant above 0, or there is
-/// none, and `TypeNotIndexable` for types that have no elements. The rule is naga's, but for
-/// pointers to pointers. The cost is the number of pointers.
+/// The cost is linear in the number of pointers.
+///
+/// # Errors
+///
+/// - `InvalidArrayLength` if the override has no initialiser that is an index constant above 0.
+/// - `TypeNotIndexable` as `indexable_length_pending`.
 pub fn indexable_length_resolved(
     inner: &TypeInner,
     module: &Module,
 ) -> Result<IndexableLength, IndexableLengthError>
-    requires there { ReferencesExist (global_lists «module».now) inner.now }
+    requires exist { ReferencesExist (global_lists «module».now) inner.now }
     requires references { GlobalReferencesOk (global_lists «module».now) }
     ensures { IsLength (global_lists «module».now) (resolved_length (global_lists «module».now)) inner.now result }
 {
     let gctx = to_ctx(module);
-    match behind_pointers(inner, gctx) {
+    match pointed_form(inner, gctx) {
         TypeInner::Array { size, .. } | TypeInner::BindingArray { size, .. } => match *size {
             ArraySize::Constant(count) => Ok(IndexableLength::Known(count.get())),
             ArraySize::Pending(override_) => override_count(override_, gctx)
@@ -85,12 +95,12 @@ pub fn indexable_length_resolved(
     }
 }
 
-/// The form that stands behind any number of pointers.
-fn behind_pointers<'a>(inner: &'a TypeInner, gctx: GlobalCtx<'a>) -> &'a TypeInner
-    requires there { ReferencesExist (lists_of gctx) inner.now }
+/// The form that pointers lead to, through any number of them.
+fn pointed_form<'a>(inner: &'a TypeInner, gctx: GlobalCtx<'a>) -> &'a TypeInner
+    requires exist { ReferencesExist (lists_of gctx) inner.now }
     requires references { GlobalReferencesOk (lists_of gctx) }
-    ensures behind { StandsBehind gctx.entry.types.now inner.now result.now }
-    ensures there { ReferencesExist (lists_of gctx.entry) result.now }
+    ensures leads { PointsTo gctx.entry.types.now inner.now result.now }
+    ensures exist { ReferencesExist (lists_of gctx.entry) result.now }
 {
     let mut inner = inner;
     while let TypeInner::Pointer { base, .. } = inner {
@@ -99,7 +109,8 @@ fn behind_pointers<'a>(inner: &'a TypeInner, gctx: GlobalCtx<'a>) -> &'a TypeInn
     inner
 }
 
-/// How many elements can be indexed of a form that is no array and no pointer to a type.
+/// The indexable length of a form that is no array, no binding array and no pointer to a type of the
+/// module.
 fn length_unless_array(inner: &TypeInner) -> Result<IndexableLength, IndexableLengthError>
     ensures { HasNoArraySize inner.now → (of_array : LengthOfArray) → result ≡ length_of of_array inner.now }
 {
@@ -110,6 +121,17 @@ fn length_unless_array(inner: &TypeInner) -> Result<IndexableLength, IndexableLe
             size: Some(size),
             ..
         } => Ok(IndexableLength::Known(u32::from(size.components()))),
-        _ => Err(IndexableLengthError::TypeNotIndexable),
+        TypeInner::Scalar(_)
+        | TypeInner::CooperativeMatrix { .. }
+        | TypeInner::Atomic(_)
+        | TypeInner::Pointer { .. }
+        | TypeInner::ValuePointer { size: None, .. }
+        | TypeInner::Array { .. }
+        | TypeInner::Struct { .. }
+        | TypeInner::Image { .. }
+        | TypeInner::Sampler { .. }
+        | TypeInner::AccelerationStructure { .. }
+        | TypeInner::RayQuery { .. }
+        | TypeInner::BindingArray { .. } => Err(IndexableLengthError::TypeNotIndexable),
     }
 }

@@ -1,34 +1,39 @@
-//! The sizes and alignments of a module's types.
+//! The layouts of the types of a module: their sizes and alignments, in bytes.
 
 ghost use Rattle.std.specs.Prelude.{◌≡◌, ◌*◌, ◌<◌, [], ◌∷◌, ◌++◌, All, length, map, slice_get, IfSome, is_some, take, IfErr, IsOk, MatchResult, OnErr, Ok, Err, Some};
 ghost use Rattle.std.specs.Int.{is_power_of_two};
-ghost use Rattle.naga_arena.specs.Memory.{AnsweredOrRefused};
+ghost use Rattle.naga_arena.specs.Memory.{UnlessOutOfMemory};
 ghost use Rattle.naga_arena.specs.Results.{IsFirstRefusal};
 ghost use Rattle.naga_ir.specs.Handles.{GlobalReferencesOk};
 ghost use Rattle.naga_ir_types.specs.declared.types.StructMember as member;
 ghost use Rattle.naga_ir_types.specs.Sizes as sizes;
 ghost use Rattle.naga_typing.specs.Context.{ReferencesExist, lists_of};
 ghost use Rattle.naga_typing.specs.Layout as spec;
-ghost use Rattle.naga_typing.specs.Layout.{AreLayouts, PartsLaidOut, alignment_at, greatest, layout_of_inner, layout_results, layout_rule, size_of, size_rule, width_of};
+ghost use Rattle.naga_typing.specs.Layout.{AreLayouts, alignment_at, greatest, layout_of_inner, layout_results, layout_rule, size_of, size_rule, width_of};
+ghost use Rattle.naga_typing.specs.steps.Layout.{PartsLaidOut};
 
 use crate::context::GlobalCtx;
 use crate::type_methods::{array_size, size_unless_array};
 use naga_ir::alignment::Alignment;
 use naga_ir::handle::Handle;
+use naga_ir::handle_vec::HandleVec;
+use naga_ir::memory::OutOfMemory;
 use naga_ir::tags::TypeTag;
 use naga_ir::types::{Scalar, StructMember, TypeInner, VectorSize};
-use std::alloc::{AllocFailed, Global};
+use std::alloc::Global;
 use std::marker::Model;
 use std::ops::Index;
 use thiserror::Error;
 
-/// The greatest size of an array, in bytes. The limit is naga's.
+/// The greatest size of an array that has a layout, in bytes: naga's `MAX_TYPE_SIZE`.
 pub const MAX_TYPE_SIZE: u32 = 2_147_483_647;
 
-/// The size of a type's values, in bytes, and their alignment.
+/// The size and the alignment of the values of a type: naga's `TypeLayout`.
 #[derive(Clone, Copy, Debug, PartialEq, Eq)]
 pub struct TypeLayout {
+    /// In bytes.
     pub size: u32,
+    /// The address of a value is a multiple of this many bytes.
     pub alignment: Alignment,
 }
 
@@ -38,7 +43,7 @@ pub enum LayoutErrorInner {
     /// An array is larger than `MAX_TYPE_SIZE`.
     #[error("The array is larger than 2147483647 bytes")]
     TooLarge,
-    /// A scalar's width is no power of two.
+    /// The width of a scalar, in bytes, is no power of two.
     #[error("The scalar width is not a power of two")]
     NonPowerOfTwoWidth,
     /// A request for memory was refused.
@@ -46,19 +51,19 @@ pub enum LayoutErrorInner {
     OutOfMemory,
 }
 
-impl<T: Drop> From<AllocFailed<T>> for LayoutErrorInner {
+impl From<OutOfMemory> for LayoutErrorInner {
     ghost use Rattle.std.specs.Prelude.{◌≡◌};
     ghost use Rattle.naga_typing.specs.declared.layouter.LayoutErrorInner.TheVariants.{OutOfMemory};
 
     ghost from_gives = { λ _ e. e ≡ OutOfMemory };
 
-    fn from(_: AllocFailed<T>) -> LayoutErrorInner {
+    fn from(_: OutOfMemory) -> LayoutErrorInner {
         LayoutErrorInner::OutOfMemory
     }
 }
 
 impl LayoutErrorInner {
-    /// The same of the type `ty`.
+    /// This error of the type `ty`.
     fn with(self, ty: Handle<TypeTag>) -> LayoutError
         ensures { result ≡ record { ty = ty; inner = self } }
     {
@@ -66,18 +71,21 @@ impl LayoutErrorInner {
     }
 }
 
-/// The type that has no layout, and why.
+/// A type that has no layout, and why: naga's `LayoutError`.
 #[derive(Clone, Debug, PartialEq, Drop, Error)]
 #[error("Error laying out type {ty:?}: {inner}")]
 pub struct LayoutError {
+    /// The type.
     pub ty: Handle<TypeTag>,
+    /// Why it has no layout.
     pub inner: LayoutErrorInner,
 }
 
-/// The layouts of a module's types, which contracts see as a list in the order of the types.
+/// The layouts of the types of a module, which contracts see as a list in the order of the types:
+/// naga's `Layouter`.
 #[derive(Debug, Drop)]
 pub struct Layouter {
-    layouts: Vec<TypeLayout>,
+    layouts: HandleVec<TypeLayout, TypeTag>,
 }
 
 impl Model for Layouter {
@@ -89,25 +97,23 @@ impl Model for Layouter {
     ghost view = { λ l. l.layouts.items };
 }
 
-/// The size of a value, in bytes, where it is no array or not too large.
+/// The size of a value, in bytes, unless it is an array above `MAX_TYPE_SIZE`.
 fn limited_size(inner: &TypeInner, gctx: GlobalCtx<'_>) -> Result<u32, LayoutErrorInner>
-    requires there { ReferencesExist (lists_of gctx) inner.now }
+    requires exist { ReferencesExist (lists_of gctx) inner.now }
     requires references { GlobalReferencesOk (lists_of gctx) }
     ensures { MatchResult result (λ size. (size_rule (lists_of gctx.entry) inner.now ≡ Ok tt) × (size ≡ size_of (lists_of gctx.entry) inner.now))
         (λ e. size_rule (lists_of gctx.entry) inner.now ≡ Err e) }
 {
-    match inner {
-        TypeInner::Array { size, stride, .. } => {
-            match u32::try_from(array_size(*size, *stride, gctx)) {
-                Ok(bytes) if bytes <= MAX_TYPE_SIZE => Ok(bytes),
-                _ => Err(LayoutErrorInner::TooLarge),
-            }
-        }
-        _ => Ok(size_unless_array(inner)),
+    if let TypeInner::Array { size, stride, .. } = inner {
+        return match u32::try_from(array_size(*size, *stride, gctx)) {
+            Ok(bytes) if bytes <= MAX_TYPE_SIZE => Ok(bytes),
+            Ok(_) | Err(_) => Err(LayoutErrorInner::TooLarge),
+        };
     }
+    Ok(size_unless_array(inner))
 }
 
-/// The alignment of a vector, where the width of its scalars is a power of two.
+/// The alignment of a vector, if the width of its scalars is a power of two.
 #[tactic(auto, using(crate::proofs::Powers::power_of_vector))]
 fn vector_alignment(size: VectorSize, scalar: Scalar) -> Option<Alignment>
     ensures power { is_some result ≡ is_power_of_two scalar.width }
@@ -122,7 +128,7 @@ impl Layouter {
         ensures { result ≡ [] }
     {
         Layouter {
-            layouts: Vec::new(alloc),
+            layouts: HandleVec::new(alloc),
         }
     }
 
@@ -133,22 +139,28 @@ impl Layouter {
         self.layouts.clear();
     }
 
-    /// Lays out the types of a module, and forgets what was laid out before.
+    /// Lays out the types of a module, and forgets all layouts before. The rule is that of naga's
+    /// `Layouter::update`, and for types that a buffer may hold that of WGSL, "Alignment and Size".
     ///
-    /// Sizes are those of `size`. A vector is aligned to 2 or 4 times the width of its scalars (a
-    /// vector of three to 4 times), a matrix as one of its columns, an array as its base, and a
-    /// struct as that of its members which is aligned most, or to 1 where there are none; scalars,
-    /// atomics and cooperative matrices to the width, and all else to 1. The rule is naga's, and
-    /// for types that a buffer may hold WGSL's.
+    /// Sizes are those of `size`. A scalar, an atomic and a cooperative matrix are aligned to the width
+    /// of the scalar, a vector to 2 or 4 times the width (a vector of three components to 4 times), a
+    /// matrix as its columns, an array as its base, a struct as the member of the greatest alignment,
+    /// and all else to 1.
     ///
-    /// `LayoutError` names the first type that has no layout: an array of more than `MAX_TYPE_SIZE`
-    /// bytes (`TooLarge`), or a scalar, vector, matrix, cooperative matrix or atomic with a width
-    /// that is no power of two (`NonPowerOfTwoWidth`); or the type at which memory was refused, where
-    /// it and those before it can be laid out. It leaves no layouts. The cost is linear in the types
-    /// and their members.
+    /// The cost is linear in the types and their members.
+    ///
+    /// # Errors
+    ///
+    /// The error names the first type that has no layout, and leaves no layouts.
+    ///
+    /// - `NonPowerOfTwoWidth` if the type is a scalar, vector, matrix, cooperative matrix or atomic, and
+    ///   the width of its scalar is no power of two.
+    /// - `TooLarge` if it is an array of more than `MAX_TYPE_SIZE` bytes.
+    /// - `OutOfMemory` if memory was refused. The type is the one whose layout would have been next; it
+    ///   has a layout, as have all types before it.
     pub fn update(&mut self, gctx: GlobalCtx<'_>) -> Result<(), LayoutError>
         requires { GlobalReferencesOk (lists_of gctx) }
-        ensures answer { AnsweredOrRefused (λ e. e.inner ≡ LayoutErrorInner.OutOfMemory) result (λ _. AreLayouts (lists_of gctx.entry) self.new)
+        ensures layouts { UnlessOutOfMemory (λ e. e.inner ≡ LayoutErrorInner.OutOfMemory) result (λ _. AreLayouts (lists_of gctx.entry) self.new)
             (λ e. IsFirstRefusal (layout_results (lists_of gctx.entry)) e.ty e.inner) }
         ensures place { IfErr result (λ e. e.ty < length gctx.entry.types.now) }
         ensures memory { IfErr result (λ e. e.inner ≡ LayoutErrorInner.OutOfMemory → slice_get (layout_results (lists_of gctx.entry)) e.ty ≡ Some (Ok tt)) }
@@ -168,9 +180,9 @@ impl Layouter {
     /// Lays out one more type.
     fn append(&mut self, inner: &TypeInner, gctx: GlobalCtx<'_>) -> Result<(), LayoutErrorInner>
         requires laid_out { PartsLaidOut self.old inner.now }
-        requires there { ReferencesExist (lists_of gctx) inner.now }
+        requires exist { ReferencesExist (lists_of gctx) inner.now }
         requires references { GlobalReferencesOk (lists_of gctx) }
-        ensures { AnsweredOrRefused (λ e. (e ≡ LayoutErrorInner.OutOfMemory) × (layout_rule (lists_of gctx.entry) inner.now ≡ Ok tt)) result
+        ensures { UnlessOutOfMemory (λ e. (e ≡ LayoutErrorInner.OutOfMemory) × (layout_rule (lists_of gctx.entry) inner.now ≡ Ok tt)) result
             (λ _. (layout_rule (lists_of gctx.entry) inner.now ≡ Ok tt) × (self.new ≡ self.old ++ layout_of_inner (lists_of gctx.entry) self.old inner.now ∷ []))
             (λ e. layout_rule (lists_of gctx.entry) inner.now ≡ Err e) }
     {
@@ -186,7 +198,7 @@ impl Layouter {
         gctx: GlobalCtx<'_>,
     ) -> Result<TypeLayout, LayoutErrorInner>
         requires laid_out { PartsLaidOut self.now inner.now }
-        requires there { ReferencesExist (lists_of gctx) inner.now }
+        requires exist { ReferencesExist (lists_of gctx) inner.now }
         requires references { GlobalReferencesOk (lists_of gctx) }
         ensures { MatchResult result (λ layout. (layout_rule (lists_of gctx.entry) inner.now ≡ Ok tt) × (layout ≡ layout_of_inner (lists_of gctx.entry) self.now inner.now))
             (λ e. layout_rule (lists_of gctx.entry) inner.now ≡ Err e) }
@@ -198,7 +210,7 @@ impl Layouter {
         Ok(TypeLayout { size, alignment })
     }
 
-    /// The alignment of a value, where the width of its scalars is a power of two.
+    /// The alignment of a value, if the width of its scalars is a power of two.
     #[tactic(auto, using(crate::proofs::Powers::power_of_one))]
     fn alignment_of(&self, inner: &TypeInner) -> Option<Alignment>
         requires { PartsLaidOut self.now inner.now }
@@ -215,11 +227,17 @@ impl Layouter {
             TypeInner::Matrix { rows, scalar, .. } => vector_alignment(*rows, *scalar),
             TypeInner::Array { base, .. } => Some(self[*base].alignment),
             TypeInner::Struct { members, .. } => Some(self.greatest_alignment(members.as_slice())),
-            _ => Some(Alignment::ONE),
+            TypeInner::Pointer { .. }
+            | TypeInner::ValuePointer { .. }
+            | TypeInner::Image { .. }
+            | TypeInner::Sampler { .. }
+            | TypeInner::AccelerationStructure { .. }
+            | TypeInner::RayQuery { .. }
+            | TypeInner::BindingArray { .. } => Some(Alignment::ONE),
         }
     }
 
-    /// The greatest alignment of some members, and 1 where there are none.
+    /// The greatest alignment of some members, and 1 if there are none.
     fn greatest_alignment(&self, members: &[StructMember]) -> Alignment
         requires { All (λ (m : member.StructMember). m.ty < length self.now) members.now }
         ensures { result ≡ greatest (map (λ (m : member.StructMember). alignment_at self.now m.ty) members.now) }
@@ -245,6 +263,6 @@ impl Index<Handle<TypeTag>> for Layouter {
     ghost index_gives = { λ l i r. slice_get l i ≡ Some r };
 
     fn index(&self, handle: Handle<TypeTag>) -> &TypeLayout {
-        &self.layouts[handle.index()]
+        &self.layouts[handle]
     }
 }

@@ -1,5 +1,5 @@
-//! What a module's types and expressions are, apart from any rule on them: sizes and alignments,
-//! numbers that expressions give, when their values are known, and their types.
+//! What is known of the types and expressions of a module before any rule of validation: sizes,
+//! alignments and lengths of types, and index constants, kinds and types of expressions.
 #![tactic(auto)]
 
 pub mod context;

@@ -1,7 +1,8 @@
-//! A typing of this project's own, which knows all forms whose types can be read off their operands.
+//! A typing that supports the forms whose types follow from their operands.
 
 ghost use Rattle.std.specs.Prelude.{◌≡◌, ◌<◌, All, Ok, Some, length, slice_get};
 ghost use Rattle.naga_typing.specs.PlainTyping as spec;
+ghost use Rattle.naga_ir.specs.ItemReferences.{global_lists};
 ghost use Rattle.naga_typing.specs.Resolutions.{IsProperResolution, ResolutionExists, operand};
 ghost use Rattle.naga_typing.specs.Typings.{CanResolve};
 
@@ -14,14 +15,14 @@ use naga_ir::tags::ExpressionTag;
 use naga_ir::types::{Scalar, ScalarKind, TypeInner, VectorSize};
 use std::alloc::Global;
 
-/// A typing that reads types off operands.
+/// A typing that supports the forms whose types follow from their operands.
 ///
-/// It knows literals, constants, overrides and composed values by their declared types; parts of
-/// vectors, matrices, arrays and structs; operators, comparisons, conversions and products. It
-/// doesn't compare operands with one another: where the rule names a type, that is the type,
-/// whatever the other operand is, and other operands are `IncompatibleOperands`. `NotResolvable` are
-/// `Load`, variables, arguments, images, rays, calls, and the results of statements, and so far
-/// functions of mathematics. It takes no memory.
+/// It supports literals, constants, overrides, zero values and compositions, which have a declared
+/// type; parts of vectors, matrices, arrays and structs; operators, relational functions, conversions,
+/// splats and swizzles. Operands aren't compared with one another: the type of a sum is that of its
+/// left operand, whatever the right one is. Operands from which no type follows are
+/// `IncompatibleOperands`. Loads, variables, arguments, images, rays, math functions, calls and the
+/// results of statements are `NotResolvable`. It takes no memory.
 #[derive(Clone, Copy, Debug, PartialEq, Eq)]
 pub struct PlainTyping;
 
@@ -39,7 +40,7 @@ fn vector(size: VectorSize, scalar: Scalar) -> Result<TypeResolution, ResolveErr
     Ok(TypeResolution::Value(TypeInner::Vector { size, scalar }))
 }
 
-/// An element: a vector's scalar, a matrix's column, or an array's base.
+/// The type of an element: the scalar of a vector, the column of a matrix, the base of an array.
 fn element_of(inner: &TypeInner) -> Result<TypeResolution, ResolveError>
     ensures { result ≡ spec.element_of inner.now }
 {
@@ -47,55 +48,101 @@ fn element_of(inner: &TypeInner) -> Result<TypeResolution, ResolveError>
         TypeInner::Vector { scalar: of, .. } => scalar(of),
         TypeInner::Matrix { rows, scalar, .. } => vector(rows, scalar),
         TypeInner::Array { base, .. } => Ok(TypeResolution::Handle(base)),
-        _ => Err(ResolveError::IncompatibleOperands),
+        TypeInner::Scalar(_)
+        | TypeInner::CooperativeMatrix { .. }
+        | TypeInner::Atomic(_)
+        | TypeInner::Pointer { .. }
+        | TypeInner::ValuePointer { .. }
+        | TypeInner::Struct { .. }
+        | TypeInner::Image { .. }
+        | TypeInner::Sampler { .. }
+        | TypeInner::AccelerationStructure { .. }
+        | TypeInner::RayQuery { .. }
+        | TypeInner::BindingArray { .. } => Err(ResolveError::IncompatibleOperands),
     }
 }
 
-/// A part at a known place: an element, or a member of a struct.
+/// The type of the part of a constant index: a member of a struct, or an element.
 fn part_of(index: u32, inner: &TypeInner) -> Result<TypeResolution, ResolveError>
     ensures { result ≡ spec.part_of index inner.now }
 {
-    match inner {
-        TypeInner::Struct { members, .. } => match members.as_slice().get(index as usize) {
+    if let TypeInner::Struct { members, .. } = inner {
+        return match members.as_slice().get(index as usize) {
             Some(member) => Ok(TypeResolution::Handle(member.ty)),
             None => Err(ResolveError::IncompatibleOperands),
-        },
-        _ => element_of(inner),
+        };
     }
+    element_of(inner)
 }
 
-/// A vector of one scalar.
+/// The type of a vector of one scalar.
 fn splat_of(size: VectorSize, inner: &TypeInner) -> Result<TypeResolution, ResolveError>
     ensures { result ≡ spec.splat_of size inner.now }
 {
     match *inner {
         TypeInner::Scalar(scalar) => vector(size, scalar),
-        _ => Err(ResolveError::IncompatibleOperands),
+        TypeInner::Vector { .. }
+        | TypeInner::Matrix { .. }
+        | TypeInner::CooperativeMatrix { .. }
+        | TypeInner::Atomic(_)
+        | TypeInner::Pointer { .. }
+        | TypeInner::ValuePointer { .. }
+        | TypeInner::Array { .. }
+        | TypeInner::Struct { .. }
+        | TypeInner::Image { .. }
+        | TypeInner::Sampler { .. }
+        | TypeInner::AccelerationStructure { .. }
+        | TypeInner::RayQuery { .. }
+        | TypeInner::BindingArray { .. } => Err(ResolveError::IncompatibleOperands),
     }
 }
 
-/// A vector of components of a vector.
+/// The type of a vector of some components of a vector.
 fn swizzle_of(size: VectorSize, inner: &TypeInner) -> Result<TypeResolution, ResolveError>
     ensures { result ≡ spec.swizzle_of size inner.now }
 {
     match *inner {
         TypeInner::Vector { scalar, .. } => vector(size, scalar),
-        _ => Err(ResolveError::IncompatibleOperands),
+        TypeInner::Scalar(_)
+        | TypeInner::Matrix { .. }
+        | TypeInner::CooperativeMatrix { .. }
+        | TypeInner::Atomic(_)
+        | TypeInner::Pointer { .. }
+        | TypeInner::ValuePointer { .. }
+        | TypeInner::Array { .. }
+        | TypeInner::Struct { .. }
+        | TypeInner::Image { .. }
+        | TypeInner::Sampler { .. }
+        | TypeInner::AccelerationStructure { .. }
+        | TypeInner::RayQuery { .. }
+        | TypeInner::BindingArray { .. } => Err(ResolveError::IncompatibleOperands),
     }
 }
 
-/// Truth values in the shape of a scalar or a vector.
+/// The type of as many truth values as a scalar or a vector has components.
 fn truths_of(inner: &TypeInner) -> Result<TypeResolution, ResolveError>
     ensures { result ≡ spec.truths_of inner.now }
 {
     match *inner {
         TypeInner::Scalar(_) => scalar(Scalar::BOOL),
         TypeInner::Vector { size, .. } => vector(size, Scalar::BOOL),
-        _ => Err(ResolveError::IncompatibleOperands),
+        TypeInner::Matrix { .. }
+        | TypeInner::CooperativeMatrix { .. }
+        | TypeInner::Atomic(_)
+        | TypeInner::Pointer { .. }
+        | TypeInner::ValuePointer { .. }
+        | TypeInner::Array { .. }
+        | TypeInner::Struct { .. }
+        | TypeInner::Image { .. }
+        | TypeInner::Sampler { .. }
+        | TypeInner::AccelerationStructure { .. }
+        | TypeInner::RayQuery { .. }
+        | TypeInner::BindingArray { .. } => Err(ResolveError::IncompatibleOperands),
     }
 }
 
-/// A scalar, vector or matrix of another kind, and of another width where one is given.
+/// The type of a scalar, vector or matrix converted to another kind, and to another width, in bytes, if
+/// one is given.
 fn cast_of(
     kind: ScalarKind,
     convert: Option<u8>,
@@ -119,11 +166,21 @@ fn cast_of(
             rows,
             scalar: cast(scalar),
         })),
-        _ => Err(ResolveError::IncompatibleOperands),
+        TypeInner::CooperativeMatrix { .. }
+        | TypeInner::Atomic(_)
+        | TypeInner::Pointer { .. }
+        | TypeInner::ValuePointer { .. }
+        | TypeInner::Array { .. }
+        | TypeInner::Struct { .. }
+        | TypeInner::Image { .. }
+        | TypeInner::Sampler { .. }
+        | TypeInner::AccelerationStructure { .. }
+        | TypeInner::RayQuery { .. }
+        | TypeInner::BindingArray { .. } => Err(ResolveError::IncompatibleOperands),
     }
 }
 
-/// The answer to a question.
+/// The type of the result of a relational function.
 fn relational_of(fun: RelationalFunction, inner: &TypeInner) -> Result<TypeResolution, ResolveError>
     ensures { result ≡ spec.relational_of fun inner.now }
 {
@@ -133,41 +190,41 @@ fn relational_of(fun: RelationalFunction, inner: &TypeInner) -> Result<TypeResol
     }
 }
 
-/// The form of the operand at a place.
+/// The form of the type of an operand.
 fn operand<'a>(
     module: &'a Module,
     earlier: &'a [TypeResolution],
-    place: Handle<ExpressionTag>,
+    handle: Handle<ExpressionTag>,
 ) -> &'a TypeInner
-    requires there { place < length earlier.now }
-    requires exist { All (ResolutionExists «module».now.types) earlier.now }
-    ensures { operand «module».now.types earlier.now place ≡ Some result.now }
+    requires earlier { handle < length earlier.now }
+    requires exist { All (ResolutionExists (global_lists «module».now)) earlier.now }
+    ensures { operand «module».now.types earlier.now handle ≡ Some result.now }
 {
-    earlier[place.index()].inner_with(&module.types)
+    earlier[handle.index()].inner_with(&module.types)
 }
 
-/// The type of the operand at a place, which takes no memory, as it is proper.
+/// The type of an operand. To copy it takes no memory, since it is proper.
 fn same_type(
     earlier: &[TypeResolution],
-    place: Handle<ExpressionTag>,
+    handle: Handle<ExpressionTag>,
 ) -> Result<TypeResolution, ResolveError>
-    requires there { place < length earlier.now }
+    requires earlier { handle < length earlier.now }
     requires proper { All IsProperResolution earlier.now }
-    ensures { result ≡ spec.same_type (slice_get earlier.now place) }
+    ensures { result ≡ spec.same_type (slice_get earlier.now handle) }
 {
-    Ok(earlier[place.index()].try_clone()?)
+    Ok(earlier[handle.index()].try_clone()?)
 }
 
-/// The product of two operands.
+/// The type of the product of two operands.
 fn product(
     module: &Module,
     earlier: &[TypeResolution],
     left: Handle<ExpressionTag>,
     right: Handle<ExpressionTag>,
 ) -> Result<TypeResolution, ResolveError>
-    requires left_there { left < length earlier.now }
-    requires right_there { right < length earlier.now }
-    requires exist { All (ResolutionExists «module».now.types) earlier.now }
+    requires left_earlier { left < length earlier.now }
+    requires right_earlier { right < length earlier.now }
+    requires exist { All (ResolutionExists (global_lists «module».now)) earlier.now }
     requires proper { All IsProperResolution earlier.now }
     ensures { result ≡ spec.product «module».now.types earlier.now left right }
 {
@@ -196,11 +253,12 @@ fn product(
                 scalar,
             }))
         }
+        // Neither: the left factor decides.
         _ => same_type(earlier, left),
     }
 }
 
-/// What an operator makes of two operands.
+/// The type of the result of an operator on two operands.
 fn binary_of(
     module: &Module,
     earlier: &[TypeResolution],
@@ -208,9 +266,9 @@ fn binary_of(
     left: Handle<ExpressionTag>,
     right: Handle<ExpressionTag>,
 ) -> Result<TypeResolution, ResolveError>
-    requires left_there { left < length earlier.now }
-    requires right_there { right < length earlier.now }
-    requires exist { All (ResolutionExists «module».now.types) earlier.now }
+    requires left_earlier { left < length earlier.now }
+    requires right_earlier { right < length earlier.now }
+    requires exist { All (ResolutionExists (global_lists «module».now)) earlier.now }
     requires proper { All IsProperResolution earlier.now }
     ensures { result ≡ spec.binary_of «module».now.types earlier.now op left right }
 {
@@ -222,7 +280,17 @@ fn binary_of(
         | BinaryOperator::Greater
         | BinaryOperator::GreaterEqual => truths_of(operand(module, earlier, left)),
         BinaryOperator::Multiply => product(module, earlier, left, right),
-        _ => same_type(earlier, left),
+        BinaryOperator::Add
+        | BinaryOperator::Subtract
+        | BinaryOperator::Divide
+        | BinaryOperator::Modulo
+        | BinaryOperator::And
+        | BinaryOperator::ExclusiveOr
+        | BinaryOperator::InclusiveOr
+        | BinaryOperator::LogicalAnd
+        | BinaryOperator::LogicalOr
+        | BinaryOperator::ShiftLeft
+        | BinaryOperator::ShiftRight => same_type(earlier, left),
     }
 }
 
@@ -299,6 +367,23 @@ fn resolve(
             convert,
         } => cast_of(kind, convert, operand(module, earlier, expr)),
         Expression::ArrayLength(_) => scalar(Scalar::U32),
-        _ => Err(ResolveError::NotResolvable),
+        Expression::FunctionArgument(_)
+        | Expression::GlobalVariable(_)
+        | Expression::LocalVariable(_)
+        | Expression::Load { .. }
+        | Expression::ImageSample { .. }
+        | Expression::ImageLoad { .. }
+        | Expression::ImageQuery { .. }
+        | Expression::Math { .. }
+        | Expression::CallResult(_)
+        | Expression::AtomicResult { .. }
+        | Expression::WorkGroupUniformLoadResult { .. }
+        | Expression::RayQueryProceedResult
+        | Expression::RayQueryGetIntersection { .. }
+        | Expression::RayQueryVertexPositions { .. }
+        | Expression::SubgroupBallotResult
+        | Expression::SubgroupOperationResult { .. }
+        | Expression::CooperativeLoad { .. }
+        | Expression::CooperativeMultiplyAdd { .. } => Err(ResolveError::NotResolvable),
     }
 }

@@ -1,12 +1,13 @@
-//! The sizes of types.
+//! The sizes of types, in bytes.
 
-ghost use Rattle.std.specs.Prelude.{◌≡◌, ◌*◌, ◌<◌, ◌≤◌, length, IfSome, MatchOption};
+ghost use Rattle.std.specs.Prelude.{◌≡◌, ◌*◌, ◌<◌, ◌≤◌, length, IfSome, MatchOption, OnSome};
 ghost use Rattle.naga_ir.specs.Handles.{GlobalReferencesOk};
 ghost use Rattle.naga_ir_types.specs.Parts.{pending};
 ghost use Rattle.naga_typing.specs.Constants as constants;
 ghost use Rattle.naga_typing.specs.Context.{ReferencesExist, lists_of};
 ghost use Rattle.naga_typing.specs.Layout as spec;
-ghost use Rattle.naga_typing.specs.Layout.{IsNoArray, size_of};
+ghost use Rattle.naga_typing.specs.Layout.{SizeFits, size_of};
+ghost use Rattle.naga_typing.specs.steps.Layout.{IsNoArray};
 ghost use Rattle.naga_ir.specs.ItemReferences.{GlobalLists};
 
 use crate::context::{GlobalCtx, get_const_val_from};
@@ -15,9 +16,10 @@ use naga_ir::handle::Handle;
 use naga_ir::tags::OverrideTag;
 use naga_ir::types::{ArraySize, TypeInner};
 
-/// The count that an override gives by its initialiser, where that is an index constant above 0.
+/// The number of elements that an override gives by its initialiser, or `None` if it has none that is
+/// an index constant above 0.
 pub fn override_count(override_: Handle<OverrideTag>, gctx: GlobalCtx<'_>) -> Option<u32>
-    requires there { override_ < length gctx.overrides.now }
+    requires exists { override_ < length gctx.overrides.now }
     requires references { GlobalReferencesOk (lists_of gctx) }
     ensures { result ≡ constants.override_count (lists_of gctx.entry) override_ }
 {
@@ -28,10 +30,10 @@ pub fn override_count(override_: Handle<OverrideTag>, gctx: GlobalCtx<'_>) -> Op
     }
 }
 
-/// How many elements an array counts for its size: one of unknown length counts one, and one that
-/// an override sizes none where the override gives no count.
+/// How many elements the size of an array counts: one if the array is runtime-sized, and none if it
+/// is sized by an override that gives no count.
 fn element_count(size: ArraySize, gctx: GlobalCtx<'_>) -> u32
-    requires there { IfSome (pending size) (λ o. o < length gctx.overrides.now) }
+    requires exists { IfSome (pending size) (λ o. o < length gctx.overrides.now) }
     requires references { GlobalReferencesOk (lists_of gctx) }
     ensures { result ≡ spec.element_count (lists_of gctx.entry) size }
 {
@@ -42,16 +44,16 @@ fn element_count(size: ArraySize, gctx: GlobalCtx<'_>) -> u32
     }
 }
 
-/// The size of an array, in bytes: its count times its stride.
+/// The size of an array, in bytes: its number of elements times its stride.
 pub(crate) fn array_size(size: ArraySize, stride: u32, gctx: GlobalCtx<'_>) -> u64
-    requires there { IfSome (pending size) (λ o. o < length gctx.overrides.now) }
+    requires exists { IfSome (pending size) (λ o. o < length gctx.overrides.now) }
     requires references { GlobalReferencesOk (lists_of gctx) }
     ensures { result ≡ spec.element_count (lists_of gctx.entry) size * stride }
 {
     u64::from(element_count(size, gctx)) * u64::from(stride)
 }
 
-/// The size of a value, in bytes, that is no array.
+/// The size of a value that is no array, in bytes.
 pub(crate) fn size_unless_array(inner: &TypeInner) -> u32
     ensures { IsNoArray inner.now → (g : GlobalLists) → result ≡ size_of g inner.now }
 {
@@ -79,38 +81,44 @@ pub(crate) fn size_unless_array(inner: &TypeInner) -> u32
         }
         TypeInner::Pointer { .. } | TypeInner::ValuePointer { .. } => 4,
         TypeInner::Struct { span, .. } => *span,
-        _ => 0,
+        TypeInner::Array { .. }
+        | TypeInner::Image { .. }
+        | TypeInner::Sampler { .. }
+        | TypeInner::AccelerationStructure { .. }
+        | TypeInner::RayQuery { .. }
+        | TypeInner::BindingArray { .. } => 0,
     }
 }
 
-/// The size of a value, in bytes, or `None` where it is above 4294967295, which only that of an
-/// array can be.
+/// The size of a value, in bytes, or `None` if it is above 4294967295, which only the size of an array
+/// can be.
 ///
-/// The rule is this project's own, as naga's, but for arrays: their size is their count times their
-/// stride, also above `MAX_TYPE_SIZE`.
+/// For types that a buffer may hold the rule is that of WGSL, "Alignment and Size", but that an array
+/// is as large as its stride says. A runtime-sized array counts one element. A pointer has 4 bytes,
+/// and types without a size have none. naga's `TypeInner::try_size` is `None` for an array above
+/// `MAX_TYPE_SIZE` already.
 pub fn try_size(inner: &TypeInner, gctx: GlobalCtx<'_>) -> Option<u32>
-    requires there { ReferencesExist (lists_of gctx) inner.now }
+    requires exist { ReferencesExist (lists_of gctx) inner.now }
     requires references { GlobalReferencesOk (lists_of gctx) }
-    ensures { MatchOption result (4294967295 < size_of (lists_of gctx.entry) inner.now) (λ size. size ≡ size_of (lists_of gctx.entry) inner.now) }
+    ensures value { MatchOption result (4294967295 < size_of (lists_of gctx.entry) inner.now) (λ size. size ≡ size_of (lists_of gctx.entry) inner.now) }
+    ensures fits { OnSome result (SizeFits (lists_of gctx.entry) inner.now) }
 {
-    match inner {
-        TypeInner::Array { size, stride, .. } => {
-            u32::try_from(array_size(*size, *stride, gctx)).ok()
-        }
-        _ => Some(size_unless_array(inner)),
+    if let TypeInner::Array { size, stride, .. } = inner {
+        return u32::try_from(array_size(*size, *stride, gctx)).ok();
     }
+    Some(size_unless_array(inner))
 }
 
-/// The size of a value, in bytes, where that is at most 4294967295, as it is of each type that a
-/// `Layouter` has laid out.
+/// The size of a value, in bytes, of a form whose size is a `u32`: of any but an array, and of each
+/// array that has a layout. naga's `TypeInner::size`.
 pub fn size(inner: &TypeInner, gctx: GlobalCtx<'_>) -> u32
-    requires there { ReferencesExist (lists_of gctx) inner.now }
+    requires exist { ReferencesExist (lists_of gctx) inner.now }
     requires references { GlobalReferencesOk (lists_of gctx) }
-    requires fits { size_of (lists_of gctx) inner.now ≤ 4294967295 }
+    requires fits { SizeFits (lists_of gctx) inner.now }
     ensures { result ≡ size_of (lists_of gctx.entry) inner.now }
 {
-    match try_size(inner, gctx) {
-        Some(size) => size,
-        None => unreachable!(),
+    if let TypeInner::Array { size, stride, .. } = inner {
+        return array_size(*size, *stride, gctx) as u32;
     }
+    size_unless_array(inner)
 }

@@ -1,9 +1,9 @@
-//! The types of expressions.
+//! The types of expressions, and whether two types are the same.
 
 ghost use Rattle.std.specs.Prelude.{◌≡◌, ◌↔◌, IfOk, IsFalse, IsOk, IsTrue, OnErr, Some, unwrap_or};
 ghost use Rattle.naga_ir_types.specs.TypeWords.{IsNoStruct, IsStruct};
 ghost use Rattle.naga_typing.specs.Resolutions as spec;
-ghost use Rattle.naga_typing.specs.Resolutions.{AllPartsExist, AreSameTypes, IsStructValue, PartsExist, ResolutionExists, inner_in};
+ghost use Rattle.naga_typing.specs.Resolutions.{AllPartsExist, AreSameTypes, IsStructValue, PartsExist, TypesExist, inner_in};
 ghost use Rattle.naga_typing.specs.Sameness.{are_same};
 
 use naga_ir::handle::Handle;
@@ -13,17 +13,18 @@ use naga_ir::types::TypeInner;
 use naga_ir::unique_arena::UniqueArena;
 use thiserror::Error;
 
-/// The type of an expression.
+/// The type of an expression: naga's `TypeResolution`.
 #[derive(Clone, Debug, PartialEq, Drop)]
 pub enum TypeResolution {
     /// A type of the module.
     Handle(Handle<TypeTag>),
-    /// A type that need not stand in the module. It is no array, binding array or struct.
+    /// A type that the module need not contain. The type of an expression is no array, binding array or
+    /// struct in this form.
     Value(TypeInner),
 }
 
 impl TypeResolution {
-    /// The handle of the type, where it is one of the module's.
+    /// The handle of the type, if it is given by one.
     pub fn handle(&self) -> Option<Handle<TypeTag>>
         ensures { result ≡ spec.handle_of self.now }
     {
@@ -33,9 +34,9 @@ impl TypeResolution {
         }
     }
 
-    /// The form of the type.
+    /// The form of the type: naga's `TypeResolution::inner_with`.
     pub fn inner_with<'a>(&'a self, types: &'a UniqueArena) -> &'a TypeInner
-        requires { ResolutionExists types.now self.now }
+        requires { TypesExist types.now self.now }
         ensures { inner_in types.now self.now ≡ Some result.now }
     {
         match self {
@@ -44,8 +45,11 @@ impl TypeResolution {
         }
     }
 
-    /// An equal resolution. Only a struct that is given as a value takes memory, and `OutOfMemory`
-    /// says that it was refused.
+    /// An equal resolution. Only a struct that is given as a value takes memory.
+    ///
+    /// # Errors
+    ///
+    /// `OutOfMemory` if memory was refused, for such a struct.
     pub fn try_clone(&self) -> Result<TypeResolution, OutOfMemory>
         ensures copy { IfOk result (λ copy. copy ≡ self.now) }
         ensures memory { OnErr result (IsStructValue self.now) }
@@ -60,10 +64,10 @@ impl TypeResolution {
 /// Why an expression has no type.
 #[derive(Clone, Copy, Debug, PartialEq, Eq, Error)]
 pub enum ResolveError {
-    /// The operands have types that the expression can't be worked out from.
+    /// The types of the operands don't fit the expression.
     #[error("Incompatible operands")]
     IncompatibleOperands,
-    /// The form of the expression is one that this typing doesn't know.
+    /// The typing doesn't support the form of the expression.
     #[error("The type of the expression can't be resolved")]
     NotResolvable,
     /// A request for memory was refused.
@@ -82,23 +86,23 @@ impl From<OutOfMemory> for ResolveError {
     }
 }
 
-/// Whether two types are one: structs where their handles are equal, and other types where their
-/// forms are, a pointer to a scalar or to a vector being written as a value pointer. The rule is
-/// naga's.
+/// Whether two types are the same, by the rule of naga's `compare_types`: structs if they have the same
+/// handle, and other types if their forms are equal, where a pointer to a scalar or a vector equals the
+/// value pointer to it.
 pub fn compare_types(lhs: &TypeResolution, rhs: &TypeResolution, types: &UniqueArena) -> bool
-    requires lhs_exists { ResolutionExists types.now lhs.now }
-    requires rhs_exists { ResolutionExists types.now rhs.now }
+    requires lhs_exists { TypesExist types.now lhs.now }
+    requires rhs_exists { TypesExist types.now rhs.now }
     requires parts_exist { AllPartsExist types.now }
     ensures relation { IsTrue result ↔ AreSameTypes types.now lhs.now rhs.now }
     ensures decision { result ≡ are_same types.now lhs.now rhs.now }
 {
-    are_one(lhs, rhs, types)
+    compare_types_inner(lhs, rhs, types)
 }
 
-/// Whether two types are one, structs by their handles and other forms as they are compared.
-fn are_one(lhs: &TypeResolution, rhs: &TypeResolution, types: &UniqueArena) -> bool
-    requires lhs_exists { ResolutionExists types.now lhs.now }
-    requires rhs_exists { ResolutionExists types.now rhs.now }
+/// `compare_types` by the relation alone, from which its truth value is proved.
+fn compare_types_inner(lhs: &TypeResolution, rhs: &TypeResolution, types: &UniqueArena) -> bool
+    requires lhs_exists { TypesExist types.now lhs.now }
+    requires rhs_exists { TypesExist types.now rhs.now }
     requires parts_exist { AllPartsExist types.now }
     ensures { IsTrue result ↔ AreSameTypes types.now lhs.now rhs.now }
 {
@@ -107,7 +111,7 @@ fn are_one(lhs: &TypeResolution, rhs: &TypeResolution, types: &UniqueArena) -> b
     match (is_struct(left), is_struct(right)) {
         (true, true) => lhs.handle().is_some() && lhs.handle() == rhs.handle(),
         (false, false) => are_equivalent(left, right, types),
-        _ => false,
+        (true, false) | (false, true) => false,
     }
 }
 
@@ -130,8 +134,8 @@ fn are_equivalent(left: &TypeInner, right: &TypeInner, types: &UniqueArena) -> b
     canonical_left.as_ref().unwrap_or(left) == canonical_right.as_ref().unwrap_or(right)
 }
 
-/// A pointer to a scalar or to a vector as a value pointer. All other forms are compared as they
-/// are.
+/// The value pointer that equals a pointer to a scalar or a vector. All other forms are compared as
+/// they are.
 fn canonical_form(inner: &TypeInner, types: &UniqueArena) -> Option<TypeInner>
     requires { PartsExist types.now inner.now }
     ensures { unwrap_or result inner.now ≡ spec.canonical types.now inner.now }
@@ -150,6 +154,17 @@ fn canonical_form(inner: &TypeInner, types: &UniqueArena) -> Option<TypeInner>
             scalar,
             space,
         }),
-        _ => None,
+        TypeInner::Matrix { .. }
+        | TypeInner::CooperativeMatrix { .. }
+        | TypeInner::Atomic(_)
+        | TypeInner::Pointer { .. }
+        | TypeInner::ValuePointer { .. }
+        | TypeInner::Array { .. }
+        | TypeInner::Struct { .. }
+        | TypeInner::Image { .. }
+        | TypeInner::Sampler { .. }
+        | TypeInner::AccelerationStructure { .. }
+        | TypeInner::RayQuery { .. }
+        | TypeInner::BindingArray { .. } => None,
     }
 }

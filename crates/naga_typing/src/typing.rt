@@ -1,11 +1,11 @@
-//! What the types of expressions are worked out by.
+//! What resolves the types of expressions.
 
 ghost use Rattle.std.specs.Prelude.{◌≡◌, ℕ, Bool, List, Result, map};
 ghost use Rattle.naga_ir.specs.declared.expression.Expression as expression;
 ghost use Rattle.naga_ir.specs.declared.expression.MathFunction as math;
 ghost use Rattle.naga_ir.specs.declared.ir.Module as modules;
 ghost use Rattle.naga_ir_types.specs.declared.types.TypeInner as inner;
-ghost use Rattle.naga_typing.specs.Typings.{CanResolve, IsAnswer, IsLawful};
+ghost use Rattle.naga_typing.specs.Typings.{CanResolve, IsResolveResult, IsLawful};
 ghost use Rattle.naga_typing.specs.declared.typifier.ResolveError as error;
 ghost use Rattle.naga_typing.specs.declared.typifier.TypeResolution as resolution;
 
@@ -15,7 +15,8 @@ use naga_ir::ir::Module;
 use naga_ir::types::TypeInner;
 use std::alloc::Global;
 
-/// A way to work out the types of expressions. Generic code is proved once for each lawful one.
+/// A rule for the types of expressions, as naga's `ResolveContext::resolve` and the overloads of its
+/// math functions are one. Generic code is proved for every implementation, by its laws alone.
 pub trait Typing {
     ghost resolves: { Self → modules.Module → expression.Expression → List resolution.TypeResolution → Result resolution.TypeResolution error.ResolveError };
 
@@ -23,11 +24,15 @@ pub trait Typing {
 
     ghost least_arguments: { Self → math.MathFunction → List inner.TypeInner → ℕ };
 
-    /// The type of an expression, from those of its operands, which stand in `earlier` at their
-    /// places. It hangs on these arguments alone.
+    /// The type of an expression, by the types of the expressions before it in the arena. It depends on
+    /// these arguments alone. The expression may be one of a function, which isn't given, so that of a
+    /// local variable or an argument nothing is known.
     ///
-    /// `IncompatibleOperands` or `NotResolvable` where it has none. `OutOfMemory` may be answered only
-    /// where a request was refused, which nothing proves.
+    /// # Errors
+    ///
+    /// - `IncompatibleOperands` if the types of the operands don't fit the expression.
+    /// - `NotResolvable` if the typing doesn't support the form of the expression.
+    /// - `OutOfMemory` if memory was refused. That it was refused isn't proved of an implementation.
     fn resolve(
         &self,
         alloc: Global,
@@ -36,13 +41,14 @@ pub trait Typing {
         earlier: &[TypeResolution],
     ) -> Result<TypeResolution, ResolveError>
         requires { CanResolve «module».now expression.now earlier.now }
-        ensures { IsAnswer (resolves self.now «module».now expression.now earlier.now) result };
+        ensures { IsResolveResult (resolves self.now «module».now expression.now earlier.now) result };
 
-    /// Whether some overload of a function of mathematics begins with these types.
+    /// Whether some overload of a math function begins with arguments of these types.
     fn accepts(&self, fun: MathFunction, types: &[&TypeInner]) -> bool
         ensures { result ≡ accepts_types self.now fun (map (λ t. t.now) types.now) };
 
-    /// How many arguments a function of mathematics takes at least that begins with these types.
+    /// The least number of arguments that an overload of a math function takes which begins with
+    /// arguments of these types.
     fn min_arguments(&self, fun: MathFunction, types: &[&TypeInner]) -> usize
         ensures { result ≡ least_arguments self.now fun (map (λ t. t.now) types.now) };
 

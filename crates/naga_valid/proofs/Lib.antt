@@ -1,3 +1,3 @@
-mod Going
-mod Judged
+mod Refusals
+mod RuleResults
 mod WorkedSettings

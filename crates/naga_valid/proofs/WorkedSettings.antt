@@ -1,38 +1,39 @@
 -- Who may use subgroups by the capabilities, and what for.
-use Rattle.std.proofs.Common.{◌≡◌, ◌+◌, ◌-◌, ◌^◌, refl}
-use Rattle.naga_valid.specs.State.{operations_with, stages_with, subgroup, subgroup_vertex_stage}
+use Rattle.std.proofs.Common.{◌≡◌, ◌+◌, refl}
+use Rattle.naga_flags.specs.Bits.{SUBGROUP, SUBGROUP_VERTEX_STAGE, all_capabilities, default_capabilities}
+use Rattle.naga_valid.specs.State.{operations_with, stages_with}
 
 -- by those of a validator that is given none
-pub stages-by-default : stages_with 36864 ≡ 0
+pub stages-by-default : stages_with default_capabilities ≡ 0
 stages-by-default = refl
 
-pub operations-by-default : operations_with 36864 ≡ 0
+pub operations-by-default : operations_with default_capabilities ≡ 0
 operations-by-default = refl
 
 -- by the one for subgroups
-pub stages-with-subgroup : stages_with subgroup ≡ 0x1e
+pub stages-with-subgroup : stages_with SUBGROUP ≡ 0x1e
 stages-with-subgroup = refl
 
-pub operations-with-subgroup : operations_with subgroup ≡ 0xbf
+pub operations-with-subgroup : operations_with SUBGROUP ≡ 0xbf
 operations-with-subgroup = refl
 
 -- by the one for subgroups in vertex shaders
-pub stages-with-vertex : stages_with subgroup_vertex_stage ≡ 0x1
+pub stages-with-vertex : stages_with SUBGROUP_VERTEX_STAGE ≡ 0x1
 stages-with-vertex = refl
 
-pub operations-with-vertex : operations_with subgroup_vertex_stage ≡ 0
+pub operations-with-vertex : operations_with SUBGROUP_VERTEX_STAGE ≡ 0
 operations-with-vertex = refl
 
 -- by both
-pub stages-with-both : stages_with (subgroup + subgroup_vertex_stage) ≡ 0x1f
+pub stages-with-both : stages_with (SUBGROUP + SUBGROUP_VERTEX_STAGE) ≡ 0x1f
 stages-with-both = refl
 
-pub operations-with-both : operations_with (subgroup + subgroup_vertex_stage) ≡ 0xbf
+pub operations-with-both : operations_with (SUBGROUP + SUBGROUP_VERTEX_STAGE) ≡ 0xbf
 operations-with-both = refl
 
 -- by all capabilities
-pub stages-with-all : stages_with (2 ^ 44 - 1) ≡ 0x1f
+pub stages-with-all : stages_with all_capabilities ≡ 0x1f
 stages-with-all = refl
 
-pub operations-with-all : operations_with (2 ^ 44 - 1) ≡ 0xbf
+pub operations-with-all : operations_with all_capabilities ≡ 0xbf
 operations-with-all = refl

@@ -1,24 +1,24 @@
--- Which modules are accepted, and what is said of the others.
+-- Which modules are accepted, and how the others are refused.
 use Rattle.std.specs.Prelude.{◌≡◌, ◌⊎◌, ℕ, Bool, List, [], Some, map, slice_get, unwrap_or}
+use Rattle.naga_arena.specs.InOrder.{IsFirstRefusalInOrder}
+use Rattle.naga_arena.specs.Results.{IsFirstRefusal}
 use Rattle.naga_exprs.specs.ModuleInfo.{ModuleInfoLists}
 use Rattle.naga_flags.specs.declared.flags.Capabilities.{Capabilities}
-use Rattle.naga_flags.specs.declared.flags.TypeFlags.{TypeFlags}
 use Rattle.naga_flags.specs.declared.flags.ValidationFlags.{ValidationFlags}
-use Rattle.naga_arena.specs.Results.{IsFirstRefusal}
 use Rattle.naga_handles.specs.Faults.{IsFault, IsHandleFault}
 use Rattle.naga_handles.specs.declared.error.ValidationFault.TheVariants.{MissingMember}
 use Rattle.naga_ir.specs.Handles.{HandlesAccepted}
 use Rattle.naga_ir.specs.ItemReferences.{global_lists}
 use Rattle.naga_ir.specs.declared.ir.Module.{Module}
 use Rattle.naga_ir_types.specs.declared.types.«Type».{«Type»}
-use Rattle.naga_types.specs.Known.{AreInfos, IsFirstRefused}
-use Rattle.naga_types.specs.Surroundings.{Surroundings}
+use Rattle.naga_types.specs.AcceptedTypes.{AreTypesAccepted, IsLaidOut, types_rule}
 use Rattle.naga_types.specs.declared.error.TypeError.{TypeError}
 use Rattle.naga_types.specs.declared.error.TypeError.TheVariants.{InvalidData}
 use Rattle.naga_types.specs.declared.info.TypeInfo.{TypeInfo}
-use Rattle.naga_typing.specs.Layout.{AreLayouts, layout_results}
+use Rattle.naga_typing.specs.Layout.{layout_results}
+use Rattle.naga_typing.specs.declared.layouter.LayoutError.{LayoutError}
 use Rattle.naga_typing.specs.declared.layouter.TypeLayout.{TypeLayout}
-use Rattle.naga_valid.specs.State.{State}
+use Rattle.naga_valid.specs.State.{Facts, State}
 use Rattle.naga_valid.specs.declared.error.ValidationError.{ValidationError}
 use Rattle.naga_valid.specs.declared.error.ValidationError.TheVariants.{InvalidHandle, Layouter, Type_, OutOfMemory}
 
@@ -32,50 +32,54 @@ pub record Settings : Type 0 where
 abbrev pub settings_of : State → Bool → Settings
 settings_of state resolved = record { flags = state.flags; capabilities = state.capabilities; resolved = resolved }
 
--- what the types of a module are judged by
-abbrev pub around : Module → Capabilities → Bool → List TypeLayout → List TypeInfo → Surroundings
-around m capabilities resolved layouts infos = record { capabilities = capabilities.0; resolved = resolved; lists = global_lists m; layouts = layouts; infos = infos }
-
--- all handles are right, each type has a layout, and each keeps its rule, which gives these infos
-pub record IsAccepted (m : Module) (settings : Settings) (infos : List TypeInfo) : Type 0 where
-  pub handles : HandlesAccepted m
+-- a module is accepted, and these are the facts: its handles are right, its types have layouts, and each keeps its rule, which gives these infos
+pub record IsAccepted (m : Module) (settings : Settings) (facts : Facts) : Type 0 where
   pub layouts : List TypeLayout
-  pub laid_out : AreLayouts (global_lists m) layouts
-  pub types : AreInfos (around m settings.capabilities settings.resolved layouts infos)
+  pub types : AreTypesAccepted m settings.capabilities settings.resolved layouts facts.infos
 
--- what each type may be used for
-abbrev pub flags_of : List TypeInfo → List TypeFlags
-flags_of infos = map (λ i. i.flags) infos
+-- a module keeps all rules
+abbrev pub IsValid : Module → Settings → Type 0
+IsValid m settings = (facts : Facts) × IsAccepted m settings facts
 
--- a module is accepted with these infos, and what is known of it is made of them
-abbrev pub AcceptsWith : Module → Settings → List TypeInfo → ModuleInfoLists → Type 0
-AcceptsWith m settings infos info = IsAccepted m settings infos × (info.type_flags ≡ flags_of infos)
+-- what a module's users learn of its facts: what each type may be used for
+abbrev pub lists_of : Facts → ModuleInfoLists
+lists_of facts = record { type_flags = map (λ (i : TypeInfo). i.flags) facts.infos }
 
--- the type at this place has this name, or none and the name is empty
+-- a module is accepted with these facts, and what its users learn is made of them
+abbrev pub Accepts : Module → Settings → Facts → ModuleInfoLists → Type 0
+Accepts m settings facts info = IsAccepted m settings facts × (info ≡ lists_of facts)
+
+-- the type of this index has this name, or none and the name is empty
 abbrev pub IsNameOf : List «Type» → ℕ → List ℕ → Type 0
 IsNameOf types place name = (t : «Type») × (slice_get types place ≡ Some t) × (name ≡ unwrap_or t.name [])
 
--- a comment is on a member that the type at this place doesn't have
+-- a comment documents a member that the type of this index doesn't have
 abbrev pub IsMissingMember : Module → ℕ → List ℕ → TypeError → Type 0
 IsMissingMember m handle name source = IsFault m (MissingMember handle name) × (source ≡ InvalidData handle)
 
--- all handles are right and all types have layouts, and the type at this place is the first that breaks its rule
-pub record IsFirstBroken (m : Module) (settings : Settings) (handle : ℕ) (name : List ℕ) (source : TypeError) : Type 0 where
-  pub handles : HandlesAccepted m
+-- all handles are right, and this is the first type that has no layout
+abbrev pub IsLayoutRefusal : Module → LayoutError → Type 0
+IsLayoutRefusal m e = HandlesAccepted m × IsFirstRefusal (layout_results (global_lists m)) e.ty e.inner
+
+-- all types have layouts, and the type of this index is the first that breaks its rule
+pub record IsTypeRefusal (m : Module) (settings : Settings) (handle : ℕ) (name : List ℕ) (source : TypeError) : Type 0 where
   pub layouts : List TypeLayout
-  pub laid_out : AreLayouts (global_lists m) layouts
-  pub infos : List TypeInfo
-  pub refused : IsFirstRefused (around m settings.capabilities settings.resolved layouts infos) handle source
+  pub laid_out : IsLaidOut m layouts
+  pub first : IsFirstRefusalInOrder (types_rule m settings.capabilities settings.resolved layouts) m.types handle source
   pub named : IsNameOf m.types handle name
 
 -- a refusal of a module: a fault of its handles, else the first of its layouts, else of its types
 abbrev pub IsRefusal : Module → Settings → ValidationError → Type 0
 IsRefusal m settings (InvalidHandle e) = IsHandleFault m e
-IsRefusal m settings (Layouter e) = HandlesAccepted m × IsFirstRefusal (layout_results (global_lists m)) e.ty e.inner
-IsRefusal m settings (Type_ handle name source) = IsMissingMember m handle name source ⊎ IsFirstBroken m settings handle name source
+IsRefusal m settings (Layouter e) = IsLayoutRefusal m e
+IsRefusal m settings (Type_ handle name source) = IsMissingMember m handle name source ⊎ IsTypeRefusal m settings handle name source
 IsRefusal m settings OutOfMemory = ⊥
 
--- there are no constants, overrides and global expressions in a module
+-- a module is refused with this error, and isn't valid
+abbrev pub Refuses : Module → Settings → ValidationError → Type 0
+Refuses m settings e = IsRefusal m settings e × ¬ (IsValid m settings)
+
+-- a module has no constants, overrides and global expressions
 pub record HasNoValues (m : Module) : Type 0 where
   pub constants : m.constants ≡ []
   pub overrides : m.overrides ≡ []

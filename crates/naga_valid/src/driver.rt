@@ -1,17 +1,17 @@
 //! The driver: the rules in their order.
 
 ghost use Rattle.std.specs.Prelude.{◌≡◌, ◌<◌, ◌≤◌, ◌⊎◌, ◌↔◌, [], length, IfOk, IfSome, IsTrue, OnErr, OnOk, Some, slice_get, false, true, unwrap_or};
-ghost use Rattle.naga_arena.specs.Memory.{AnsweredOrRefused};
-ghost use Rattle.naga_flags.specs.Width.{width_rule};
-ghost use Rattle.naga_ir.specs.Handles.{HandlesAccepted};
-ghost use Rattle.naga_ir.specs.ItemReferences.{global_lists};
+ghost use Rattle.naga_arena.specs.Memory.{UnlessOutOfMemory};
 ghost use Rattle.naga_arena.specs.Span.{inner_of};
-ghost use Rattle.naga_types.specs.Answers.{Answers};
-ghost use Rattle.naga_types.specs.Known.{AreInfos, rule_at};
+ghost use Rattle.naga_flags.specs.Width.{width_rule};
+ghost use Rattle.naga_types.specs.AcceptedTypes.{AreTypesAccepted, IsLaidOut, judged_by, rule_at};
+ghost use Rattle.naga_types.specs.RuleResults.{IsRuleResult};
 ghost use Rattle.naga_types.specs.declared.error.TypeError.TheVariants as TypeError;
-ghost use Rattle.naga_typing.specs.Layout.{AreLayouts};
+ghost use Rattle.naga_ir.specs.Handles.{HandlesAccepted};
+ghost use Rattle.naga_valid.specs.Accepted.{Accepts, HasNoValues, IsAccepted, Refuses, lists_of, settings_of};
+ghost use Rattle.naga_valid.specs.Accepted as accepted;
+ghost use Rattle.naga_valid.specs.State.{no_facts};
 ghost use Rattle.naga_valid.specs.State as state;
-ghost use Rattle.naga_valid.specs.Accepted.{AcceptsWith, HasNoValues, IsRefusal, Settings, around, flags_of, settings_of};
 
 use crate::error::ValidationError;
 use bitflags::Flags;
@@ -22,7 +22,7 @@ use naga_handles::handles::validate_module_handles;
 use naga_ir::handle::Handle;
 use naga_ir::ir::Module;
 use naga_ir::memory::OutOfMemory;
-use naga_ir::span::{Span, WithSpan};
+use naga_ir::span::WithSpan;
 use naga_ir::tags::TypeTag;
 use naga_ir::text::Text;
 use naga_ir::types::{Scalar, Type};
@@ -30,13 +30,13 @@ use naga_types::error::TypeError;
 use naga_types::info::{TypeContext, TypeInfo, TypeInfos};
 use naga_types::validate::validate_type;
 use naga_typing::context::to_ctx;
-use naga_typing::layouter::{LayoutError, LayoutErrorInner, Layouter};
+use naga_typing::layouter::{LayoutErrorInner, Layouter};
 use std::alloc::Global;
 use std::marker::Model;
 
 /// Validates modules, one after another, under settings of its own.
 ///
-/// Its answers depend on the settings and the module alone. Contracts see the settings, and the infos
+/// Its results depend on the settings and the module alone. Contracts see the settings, and the infos
 /// of the types of the module last accepted.
 #[derive(Drop)]
 pub struct Validator {
@@ -59,8 +59,26 @@ impl Model for Validator {
       capabilities = v.capabilities;
       subgroup_stages = v.subgroup_stages;
       subgroup_operations = v.subgroup_operations;
-      infos = v.infos.infos;
+      facts = record { infos = v.infos.infos };
     } };
+}
+
+/// What one call judges a module by.
+#[derive(Clone, Copy)]
+struct Settings {
+    flags: ValidationFlags,
+    capabilities: Capabilities,
+    overrides_resolved: bool,
+}
+
+impl Model for Settings {
+    ghost use Rattle.naga_valid.specs.Accepted as accepted;
+
+    ghost Value = { accepted.Settings };
+
+    ghost view = { λ s. record { flags = s.flags; capabilities = s.capabilities; resolved = s.overrides_resolved } };
+
+    ghost inverse = { λ s. record { flags = s.flags; capabilities = s.capabilities; overrides_resolved = s.resolved } };
 }
 
 /// The stages that may use subgroups, as the capabilities say.
@@ -96,10 +114,11 @@ fn operations_with(capabilities: Capabilities) -> SubgroupOperationSet
 }
 
 impl Validator {
-    /// A validator under these settings. It takes no memory before its first module.
+    /// A validator with these settings. It takes no memory before its first module.
     ///
     /// With `Capabilities::SUBGROUP` fragment, compute, mesh and task shaders may use subgroups, and
-    /// all operations in them; with `SUBGROUP_VERTEX_STAGE` vertex shaders may (naga).
+    /// all operations in them; with `SUBGROUP_VERTEX_STAGE` vertex shaders may (naga's
+    /// `Validator::new`).
     pub fn new(alloc: Global, flags: ValidationFlags, capabilities: Capabilities) -> Validator
         ensures { result ≡ state.fresh flags capabilities }
     {
@@ -134,7 +153,7 @@ impl Validator {
 
     /// Forgets the module last accepted, and keeps the settings.
     pub fn reset(&mut self)
-        ensures { self.new ≡ record self.old { infos = [] } }
+        ensures { self.new ≡ record self.old { facts = no_facts } }
     {
         self.infos.clear();
         self.layouter.clear();
@@ -143,30 +162,41 @@ impl Validator {
     /// Whether a module keeps all rules, and what is known of it then. So far the module has no
     /// constants, overrides and global expressions, and of functions only the handles are judged.
     ///
-    /// The error is a refusal: of a handle or range that isn't right, `ValidationError::InvalidHandle`,
-    /// or of a comment on a missing member, `Type_` with `InvalidData`; else the first of a type
-    /// without layout, `Layouter`; else the first of a type that breaks its rule, `Type_`. The last two
-    /// have the span of the type. After an error, want of memory too, the validator is as after `reset`.
+    /// # Errors
+    ///
+    /// A refusal: of a handle or range that isn't right, `ValidationError::InvalidHandle`, or of a
+    /// comment on a missing member, `Type_` with `InvalidData`; else the first of a type without
+    /// layout, `Layouter`; else the first of a type that breaks its rule, `Type_`. The last two have
+    /// the span of the type. A module that is refused breaks a rule. `OutOfMemory` if memory was
+    /// refused. After each of them the validator is as after `reset`.
     pub fn validate(&mut self, module: &Module) -> Result<ModuleInfo, WithSpan<ValidationError>>
         requires { HasNoValues «module».now }
-        ensures answer { AnsweredOrRefused (λ e. inner_of e ≡ ValidationError.OutOfMemory) result (AcceptsWith «module».now (settings_of self.old false) self.new.infos)
-            (λ e. IsRefusal «module».now (settings_of self.old false) (inner_of e)) }
-        ensures cleared { OnErr result (self.new.infos ≡ []) }
-        ensures settings { self.new ≡ record self.old { infos = self.new.infos } }
+        ensures result { UnlessOutOfMemory (λ e. inner_of e ≡ ValidationError.OutOfMemory) result
+            (λ info. Accepts «module».now (settings_of self.old false) self.new.facts info.lists)
+            (λ e. Refuses «module».now (settings_of self.old false) (inner_of e)) }
+        ensures cleared { OnErr result (self.new.facts ≡ no_facts) }
+        ensures settings { self.new ≡ record self.old { facts = self.new.facts } }
     {
         self.validate_impl(module, false)
     }
 
-    /// The same, where overrides have to have their values.
+    /// The same, if overrides have to have their values. What is accepted so, `validate` accepts with
+    /// the same info.
+    ///
+    /// # Errors
+    ///
+    /// Those of `validate`.
     pub fn validate_resolved_overrides(
         &mut self,
         module: &Module,
     ) -> Result<ModuleInfo, WithSpan<ValidationError>>
         requires { HasNoValues «module».now }
-        ensures answer { AnsweredOrRefused (λ e. inner_of e ≡ ValidationError.OutOfMemory) result (AcceptsWith «module».now (settings_of self.old true) self.new.infos)
-            (λ e. IsRefusal «module».now (settings_of self.old true) (inner_of e)) }
-        ensures cleared { OnErr result (self.new.infos ≡ []) }
-        ensures settings { self.new ≡ record self.old { infos = self.new.infos } }
+        ensures result { UnlessOutOfMemory (λ e. inner_of e ≡ ValidationError.OutOfMemory) result
+            (λ info. Accepts «module».now (settings_of self.old true) self.new.facts info.lists)
+            (λ e. Refuses «module».now (settings_of self.old true) (inner_of e)) }
+        ensures unresolved { OnOk result (IsAccepted «module».now (settings_of self.old false) self.new.facts) }
+        ensures cleared { OnErr result (self.new.facts ≡ no_facts) }
+        ensures settings { self.new ≡ record self.old { facts = self.new.facts } }
     {
         self.validate_impl(module, true)
     }
@@ -177,41 +207,43 @@ impl Validator {
         overrides_resolved: bool,
     ) -> Result<ModuleInfo, WithSpan<ValidationError>>
         requires { HasNoValues «module».now }
-        ensures answer { AnsweredOrRefused (λ e. inner_of e ≡ ValidationError.OutOfMemory) result (AcceptsWith «module».now (settings_of self.old overrides_resolved) self.new.infos)
-            (λ e. IsRefusal «module».now (settings_of self.old overrides_resolved) (inner_of e)) }
-        ensures cleared { OnErr result (self.new.infos ≡ []) }
-        ensures settings { self.new ≡ record self.old { infos = self.new.infos } }
+        ensures result { UnlessOutOfMemory (λ e. inner_of e ≡ ValidationError.OutOfMemory) result
+            (λ info. Accepts «module».now (settings_of self.old overrides_resolved) self.new.facts info.lists)
+            (λ e. Refuses «module».now (settings_of self.old overrides_resolved) (inner_of e)) }
+        ensures cleared { OnErr result (self.new.facts ≡ no_facts) }
+        ensures settings { self.new ≡ record self.old { facts = self.new.facts } }
     {
-        if let Err(fault) = validate_module_handles(self.alloc, module) {
+        let settings = Settings {
+            flags: self.flags,
+            capabilities: self.capabilities,
+            overrides_resolved,
+        };
+        let result = self.validate_steps(module, settings);
+        if result.is_err() {
             self.reset();
-            return Err(WithSpan::new(ValidationError::from(fault)));
         }
-        match self.validate_steps(module, overrides_resolved) {
-            Ok(info) => Ok(info),
-            Err(error) => {
-                self.reset();
-                Err(with_span(error, module))
-            }
-        }
+        result
     }
 
-    /// The rules that come after that of handles, in their order, up to the first refusal.
+    /// The rules in their order, up to the first refusal.
     fn validate_steps(
         &mut self,
         module: &Module,
-        overrides_resolved: bool,
-    ) -> Result<ModuleInfo, ValidationError>
-        requires handles { HandlesAccepted «module».now }
-        requires empty { HasNoValues «module».now }
-        ensures answer { AnsweredOrRefused (λ e. e ≡ ValidationError.OutOfMemory) result (AcceptsWith «module».now (settings_of self.old overrides_resolved) self.new.infos)
-            (IsRefusal «module».now (settings_of self.old overrides_resolved)) }
-        ensures settings { self.new ≡ record self.old { infos = self.new.infos } }
+        settings: Settings,
+    ) -> Result<ModuleInfo, WithSpan<ValidationError>>
+        requires { HasNoValues «module».now }
+        ensures result { UnlessOutOfMemory (λ e. inner_of e ≡ ValidationError.OutOfMemory) result
+            (λ info. Accepts «module».now settings self.new.facts info.lists)
+            (λ e. Refuses «module».now settings (inner_of e)) }
+        ensures settings { self.new ≡ record self.old { facts = self.new.facts } }
     {
+        if let Err(fault) = validate_module_handles(self.alloc, module) {
+            return Err(WithSpan::new(ValidationError::from(fault)));
+        }
         lay_out(&mut self.layouter, module)?;
         validate_types(
             self.alloc,
-            self.capabilities,
-            overrides_resolved,
+            settings,
             module,
             &self.layouter,
             &mut self.infos,
@@ -219,7 +251,10 @@ impl Validator {
     }
 
     /// Whether a scalar has a good width under the capabilities, and whether immediates may hold it.
-    /// The errors are those of the function `check_width`.
+    ///
+    /// # Errors
+    ///
+    /// Those of the function `check_width`.
     pub fn check_width(&self, scalar: Scalar) -> Result<ImmediateCompatibility, WidthError>
         ensures { result ≡ width_rule self.now.capabilities.0 scalar }
     {
@@ -228,91 +263,70 @@ impl Validator {
 
     /// How many types the module last accepted has.
     pub fn type_count(&self) -> usize
-        ensures { result ≡ length self.now.infos }
+        ensures { result ≡ length self.now.facts.infos }
     {
         self.infos.len()
     }
 
     /// What is known of a type of the module last accepted.
     pub fn type_info(&self, handle: Handle<TypeTag>) -> TypeInfo
-        requires { handle < length self.now.infos }
-        ensures { slice_get self.now.infos handle ≡ Some result }
+        requires { handle < length self.now.facts.infos }
+        ensures { slice_get self.now.facts.infos handle ≡ Some result }
     {
         self.infos.get(handle)
     }
 }
 
-/// Lays out a module's types.
-fn lay_out(layouter: &mut Layouter, module: &Module) -> Result<(), ValidationError>
+/// Computes the layouts of a module's types.
+fn lay_out(layouter: &mut Layouter, module: &Module) -> Result<(), WithSpan<ValidationError>>
     requires { HandlesAccepted «module».now }
-    ensures { AnsweredOrRefused (λ e. e ≡ ValidationError.OutOfMemory) result (λ _. AreLayouts (global_lists «module».now) layouter.new)
-        (λ e. (settings : Settings) → IsRefusal «module».now settings e) }
+    ensures { UnlessOutOfMemory (λ e. inner_of e ≡ ValidationError.OutOfMemory) result (λ _. IsLaidOut «module».now layouter.new)
+        (λ e. (settings : accepted.Settings) → Refuses «module».now settings (inner_of e)) }
 {
-    match layouter.update(to_ctx(module)) {
-        Ok(()) => Ok(()),
-        Err(error) => match error.inner {
-            LayoutErrorInner::OutOfMemory => Err(ValidationError::OutOfMemory),
-            LayoutErrorInner::TooLarge | LayoutErrorInner::NonPowerOfTwoWidth => {
-                Err(ValidationError::from(error))
-            }
-        },
+    let Err(error) = layouter.update(to_ctx(module)) else {
+        return Ok(());
+    };
+    match error.inner {
+        LayoutErrorInner::OutOfMemory => Err(WithSpan::new(ValidationError::OutOfMemory)),
+        LayoutErrorInner::TooLarge | LayoutErrorInner::NonPowerOfTwoWidth => {
+            let span = module.types.get_span(error.ty);
+            Err(WithSpan::new(ValidationError::from(error)).with_span(span))
+        }
     }
 }
 
-/// An error beside the place of what it is about.
-fn with_span(error: ValidationError, module: &Module) -> WithSpan<ValidationError>
-    requires { (error ≡ ValidationError.OutOfMemory) ⊎ ((settings : Settings) × IsRefusal «module».now settings error) }
-    ensures { inner_of result ≡ error }
-{
-    let span = match &error {
-        ValidationError::Layouter(LayoutError { ty, .. }) => module.types.get_span(*ty),
-        ValidationError::Type_ { handle, .. } => module.types.get_span(*handle),
-        ValidationError::InvalidHandle(_) | ValidationError::OutOfMemory => Span::default(),
-    };
-    WithSpan::new(error).with_span(span)
-}
-
-/// The rule of each type in order: fills `infos`.
+/// Judges each type in order, and fills `infos`.
 fn validate_types(
     alloc: Global,
-    capabilities: Capabilities,
-    overrides_resolved: bool,
+    settings: Settings,
     module: &Module,
     layouter: &Layouter,
     infos: &mut TypeInfos,
-) -> Result<ModuleInfo, ValidationError>
-    requires handles { HandlesAccepted «module».now }
-    requires laid_out { AreLayouts (global_lists «module».now) layouter.now }
-    ensures { AnsweredOrRefused (λ e. e ≡ ValidationError.OutOfMemory) result
-        (λ info. AreInfos (around «module».now capabilities overrides_resolved layouter.now infos.new.infos) × (info.type_flags ≡ flags_of infos.new.infos))
-        (λ e. (settings : Settings) → settings.capabilities ≡ capabilities → settings.resolved ≡ overrides_resolved → IsRefusal «module».now settings e) }
+) -> Result<ModuleInfo, WithSpan<ValidationError>>
+    requires { IsLaidOut «module».now layouter.now }
+    ensures { UnlessOutOfMemory (λ e. inner_of e ≡ ValidationError.OutOfMemory) result
+        (λ info. AreTypesAccepted «module».now settings.capabilities settings.resolved layouter.now infos.new.infos × (info.lists ≡ lists_of (record { infos = infos.new.infos })))
+        (λ e. Refuses «module».now settings (inner_of e)) }
 {
     let mut mod_info = ModuleInfo::new(alloc);
     make_room(alloc, module.types.len(), infos, &mut mod_info)?;
     for (handle, ty) in module.types.iter() {
-        match type_info_of(
-            alloc,
-            capabilities,
-            overrides_resolved,
-            infos,
-            layouter,
-            handle,
-            module,
-        ) {
+        match type_info_of(alloc, settings, infos, layouter, handle, module) {
             Ok(info) => {
                 mod_info.push_type(info.flags)?;
                 infos.push(info)?;
             }
             Err(source) => {
                 if is_out_of_memory(&source) {
-                    return Err(ValidationError::OutOfMemory);
+                    return Err(WithSpan::new(ValidationError::OutOfMemory));
                 }
                 let name = name_of(alloc, ty)?;
-                return Err(ValidationError::Type_ {
+                let error = ValidationError::Type_ {
                     handle,
                     name,
                     source,
-                });
+                };
+                return Err(WithSpan::new(error).with_span(module.types.get_span(handle)));
             }
         }
     }
@@ -326,11 +340,10 @@ fn is_out_of_memory(error: &TypeError) -> bool
     matches!(error, TypeError::OutOfMemory)
 }
 
-/// The rule of one type, where the infos of the types before are there.
+/// Judges one type, by the infos of those before it.
 fn type_info_of(
     alloc: Global,
-    capabilities: Capabilities,
-    overrides_resolved: bool,
+    settings: Settings,
     infos: &TypeInfos,
     layouter: &Layouter,
     handle: Handle<TypeTag>,
@@ -338,20 +351,19 @@ fn type_info_of(
 ) -> Result<TypeInfo, TypeError>
     requires exists { handle < length «module».now.types }
     requires judged { handle ≤ length infos.now.infos }
-    requires handles { HandlesAccepted «module».now }
-    requires laid_out { AreLayouts (global_lists «module».now) layouter.now }
-    ensures { IfSome (rule_at (around «module».now capabilities overrides_resolved layouter.now infos.now.infos) handle) (λ rule. Answers rule result) }
+    requires laid_out { IsLaidOut «module».now layouter.now }
+    ensures { IfSome (rule_at (judged_by «module».now settings.capabilities settings.resolved layouter.now infos.now.infos) handle) (λ rule. IsRuleResult rule result) }
 {
     let ctx = TypeContext {
-        capabilities,
-        overrides_resolved,
+        capabilities: settings.capabilities,
+        overrides_resolved: settings.overrides_resolved,
         infos,
         layouter,
     };
     validate_type(alloc, ctx, handle, to_ctx(module))
 }
 
-/// Forgets all infos, and makes room for those of `types` types.
+/// Clears `infos`, and makes room for those of `types` types.
 fn make_room(
     alloc: Global,
     types: usize,
@@ -359,7 +371,7 @@ fn make_room(
     mod_info: &mut ModuleInfo,
 ) -> Result<(), OutOfMemory>
     ensures infos { OnOk result (infos.new.infos ≡ []) }
-    ensures mod_info { mod_info.new.type_flags ≡ mod_info.old.type_flags }
+    ensures mod_info { mod_info.new.lists ≡ mod_info.old.lists }
 {
     infos.clear();
     if infos.room() < types {
@@ -368,7 +380,7 @@ fn make_room(
     mod_info.reserve(types)
 }
 
-/// The name of a type, which is empty where it has none.
+/// The name of a type, which is empty if it has none.
 fn name_of(alloc: Global, ty: &Type) -> Result<Text, OutOfMemory>
     ensures { IfOk result (λ name. name ≡ unwrap_or ty.now.name []) }
 {

@@ -13,22 +13,22 @@ use thiserror::Error;
 /// Why a module is refused.
 #[derive(Debug, PartialEq, Drop, Error)]
 pub enum ValidationError {
-    /// A handle or range isn't right.
+    /// A handle or range is dangling, or doesn't go back.
     #[error("{0}")]
     InvalidHandle(InvalidHandleError),
     /// A type has no layout.
     #[error("{0}")]
     Layouter(LayoutError),
-    /// A type breaks its rule, or a comment is on a member that it doesn't have (`InvalidData`). The
-    /// name is empty where the type has none; on a comment it then is what is wrong, `Unknown` where
-    /// the type is no struct, else `members length incorrect`.
+    /// A type breaks its rule, or a comment documents a member that it doesn't have (`InvalidData`). The
+    /// name is empty if the type has none; on a comment it then is `Unknown` if the type is no struct,
+    /// else `members length incorrect`.
     #[error("Type {handle:?} '{name}' is invalid")]
     Type_ {
         handle: Handle<TypeTag>,
         name: Text,
         source: TypeError,
     },
-    /// A request for memory was refused. Nothing is said of the module.
+    /// A request for memory was refused, and nothing was decided about the module.
     #[error("Out of memory")]
     OutOfMemory,
 }

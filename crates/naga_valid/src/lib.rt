@@ -1,7 +1,7 @@
-//! A validator of shader modules: it accepts exactly the modules that keep the rules, and says of
-//! any other what is wrong.
+//! A validator of shader modules: it accepts exactly the modules that keep the rules, and reports what
+//! is wrong with any other.
 //!
-//! Every name of the crates below stands here too, so that a user needs this crate alone.
+//! The public names of the crates below are re-exported here, so that a user needs this crate alone.
 #![tactic(auto)]
 
 pub mod driver;

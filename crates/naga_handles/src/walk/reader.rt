@@ -1,4 +1,4 @@
-//! What a walk reads of a module, counted.
+//! What is read of a module while its types and global expressions are visited, counted.
 
 ghost use Rattle.std.specs.Prelude.{◌≡◌, ◌+◌, ◌<◌, Some, length, slice_get};
 
@@ -8,21 +8,21 @@ use naga_ir::ir::Module;
 use naga_ir::tags::{ExpressionTag, TypeTag};
 use naga_ir::types::Type;
 
-/// Hands out the types and global expressions of a module, and counts how many.
+/// Reads types and global expressions of a module, and counts how many.
 #[derive(Drop)]
 pub(crate) struct Reader {
     looks: u64,
 }
 
 impl Reader {
-    /// One that has handed out none.
+    /// Nothing was read.
     pub(crate) fn new() -> Reader
         ensures { result.looks ≡ 0 }
     {
         Reader { looks: 0 }
     }
 
-    /// How many were handed out.
+    /// How many items were read.
     pub(crate) fn looks(&self) -> u64
         ensures { result ≡ self.now.looks }
     {
@@ -31,7 +31,7 @@ impl Reader {
 
     /// The type that a handle names.
     pub(crate) fn type_at<'a>(&mut self, module: &'a Module, handle: Handle<TypeTag>) -> &'a Type
-        requires there { handle < length «module».now.types }
+        requires exists { handle < length «module».now.types }
         requires few { self.old.looks < 8589934592 }
         ensures read { slice_get «module».now.types handle ≡ Some result.now }
         ensures counted { self.new.looks ≡ self.old.looks + 1 }
@@ -46,7 +46,7 @@ impl Reader {
         module: &'a Module,
         handle: Handle<ExpressionTag>,
     ) -> &'a Expression
-        requires there { handle < length «module».now.global_expressions }
+        requires exists { handle < length «module».now.global_expressions }
         requires few { self.old.looks < 8589934592 }
         ensures read { slice_get «module».now.global_expressions handle ≡ Some result.now }
         ensures counted { self.new.looks ≡ self.old.looks + 1 }

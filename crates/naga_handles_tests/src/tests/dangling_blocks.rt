@@ -19,12 +19,12 @@ fn with_statement(rt: &(impl AllocGlobal + Abort), statement: Statement) -> Modu
     with_function(rt, function)
 }
 
-/// Makes sure that a statement is refused because an expression is missing.
+/// Checks that a statement is refused because an expression is missing.
 fn assert_statement_refused(rt: &(impl AllocGlobal + Abort), statement: Statement) {
     assert_refused(rt, with_statement(rt, statement), missing("Expression"));
 }
 
-/// Makes sure that the dangling operand at a place is reported if the statement has so many operands.
+/// Checks that the dangling operand at a place is reported if the statement has so many operands.
 fn assert_operand(
     rt: &(impl AllocGlobal + Abort),
     place: usize,
@@ -245,14 +245,14 @@ fn call(
     rt: &(impl AllocGlobal + Abort),
     function: Handle<FunctionTag>,
     argument: Handle<ExpressionTag>,
-    answer: Handle<ExpressionTag>,
+    returned: Handle<ExpressionTag>,
 ) -> Statement {
     let mut arguments = List::new(rt.alloc());
     arguments.push(argument).expect(rt, "memory");
     Statement::Call {
         function,
         arguments,
-        result: Some(answer),
+        result: Some(returned),
     }
 }
 

@@ -25,7 +25,7 @@ pub(super) fn with_function(rt: &(impl AllocGlobal + Abort), function: Function)
     module
 }
 
-/// Makes sure that a function is refused because one of this kind is missing.
+/// Checks that a function is refused because one of this kind is missing.
 fn assert_function_refused(
     rt: &(impl AllocGlobal + Abort),
     function: Function,
@@ -99,7 +99,7 @@ fn with_expression(rt: &(impl AllocGlobal + Abort), expression: Expression) -> M
     with_function(rt, function)
 }
 
-/// Makes sure that an expression is refused because what it names is missing.
+/// Checks that an expression is refused because what it names is missing.
 fn assert_named_refused(
     rt: &(impl AllocGlobal + Abort),
     expression: Expression,
@@ -154,7 +154,7 @@ pub(super) fn operands_but(place: usize) -> [Handle<ExpressionTag>; 8] {
     operands
 }
 
-/// Makes sure that the dangling operand at a place is reported if the expression has so many operands.
+/// Checks that the dangling operand at a place is reported if the expression has so many operands.
 fn assert_operand(
     rt: &(impl AllocGlobal + Abort),
     place: usize,

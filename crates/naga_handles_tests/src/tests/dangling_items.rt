@@ -1,8 +1,8 @@
 //! Dangling handles in the items of a module, functions aside: each is reported.
 
 use super::{
-    add, add_constant, add_override, add_type, add_variable, ahead, assert_answer, assert_fault,
-    assert_refused, dangling, first, missing,
+    add, add_constant, add_override, add_type, add_variable, ahead, assert_fault, assert_refused,
+    assert_verdict, dangling, first, missing,
 };
 use naga_ir::expression::Expression;
 use naga_ir::handle::Handle;
@@ -23,7 +23,7 @@ pub(super) fn begun(rt: &(impl AllocGlobal + Abort)) -> Module {
     module
 }
 
-/// Makes sure that a constant, an override and a variable of this type that begin with this are refused
+/// Checks that a constant, an override and a variable of this type that begin with this are refused
 /// because one of this kind is missing.
 fn assert_values_refused(
     rt: &(impl AllocGlobal + Abort),
@@ -94,12 +94,12 @@ fn structure(rt: &(impl AllocGlobal + Abort), ty: Handle<TypeTag>) -> TypeInner 
     TypeInner::Struct { members, span: 4 }
 }
 
-/// Makes sure that a type is refused because a part of it isn't before it.
+/// Checks that a type is refused because a part of it isn't before it.
 fn assert_part_refused(rt: &(impl AllocGlobal + Abort), inner: TypeInner) {
     assert_refused(rt, with_type(rt, inner), ahead::<TypeTag>(1));
 }
 
-/// Makes sure that a type is refused because the override that sizes it is missing.
+/// Checks that a type is refused because the override that sizes it is missing.
 fn assert_size_refused(rt: &(impl AllocGlobal + Abort), inner: TypeInner) {
     assert_refused(rt, with_type(rt, inner), missing("Override"));
 }
@@ -121,7 +121,7 @@ fn with_global(rt: &(impl AllocGlobal + Abort), expression: Expression) -> Modul
     module
 }
 
-/// Makes sure that a global expression is refused because what it names is missing.
+/// Checks that a global expression is refused because what it names is missing.
 fn assert_global_refused(
     rt: &(impl AllocGlobal + Abort),
     expression: Expression,
@@ -172,13 +172,13 @@ fn dangling_special_types_are_reported(rt: HostRuntime) {
     module.special_types.ray_vertex_return = Some(dangling());
     assert_fault(&rt, &module, missing("Type"));
     module.special_types.ray_vertex_return = Some(first());
-    assert_answer(&rt, &module, Ok(()));
+    assert_verdict(&rt, &module, Ok(()));
     let others = &mut module.special_types.others;
     others.push(dangling()).expect(&rt, "memory");
     assert_refused(&rt, module, missing("Type"));
 }
 
-/// Comments on what isn't there. Each comment is looked at before those added earlier.
+/// Comments on missing items. Each comment is checked before those added earlier.
 #[test]
 fn dangling_comments_are_reported(rt: HostRuntime) {
     let mut module = Module::new(rt.alloc());
@@ -208,7 +208,7 @@ fn dangling_comments_are_reported(rt: HostRuntime) {
     assert_refused(&rt, module, missing("Type"));
 }
 
-/// Makes sure that an entry point is refused because one of this kind is missing.
+/// Checks that an entry point is refused because one of this kind is missing.
 fn assert_entry_point_refused(
     rt: &(impl AllocGlobal + Abort),
     sizes: [Option<Handle<ExpressionTag>>; 3],
@@ -239,7 +239,7 @@ fn mesh() -> MeshStageInfo {
     }
 }
 
-/// Makes sure that an entry point is refused because of the sizes of its workgroups.
+/// Checks that an entry point is refused because of the sizes of its workgroups.
 fn assert_sizes_refused(
     rt: &(impl AllocGlobal + Abort),
     sizes: [Option<Handle<ExpressionTag>>; 3],
@@ -247,7 +247,7 @@ fn assert_sizes_refused(
     assert_entry_point_refused(rt, sizes, mesh(), None, "Expression");
 }
 
-/// Makes sure that an entry point is refused because one of this kind is missing for its output.
+/// Checks that an entry point is refused because one of this kind is missing for its output.
 fn assert_mesh_refused(rt: &(impl AllocGlobal + Abort), mesh: MeshStageInfo, kind: &'static str) {
     assert_entry_point_refused(rt, [None; 3], mesh, None, kind);
 }

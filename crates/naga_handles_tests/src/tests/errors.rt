@@ -21,10 +21,10 @@ fn a_forward_dependency_reports_both_ends(rt: HostRuntime) {
     assert!(rt; kinds == ("Function", "Function"));
 }
 
-/// Makes sure that a fault reads so.
-fn assert_reads(rt: &(impl AllocGlobal + Abort), fault: ValidationFault, want: &str) {
+/// Checks that a fault reads so.
+fn assert_reads(rt: &(impl AllocGlobal + Abort), fault: ValidationFault, expected: &str) {
     let text = format!(in rt.alloc(); "{fault}").expect(rt, "memory");
-    assert_eq!(rt; text.as_str(), want);
+    assert_eq!(rt; text.as_str(), expected);
 }
 
 #[test]

@@ -1,8 +1,8 @@
-//! What is answered of whole modules: which fault, and which of several.
+//! Whole modules: which fault is named, and which of several.
 
 use super::{
     add, add_constant, add_expression, add_function, add_override, add_sized_array, add_type,
-    add_variable, assert_accepted, assert_answer, assert_fault, assert_refused, bad_handle, first,
+    add_variable, assert_accepted, assert_fault, assert_refused, assert_verdict, bad_handle, first,
     forward,
 };
 use naga_handles::error::{InvalidHandleError, ValidationFault};
@@ -38,14 +38,14 @@ fn pair(rt: &(impl AllocGlobal + Abort)) -> TypeInner {
     TypeInner::Struct { members, span: 8 }
 }
 
-/// Makes sure that a comment on a member of a type is refused as on no member of a type of this name, where
+/// Checks that a comment on a member of a type is refused as on no member of a type of this name, where
 /// type 0 is a scalar and type 1 a struct of two members.
 fn assert_member_missing(
     rt: &(impl AllocGlobal + Abort),
     name: Option<Text>,
     handle: Handle<TypeTag>,
     index: usize,
-    want: &str,
+    expected: &str,
 ) {
     let mut module = Module::new(rt.alloc());
     add_type(rt, &mut module, TypeInner::Scalar(Scalar::F32)).expect(rt, "memory");
@@ -56,12 +56,12 @@ fn assert_member_missing(
     let comment = ((handle, index), List::new(rt.alloc()));
     let members = &mut module.doc_comments.struct_members;
     members.push(comment).expect(rt, "memory");
-    let name = text(rt, want);
+    let name = text(rt, expected);
     assert_refused(rt, module, ValidationFault::MissingMember { handle, name });
 }
 
 #[test]
-fn a_comment_is_on_what_is_there(rt: HostRuntime) {
+fn comments_document_what_exists(rt: HostRuntime) {
     let mut module = Module::new(rt.alloc());
     let comment = (1, List::new(rt.alloc()));
     let entry_points = &mut module.doc_comments.entry_points;
@@ -144,7 +144,7 @@ fn an_exchange_compares_with_an_expression(rt: HostRuntime) {
 }
 
 #[test]
-fn the_type_of_a_result_is_there(rt: HostRuntime) {
+fn the_type_of_a_result_exists(rt: HostRuntime) {
     let mut function = Function::new(rt.alloc());
     let result = Expression::AtomicResult {
         ty: Handle::new(4),
@@ -157,7 +157,7 @@ fn the_type_of_a_result_is_there(rt: HostRuntime) {
 }
 
 #[test]
-fn a_filter_stands_after_the_one_around_it(rt: HostRuntime) {
+fn a_filter_follows_its_parent(rt: HostRuntime) {
     let mut module = Module::new(rt.alloc());
     let itself = Handle::<DiagnosticFilterNodeTag>::new(0);
     let node = DiagnosticFilterNode {

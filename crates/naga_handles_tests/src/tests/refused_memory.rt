@@ -1,6 +1,6 @@
 //! What is returned if memory is refused.
 //!
-//! Each scenario makes sure that every answer is right, or says that memory was refused, and returns
+//! Each scenario checks that every result is right, or says that memory was refused, and returns
 //! whether it was. They share a module; if it can't be built, they end with `OutOfMemory`. Two tests run
 //! them all, and the second asks that nothing was refused. `scripts/refused-memory` runs both with one
 //! request after another refused, until the second passes too.
@@ -13,6 +13,9 @@ use naga_ir::expression::Expression;
 use naga_ir::ir::Module;
 use naga_ir::list::List;
 use naga_ir::memory::OutOfMemory;
+use naga_ir::span::Span;
+use naga_ir::text::Text;
+use naga_ir::types::{Scalar, Type, TypeInner};
 use std::alloc::Global;
 use std::process::Abort;
 
@@ -50,7 +53,7 @@ fn fill(rt: &impl Abort, module: &mut Module) -> Result<(), OutOfMemory> {
     add_override(rt, module, first(), Some(first()))
 }
 
-/// Whether a call was refused memory where the name of a type is due; then the next one has it.
+/// Whether a call was refused memory for the name of a type; then the next one has it.
 fn is_name_refused(rt: &impl Abort, alloc: Global, module: &Module) -> bool {
     let fault = validate_module_handles(alloc, module).err();
     if fault != Some(ValidationFault::OutOfMemory) {
@@ -60,6 +63,17 @@ fn is_name_refused(rt: &impl Abort, alloc: Global, module: &Module) -> bool {
     let next = validate_module_handles(alloc, module).err();
     assert!(rt; next.is_some() && next != fault);
     true
+}
+
+/// Whether memory was refused for a type with a name, or for the name in the fault of a comment on it.
+fn is_named_refused(rt: &impl Abort, alloc: Global) -> Result<bool, OutOfMemory> {
+    let mut module = Module::new(alloc);
+    let name = Some(Text::from_string(String::from_str(alloc, "Length")?));
+    let inner = TypeInner::Scalar(Scalar::F32);
+    let handle = module.types.insert(Type { name, inner }, Span::default())?;
+    let comment = ((handle, 0), List::new(alloc));
+    module.doc_comments.struct_members.push(comment)?;
+    Ok(is_name_refused(rt, alloc, &module))
 }
 
 /// Runs all scenarios in a module, and returns whether memory was refused in one.
@@ -79,7 +93,9 @@ fn is_refused_in(
 /// Runs all scenarios, and returns whether memory was refused in one.
 fn is_refused(rt: &(impl AllocGlobal + Abort)) -> bool {
     let mut module = Module::new(rt.alloc());
-    is_refused_in(rt, &mut module) != Ok(false)
+    let unnamed = is_refused_in(rt, &mut module);
+    let named = is_named_refused(rt, rt.alloc());
+    unnamed != Ok(false) || named != Ok(false)
 }
 
 #[test]

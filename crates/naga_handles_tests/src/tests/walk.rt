@@ -46,20 +46,20 @@ fn sized_by_one_of_two(
     module
 }
 
-/// Makes sure that a module is accepted, and visited in this order.
-fn assert_order(rt: &(impl AllocGlobal + Abort), module: Module, want: &str) {
-    assert_visited(rt, &visit_order(rt.alloc(), &module), want);
+/// Checks that a module is accepted, and visited in this order.
+fn assert_order(rt: &(impl AllocGlobal + Abort), module: Module, expected: &str) {
+    assert_visited(rt, &visit_order(rt.alloc(), &module), expected);
     assert_accepted(rt, module);
 }
 
-/// Makes sure that a visit had this order.
+/// Checks that a visit had this order.
 fn assert_visited(
     rt: &(impl AllocGlobal + Abort),
     visit: &Result<Walk, ValidationFault>,
-    want: &str,
+    expected: &str,
 ) {
     let shown = format!(in rt.alloc(); "{visit:?}").expect(rt, "memory");
-    assert!(rt; shown.as_str() == want, "{shown}");
+    assert!(rt; shown.as_str() == expected, "{shown}");
 }
 
 #[test]
@@ -81,21 +81,21 @@ fn items_come_after_what_they_depend_on(rt: HostRuntime) {
     );
 }
 
-/// Makes sure that both calls refuse a module with this fault.
-fn assert_both_refuse(rt: &(impl AllocGlobal + Abort), module: Module, want: ValidationFault) {
-    assert!(rt; visit_order(rt.alloc(), &module).err().as_ref() == Some(&want));
-    assert_refused(rt, module, want);
+/// Checks that both calls refuse a module with this fault.
+fn assert_both_refuse(rt: &(impl AllocGlobal + Abort), module: Module, expected: ValidationFault) {
+    assert!(rt; visit_order(rt.alloc(), &module).err().as_ref() == Some(&expected));
+    assert_refused(rt, module, expected);
 }
 
-/// Makes sure that both calls refuse a module with this fault if its expressions, and the place of the one
+/// Checks that both calls refuse a module with this fault if its expressions, and the place of the one
 /// that the override begins with, are these.
 fn assert_sizes_refused(
     rt: &(impl AllocGlobal + Abort),
     expressions: (Expression, Expression),
     init: u8,
-    want: ValidationFault,
+    expected: ValidationFault,
 ) {
-    assert_both_refuse(rt, sized_by_one_of_two(rt, expressions, init, 0), want);
+    assert_both_refuse(rt, sized_by_one_of_two(rt, expressions, init, 0), expected);
 }
 
 #[test]
@@ -117,7 +117,7 @@ fn constants_depend_on_nothing_that_depends_on_them(rt: HostRuntime) {
 }
 
 #[test]
-fn what_is_named_is_there(rt: HostRuntime) {
+fn what_is_named_exists(rt: HostRuntime) {
     let local = Expression::LocalVariable(first());
     assert_sizes_refused(&rt, (zero(0), local), 0, bad_handle("LocalVariable", 0));
     assert_sizes_refused(&rt, (zero(0), zero(2)), 0, bad_handle("Type", 2));

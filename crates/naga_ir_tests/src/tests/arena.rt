@@ -1,4 +1,4 @@
-//! Examples of arenas and of what stands in them, and the texts that no clause states.
+//! Examples of arenas and their items, and the texts that no clause states.
 
 use super::{assert_debugged, assert_holds, assert_same, assert_shown, text};
 use naga_arena::arena::Arena;
@@ -14,13 +14,13 @@ use naga_arena::tags::{
 use naga_arena::text::{StaticText, Text};
 use std::process::Abort;
 
-/// Makes sure that two strings are the same.
-fn assert_reads(rt: &impl Abort, got: &str, want: &str) {
-    assert!(rt; got == want, "{got}, and not {want}");
+/// Checks that two strings are the same.
+fn assert_reads(rt: &impl Abort, got: &str, expected: &str) {
+    assert!(rt; got == expected, "{got}, and not {expected}");
 }
 
 #[test]
-fn handles_are_shown_by_their_place(rt: HostRuntime) {
+fn handles_are_shown_by_their_index(rt: HostRuntime) {
     let handle: Handle<TypeTag> = Handle::new(3);
     assert_same(&rt, "the place", &handle.index(), &3);
     assert_debugged(&rt, &handle, "[3]");
@@ -49,15 +49,15 @@ fn static_texts_keep_their_bytes(rt: HostRuntime) {
 }
 
 #[test]
-fn want_of_memory_is_named(rt: HostRuntime) {
+fn refused_memory_is_named(rt: HostRuntime) {
     assert_shown(&rt, &OutOfMemory, "Out of memory");
     assert_debugged(&rt, &OutOfMemory, "OutOfMemory");
 }
 
-/// Makes sure of spans whether they are defined.
+/// Checks which spans are defined.
 fn assert_defined(rt: &impl Abort, rows: &[(Span, bool)]) {
-    for (span, want) in rows {
-        assert!(rt; span.is_defined() == *want, "{span:?}");
+    for (span, expected) in rows {
+        assert!(rt; span.is_defined() == *expected, "{span:?}");
     }
 }
 
@@ -82,8 +82,8 @@ fn errors_take_the_last_known_span(rt: HostRuntime) {
     let error = error.with_span(Span::default());
     assert_same(&rt, "of none", &error.span(), &None);
     let error = error.with_span(Span::new(2, 9)).with_span(Span::default());
-    let want = Span { start: 2, end: 9 };
-    assert_same(&rt, "of one", &error.span(), &Some(want));
+    let expected = Span { start: 2, end: 9 };
+    assert_same(&rt, "of one", &error.span(), &Some(expected));
     assert_same(&rt, "the error", error.as_inner(), &7);
     assert_same(&rt, "the error", &error.into_inner(), &7);
 }
@@ -103,10 +103,10 @@ fn an_arena_gives_back_its_items(rt: HostRuntime) {
     arena.replace(first, 30);
     assert!(rt; arena.len() == 2);
     assert_same(&rt, "after", &(arena[first], arena[second]), &(30, 20));
-    let want = Span { start: 1, end: 2 };
-    assert_same(&rt, "the first span", &arena.get_span(first), &want);
-    let want = Span { start: 3, end: 4 };
-    assert_same(&rt, "the second span", &arena.get_span(second), &want);
+    let expected = Span { start: 1, end: 2 };
+    assert_same(&rt, "the first span", &arena.get_span(first), &expected);
+    let expected = Span { start: 3, end: 4 };
+    assert_same(&rt, "the second span", &arena.get_span(second), &expected);
 }
 
 /// An arena of these items.
@@ -120,7 +120,7 @@ fn arena_of<K>(rt: &(impl AllocGlobal + Abort), items: &[u16]) -> Arena<u16, K> 
 }
 
 #[test]
-fn an_arena_is_gone_over_in_order(rt: HostRuntime) {
+fn an_arena_is_iterated_in_order(rt: HostRuntime) {
     let arena: Arena<u16, TypeTag> = arena_of(&rt, &[30, 10, 20]);
     let mut seen = Vec::new(rt.alloc());
     for (handle, item) in arena.iter() {
@@ -148,32 +148,32 @@ fn kinds_have_names(rt: HostRuntime) {
 #[test]
 fn handles_past_the_end_are_missing(rt: HostRuntime) {
     let arena: Arena<u16, FunctionTag> = arena_of(&rt, &[10]);
-    let answer = arena.check_contains_handle(Handle::new(0));
-    assert_same(&rt, "the first", &answer, &Ok(()));
+    let result = arena.check_contains_handle(Handle::new(0));
+    assert_same(&rt, "the first", &result, &Ok(()));
     let missing = BadHandle {
         kind: StaticText::new("Function"),
         index: 1,
     };
-    let want = "Handle 1 of Function is either not present, or inaccessible yet";
-    assert_shown(&rt, &missing, want);
-    let answer = arena.check_contains_handle(Handle::new(1));
-    assert_same(&rt, "the second", &answer, &Err(missing));
+    let expected = "Handle 1 of Function is either not present, or inaccessible yet";
+    assert_shown(&rt, &missing, expected);
+    let result = arena.check_contains_handle(Handle::new(1));
+    assert_same(&rt, "the second", &result, &Err(missing));
 }
 
-/// Makes sure of ranges whether they are there in an arena.
+/// Checks which ranges an arena has.
 fn assert_ranges(
     rt: &impl Abort,
     arena: &Arena<u16, ExpressionTag>,
     rows: &[(Range<ExpressionTag>, bool)],
 ) {
-    for (range, want) in rows {
-        let answer = arena.check_contains_range(*range);
-        assert!(rt; answer.is_ok() == *want, "{range:?}");
+    for (range, expected) in rows {
+        let result = arena.check_contains_range(*range);
+        assert!(rt; result.is_ok() == *expected, "{range:?}");
     }
 }
 
 #[test]
-fn ranges_are_there_if_they_are_empty_or_end_in_the_arena(rt: HostRuntime) {
+fn ranges_exist_if_they_are_empty_or_end_in_the_arena(rt: HostRuntime) {
     let arena = arena_of(&rt, &[10, 20]);
     assert_ranges(
         &rt,
@@ -193,10 +193,10 @@ fn ranges_are_there_if_they_are_empty_or_end_in_the_arena(rt: HostRuntime) {
         start: 1,
         end: 0,
     };
-    let want = "Handle range [1..0] of Expression is either not present, or inaccessible yet";
-    assert_shown(&rt, &error, want);
-    let answer = arena.check_contains_range(Range::new(1, 0));
-    assert_same(&rt, "a range that goes back", &answer, &Err(error));
+    let expected = "Handle range [1..0] of Expression is either not present, or inaccessible yet";
+    assert_shown(&rt, &error, expected);
+    let result = arena.check_contains_range(Range::new(1, 0));
+    assert_same(&rt, "a range that goes back", &result, &Err(error));
 }
 
 #[test]

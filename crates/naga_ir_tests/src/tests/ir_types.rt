@@ -3,10 +3,13 @@
 use super::{assert_debugged, assert_holds, assert_same, text};
 use naga_arena::handle::Handle;
 use naga_arena::list::List;
+use naga_arena::range::Range;
 use naga_arena::span::Span;
 use naga_arena::tags::TypeTag;
 use naga_ir_types::alignment::Alignment;
-use naga_ir_types::types::{Scalar, ScalarKind, StructMember, Type, TypeInner, VectorSize};
+use naga_ir_types::types::{
+    ABSTRACT_WIDTH, BOOL_WIDTH, Scalar, ScalarKind, StructMember, Type, TypeInner, VectorSize,
+};
 use naga_ir_types::unique_arena::UniqueArena;
 use std::process::Abort;
 
@@ -29,7 +32,7 @@ fn named(rt: &(impl AllocGlobal + Abort), name: &str, inner: TypeInner) -> Type 
     Type { name, inner }
 }
 
-/// Makes sure that vectors have so many components, and are aligned as those of so many are.
+/// Checks that vectors have so many components, and are aligned as those of so many are.
 fn assert_vectors(rt: &impl Abort, rows: &[(VectorSize, u8, u32)]) {
     for (size, components, aligned) in rows {
         assert!(rt; size.components() == *components, "{size:?}");
@@ -49,15 +52,48 @@ fn vectors_of_three_are_aligned_as_those_of_four(rt: HostRuntime) {
     );
 }
 
-/// Makes sure of kinds of scalars whether they are numeric.
-fn assert_numeric(rt: &impl Abort, rows: &[(ScalarKind, bool)]) {
-    for (kind, want) in rows {
-        assert!(rt; kind.is_numeric() == *want, "{kind:?}");
+/// Checks the kinds of scalars, and their widths in bytes.
+fn assert_scalars(rt: &impl Abort, rows: &[(Scalar, ScalarKind, u8)]) {
+    for (scalar, kind, width) in rows {
+        assert!(rt;
+            scalar.kind == *kind && scalar.width == *width,
+            "{scalar:?}"
+        );
     }
 }
 
 #[test]
-fn all_kinds_but_truth_values_are_numeric(rt: HostRuntime) {
+fn scalars_have_the_widths_in_their_names(rt: HostRuntime) {
+    assert_scalars(
+        &rt,
+        &[
+            (Scalar::BOOL, ScalarKind::Bool, 1),
+            (Scalar::I16, ScalarKind::Sint, 2),
+            (Scalar::U16, ScalarKind::Uint, 2),
+            (Scalar::I32, ScalarKind::Sint, 4),
+            (Scalar::U32, ScalarKind::Uint, 4),
+            (Scalar::I64, ScalarKind::Sint, 8),
+            (Scalar::U64, ScalarKind::Uint, 8),
+            (Scalar::F16, ScalarKind::Float, 2),
+            (Scalar::F32, ScalarKind::Float, 4),
+            (Scalar::F64, ScalarKind::Float, 8),
+            (Scalar::ABSTRACT_INT, ScalarKind::AbstractInt, 8),
+            (Scalar::ABSTRACT_FLOAT, ScalarKind::AbstractFloat, 8),
+        ],
+    );
+    assert_same(&rt, "the width of a Boolean", &BOOL_WIDTH, &1);
+    assert_same(&rt, "of an abstract scalar", &ABSTRACT_WIDTH, &8);
+}
+
+/// Checks which kinds of scalars are numeric.
+fn assert_numeric(rt: &impl Abort, rows: &[(ScalarKind, bool)]) {
+    for (kind, expected) in rows {
+        assert!(rt; kind.is_numeric() == *expected, "{kind:?}");
+    }
+}
+
+#[test]
+fn all_kinds_but_bool_are_numeric(rt: HostRuntime) {
     assert_numeric(
         &rt,
         &[
@@ -71,12 +107,12 @@ fn all_kinds_but_truth_values_are_numeric(rt: HostRuntime) {
     );
 }
 
-/// Makes sure that an alignment of so many bytes is one of as many, or none.
+/// Checks that an alignment of so many bytes is one of as many, or none.
 fn assert_alignments(rt: &impl Abort, rows: &[(u32, bool)]) {
     for (bytes, is_one) in rows {
         let got = Alignment::new(*bytes).map(|alignment| alignment.get());
-        let want = if *is_one { Some(*bytes) } else { None };
-        assert!(rt; got == want, "of {bytes}");
+        let expected = if *is_one { Some(*bytes) } else { None };
+        assert!(rt; got == expected, "of {bytes}");
     }
 }
 
@@ -101,7 +137,7 @@ fn alignments_are_powers_of_two(rt: HostRuntime) {
     assert_same(&rt, "of uniforms", &Alignment::MIN_UNIFORM.get(), &16);
 }
 
-/// Makes sure of places whether they are aligned, and which aligned one is next.
+/// Checks which offsets are aligned, and the next aligned ones.
 fn assert_rounded(rt: &impl Abort, alignment: Alignment, rows: &[(u32, bool, u64)]) {
     for (place, is_aligned, next) in rows {
         assert!(rt; alignment.is_aligned(*place) == *is_aligned, "of {place}");
@@ -110,7 +146,7 @@ fn assert_rounded(rt: &impl Abort, alignment: Alignment, rows: &[(u32, bool, u64
 }
 
 #[test]
-fn places_are_rounded_up_to_multiples(rt: HostRuntime) {
+fn offsets_are_rounded_up_to_multiples(rt: HostRuntime) {
     assert_rounded(
         &rt,
         Alignment::new(16).expect(&rt, "a power of two"),
@@ -138,8 +174,8 @@ fn insert(rt: &impl Abort, types: &mut UniqueArena, ty: Type, span: Span) -> Han
     types.insert(ty, span).expect(rt, "memory")
 }
 
-/// Makes sure that a type stands at a place, under a name and with a span.
-fn assert_stands(
+/// Checks the type of an index, its name and its span.
+fn assert_type_at(
     rt: &impl Abort,
     types: &UniqueArena,
     handle: Handle<TypeTag>,
@@ -153,7 +189,7 @@ fn assert_stands(
 }
 
 #[test]
-fn a_type_stands_once(rt: HostRuntime) {
+fn equal_types_are_inserted_once(rt: HostRuntime) {
     let mut types = UniqueArena::new(rt.alloc());
     assert_holds(&rt, "no types", types.is_empty());
     let span = Span::new(1, 2);
@@ -164,7 +200,7 @@ fn a_type_stands_once(rt: HostRuntime) {
     assert_same(&rt, "places", &again, &first);
     assert_same(&rt, "types", &types.len(), &1);
     assert_holds(&rt, "a type", !types.is_empty());
-    assert_stands(&rt, &types, first, None, span);
+    assert_type_at(&rt, &types, first, None, span);
 }
 
 #[test]
@@ -178,8 +214,8 @@ fn types_that_differ_in_name_alone_are_two(rt: HostRuntime) {
     let length = insert(&rt, &mut types, ty, later);
     assert_same(&rt, "types", &types.len(), &2);
     assert_same(&rt, "places", &(plain.index(), length.index()), &(0, 1));
-    assert_stands(&rt, &types, plain, None, span);
-    assert_stands(&rt, &types, length, Some("Length"), later);
+    assert_type_at(&rt, &types, plain, None, span);
+    assert_type_at(&rt, &types, length, Some("Length"), later);
 }
 
 /// A vector of three numbers.
@@ -190,13 +226,13 @@ fn vector() -> TypeInner {
     }
 }
 
-/// Makes sure that a type is found at a place, or not at all.
-fn assert_found(rt: &impl Abort, types: &UniqueArena, ty: Type, want: Option<Handle<TypeTag>>) {
-    assert!(rt; types.get_handle(&ty) == want, "{ty:?}");
+/// Checks that a type is found at a place, or not at all.
+fn assert_found(rt: &impl Abort, types: &UniqueArena, ty: Type, expected: Option<Handle<TypeTag>>) {
+    assert!(rt; types.get_handle(&ty) == expected, "{ty:?}");
 }
 
 #[test]
-fn a_type_is_found_where_it_stands(rt: HostRuntime) {
+fn the_handle_of_a_type_is_found(rt: HostRuntime) {
     let mut types = UniqueArena::new(rt.alloc());
     let scalar = unnamed(TypeInner::Scalar(F32));
     insert(&rt, &mut types, scalar, Span::default());
@@ -208,7 +244,7 @@ fn a_type_is_found_where_it_stands(rt: HostRuntime) {
 }
 
 #[test]
-fn types_are_gone_over_in_order(rt: HostRuntime) {
+fn types_are_iterated_in_order(rt: HostRuntime) {
     let mut types = UniqueArena::new(rt.alloc());
     for scalar in [U32, F32, U32] {
         let ty = unnamed(TypeInner::Scalar(scalar));
@@ -226,7 +262,35 @@ fn types_are_gone_over_in_order(rt: HostRuntime) {
     assert_same(&rt, "second", &types[1].inner, &TypeInner::Scalar(F32));
 }
 
-/// Adds thousands of types of different names, and makes sure that each stands in its place.
+#[test]
+fn an_arena_of_types_has_its_handles_and_ranges(rt: HostRuntime) {
+    let mut types = UniqueArena::new(rt.alloc());
+    for scalar in [U32, F32] {
+        let ty = unnamed(TypeInner::Scalar(scalar));
+        insert(&rt, &mut types, ty, Span::default());
+    }
+    assert!(rt; types.len() == 2);
+    let range = types.range_from(1);
+    assert_same(&rt, "the last", &(range.start, range.end), &(1, 2));
+    assert_holds(&rt, "a range", types.check_contains_range(range).is_ok());
+    let range = types.check_contains_range(Range::new(1, 3));
+    assert_holds(&rt, "a range past the end", range.is_err());
+    let handle = types.check_contains_handle(Handle::new(1));
+    assert_holds(&rt, "a handle", handle.is_ok());
+    let handle = types.check_contains_handle(Handle::new(2));
+    assert_holds(&rt, "a handle past the end", handle.is_err());
+}
+
+#[test]
+fn an_arena_of_types_is_shown_as_a_list(rt: HostRuntime) {
+    let mut types = UniqueArena::new(rt.alloc());
+    let sampler = TypeInner::Sampler { comparison: true };
+    insert(&rt, &mut types, unnamed(sampler), Span::new(1, 2));
+    let expected = "[Type { name: None, inner: Sampler { comparison: true } }]";
+    assert_debugged(&rt, &types, expected);
+}
+
+/// Adds thousands of types of different names, and checks the index of each.
 fn add_thousands(rt: &(impl AllocGlobal + Abort), types: &mut UniqueArena) {
     for i in 0..2000_u32 {
         let name = format!(in rt.alloc(); "T{i}").expect(rt, "memory");
@@ -263,7 +327,7 @@ fn a_copy_is_equal_and_stays_as_it_was(rt: HostRuntime) {
     assert_holds(&rt, "the old copy", copy != ty);
     let scalar = ty.inner.try_clone().expect(&rt, "memory");
     assert_same(&rt, "a scalar", &scalar, &TypeInner::Scalar(F32));
-    let want =
+    let expected =
         "Struct { members: List { items: [StructMember { name: Some(Text { text: \"position\" }), ty: [0], binding: None, offset: 16 }] }, span: 32 }";
-    assert_debugged(&rt, &copy.inner, want);
+    assert_debugged(&rt, &copy.inner, expected);
 }

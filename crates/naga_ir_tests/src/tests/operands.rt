@@ -12,13 +12,13 @@ use naga_ir::types::{
 };
 use std::process::Abort;
 
-/// Makes sure that an expression has operands at these places, in this order.
-fn assert_operands(rt: &(impl AllocGlobal + Abort), expression: &Expression, want: &[usize]) {
+/// Checks that an expression has operands at these places, in this order.
+fn assert_operands(rt: &(impl AllocGlobal + Abort), expression: &Expression, expected: &[usize]) {
     let places = expression.operands().map(|operand| operand.index());
     let places = places
         .collect::<Vec<usize>>(rt.alloc())
         .expect(rt, "memory");
-    assert_eq!(rt; places.as_slice(), want);
+    assert_eq!(rt; places.as_slice(), expected);
 }
 
 #[test]
@@ -41,7 +41,7 @@ fn an_image_sample_has_up_to_eight_operands(rt: HostRuntime) {
 }
 
 #[test]
-fn operands_that_are_left_out_are_passed_over(rt: HostRuntime) {
+fn operands_that_are_left_out_are_skipped(rt: HostRuntime) {
     let sample = Expression::ImageSample {
         image: Handle::new(9),
         sampler: Handle::new(4),
@@ -62,7 +62,7 @@ fn operands_that_are_left_out_are_passed_over(rt: HostRuntime) {
     assert_operands(&rt, &Expression::RayQueryProceedResult, &[]);
 }
 
-/// Makes sure that an expression names this type and this item.
+/// Checks that an expression names this type and this item.
 fn assert_names(
     rt: &impl Abort,
     expression: &Expression,
@@ -95,7 +95,7 @@ fn expressions_name_items(rt: HostRuntime) {
     assert_names(&rt, &constant, None, Some(named));
 }
 
-/// Makes sure that a type is made of the types at these places, in this order, and of this scalar.
+/// Checks that a type is made of the types at these places, in this order, and of this scalar.
 fn assert_made_of(
     rt: &(impl AllocGlobal + Abort),
     inner: &TypeInner,
@@ -110,7 +110,7 @@ fn assert_made_of(
     assert!(rt; inner.scalar() == scalar, "{inner:?}");
 }
 
-/// Makes sure that this override decides the size of a type, and that it points to this type.
+/// Checks that this override decides the size of a type, and that it points to this type.
 fn assert_names_items(
     rt: &impl Abort,
     inner: &TypeInner,
@@ -159,14 +159,14 @@ fn types_are_made_of_types_and_scalars(rt: HostRuntime) {
     assert_made_of(&rt, &TypeInner::Atomic(Scalar::U32), &[], None);
 }
 
-/// Makes sure that literals are of these scalars.
+/// Checks that literals are of these scalars.
 fn assert_scalars(rt: &impl Abort, rows: &[(Literal, ScalarKind, u8)]) {
     for (literal, kind, width) in rows {
-        let want = Scalar {
+        let expected = Scalar {
             kind: *kind,
             width: *width,
         };
-        assert!(rt; literal.scalar() == want, "of {literal:?}");
+        assert!(rt; literal.scalar() == expected, "of {literal:?}");
     }
 }
 
@@ -193,7 +193,7 @@ fn literals_have_scalar_types(rt: HostRuntime) {
     assert_holds(&rt, "BOOL", !Scalar::BOOL.is_numeric());
 }
 
-/// Makes sure that images of a class have several samples or several levels, or neither.
+/// Checks that images of a class have several samples or several levels, or neither.
 fn assert_images(rt: &impl Abort, class: ImageClass, is_multisampled: bool, is_mipmapped: bool) {
     assert!(rt; class.is_multisampled() == is_multisampled, "{class:?}");
     assert!(rt; class.is_mipmapped() == is_mipmapped, "{class:?}");

@@ -59,20 +59,22 @@ fn converted(value: Handle<ExpressionTag>, kind: ScalarKind) -> Expression {
     }
 }
 
-/// Ends a function with the vector of these components.
+/// Ends a function with the vector of these components. The expressions from index `computed` on are
+/// evaluated by a statement; those before are arguments and literals, which may not be (naga).
 fn return_vector(
     rt: &(impl AllocGlobal + Abort),
     function: &mut Function,
     ty: Handle<TypeTag>,
-    places: [Handle<ExpressionTag>; 4],
+    computed: u32,
+    values: [Handle<ExpressionTag>; 4],
 ) {
     let mut components = List::new(rt.alloc());
-    for place in places {
-        components.push(place).expect(rt, "memory");
+    for value in values {
+        components.push(value).expect(rt, "memory");
     }
     let value = add(rt, function, Expression::Compose { ty, components });
-    let all = Range::new(0, value.index() as u32 + 1);
-    push(rt, function, Statement::Emit(all));
+    let range = Range::new(computed, value.index() as u32 + 1);
+    push(rt, function, Statement::Emit(range));
     push(rt, function, Statement::Return { value: Some(value) });
 }
 
@@ -103,6 +105,8 @@ fn vs_main(
     let one = add(rt, f, Expression::Literal(Literal::I32(1)));
     let two = add(rt, f, Expression::Literal(Literal::I32(2)));
     let bit = add(rt, f, Expression::Literal(Literal::U32(1)));
+    let [low, high] = ends(rt, f);
+    let computed = f.expressions.len() as u32;
     let signed = add(rt, f, converted(index, ScalarKind::Sint));
     let x = add(rt, f, binary(BinaryOperator::Subtract, signed, one));
     let x = add(rt, f, converted(x, ScalarKind::Float));
@@ -111,8 +115,7 @@ fn vs_main(
     let y = add(rt, f, binary(BinaryOperator::Multiply, odd, two));
     let y = add(rt, f, binary(BinaryOperator::Subtract, y, one));
     let y = add(rt, f, converted(y, ScalarKind::Float));
-    let [low, high] = ends(rt, f);
-    return_vector(rt, f, vec4, [x, y, low, high]);
+    return_vector(rt, f, vec4, computed, [x, y, low, high]);
     function
 }
 
@@ -144,7 +147,8 @@ fn fs_main(rt: &(impl AllocGlobal + Abort), vec4: Handle<TypeTag>) -> Function {
         }),
     });
     let [low, high] = ends(rt, f);
-    return_vector(rt, f, vec4, [high, low, low, high]);
+    let computed = f.expressions.len() as u32;
+    return_vector(rt, f, vec4, computed, [high, low, low, high]);
     function
 }
 
@@ -176,7 +180,7 @@ fn triangle(rt: &(impl AllocGlobal + Abort)) -> Module {
     module
 }
 
-/// Makes sure of an entry point what its name is, and how many expressions and statements it has.
+/// Checks the name of an entry point, and its numbers of expressions and statements.
 fn assert_entry_point(
     rt: &impl Abort,
     entry_point: &EntryPoint,
@@ -199,6 +203,23 @@ fn a_triangle_is_built_by_hand(rt: HostRuntime) {
     assert_entry_point(&rt, &entry_points[0], "vs_main", 15, 2);
     let color = &entry_points[1];
     assert_entry_point(&rt, color, "fs_main", 3, 2);
-    let want = "Block { body: [Emit([0..3]), Return { value: Some([2]) }] }";
-    assert_debugged(&rt, &color.function.body, want);
+    let expected = "Block { body: [Emit([2..3]), Return { value: Some([2]) }] }";
+    assert_debugged(&rt, &color.function.body, expected);
+}
+
+#[test]
+fn an_empty_module_is_shown_by_its_fields(rt: HostRuntime) {
+    let expected =
+        "Module { types: [], special_types: SpecialTypes { ray_desc: None, ray_intersection: \
+        None, ray_vertex_return: None, others: List { items: [] } }, constants: Arena { data: \
+        [], span_info: [], kind: PhantomData<_> }, overrides: Arena { data: [], span_info: \
+        [], kind: PhantomData<_> }, global_variables: Arena { data: [], span_info: [], kind: \
+        PhantomData<_> }, global_expressions: Arena { data: [], span_info: [], kind: \
+        PhantomData<_> }, functions: Arena { data: [], span_info: [], kind: PhantomData<_> }, \
+        entry_points: List { items: [] }, diagnostic_filters: Arena { data: [], span_info: \
+        [], kind: PhantomData<_> }, diagnostic_filter_leaf: None, doc_comments: DocComments { \
+        module: List { items: [] }, types: List { items: [] }, struct_members: List { items: \
+        [] }, entry_points: List { items: [] }, functions: List { items: [] }, constants: \
+        List { items: [] }, global_variables: List { items: [] } } }";
+    assert_debugged(&rt, &Module::new(rt.alloc()), expected);
 }

@@ -45,7 +45,7 @@ fn first_unknown(block: &Block, known: &[Reference]) -> Option<Reference> {
         .err()
 }
 
-/// Makes sure that a block refers to these things, which differ, in this order.
+/// Checks that a block refers to these things, which differ, in this order.
 fn assert_refers_to(rt: &impl Abort, block: &Block, expected: &[Reference]) {
     for (count, reference) in expected.iter().enumerate() {
         assert!(rt;
@@ -56,7 +56,7 @@ fn assert_refers_to(rt: &impl Abort, block: &Block, expected: &[Reference]) {
     assert!(rt; first_unknown(block, expected).is_none());
 }
 
-/// Makes sure that a statement refers to these expressions, which differ, in this order.
+/// Checks that a statement refers to these expressions, which differ, in this order.
 fn assert_names(rt: &(impl AllocGlobal + Abort), statement: Statement, expected: &[u8]) {
     let block = block_of(rt, statement);
     let mut references = Vec::new(rt.alloc());
@@ -185,7 +185,7 @@ fn atomics_name_what_they_compare_with(rt: HostRuntime) {
     assert_names(&rt, sum, &[4, 2]);
 }
 
-/// Makes sure that these steps of a ray query refer to these expressions.
+/// Checks that these steps of a ray query refer to these expressions.
 fn assert_steps_name(rt: &(impl AllocGlobal + Abort), rows: &[(RayQueryFunction, &[u8])]) {
     for (fun, expected) in rows {
         let step = Statement::RayQuery {
@@ -226,7 +226,7 @@ fn steps_of_a_ray_query_name_their_operands(rt: HostRuntime) {
     assert_names(&rt, trace, &[3, 2, 1]);
 }
 
-/// Makes sure that gathers in these modes refer to these expressions.
+/// Checks that gathers in these modes refer to these expressions.
 fn assert_gathers_name(rt: &(impl AllocGlobal + Abort), modes: &[GatherMode], expected: &[u8]) {
     for mode in modes {
         let gather = Statement::SubgroupGather {
@@ -266,7 +266,7 @@ fn operations_of_a_subgroup_name_their_operands(rt: HostRuntime) {
 }
 
 #[test]
-fn a_refusal_two_hundred_blocks_deep_is_answered(rt: HostRuntime) {
+fn a_refusal_two_hundred_blocks_deep_is_returned(rt: HostRuntime) {
     let mut block = returns(&rt, 7);
     for _ in 0..200 {
         block = block_of(&rt, Statement::Block(block));

@@ -1,6 +1,6 @@
 //! What is returned if memory is refused.
 //!
-//! Each scenario makes sure that every answer is right, or says that memory was refused and changed
+//! Each scenario makes sure that every result is right, or says that memory was refused and changed
 //! nothing, and returns whether it was. Two tests run them all, and the second asks that nothing was
 //! refused. `scripts/refused-memory` runs both with one request after another refused, until the second
 //! passes too.
@@ -20,7 +20,7 @@ const F32: Scalar = Scalar {
     width: 4,
 };
 
-/// Runs over a text, and answers whether memory was refused.
+/// Runs on a text, and returns whether memory was refused.
 fn is_refused_in_run(
     rt: &(impl AllocGlobal + Abort),
     text: &str,
@@ -31,12 +31,12 @@ fn is_refused_in_run(
     let mut room = [0u8; 64];
     let mut writer = Counted::new(&mut room[..]);
     let ended = run(rt.alloc(), &mut reader, &mut writer);
-    let left = writer.inner.len();
+    let left = writer.into_inner().len();
     assert!(rt; left <= 64);
     let written = 64 - left;
     let memory = "refused memory\n".as_bytes();
     match ended {
-        Ok(told) if told == outcome && &room[..written] == report.as_bytes() => false,
+        Ok(reported) if reported == outcome && &room[..written] == report.as_bytes() => false,
         Ok(Outcome::Refused) => {
             assert!(rt; &room[..written] == memory);
             true
@@ -52,20 +52,20 @@ fn is_refused_in_run(
     }
 }
 
-/// Runs over a text whose module is accepted.
+/// Runs on a text whose module is accepted.
 fn is_refused_in_accepted_run(rt: &(impl AllocGlobal + Abort)) -> bool {
     let text = "type scalar float 4\ntype vector 4 float 4\ntype struct 16 1:0\n";
     let report = "T0 ff 4 4\nT1 ff 16 16\nT2 f7 16 16\nok\n";
     is_refused_in_run(rt, text, Outcome::Accepted, report)
 }
 
-/// Runs over a text whose module is refused.
+/// Runs on a text whose module is refused.
 fn is_refused_in_refused_run(rt: &(impl AllocGlobal + Abort)) -> bool {
     let report = "refused type T0 WidthError\n";
     is_refused_in_run(rt, "type scalar float 2", Outcome::Refused, report)
 }
 
-/// Runs over a text that can't be read.
+/// Runs on a text that can't be read.
 fn is_refused_in_unreadable_run(rt: &(impl AllocGlobal + Abort)) -> bool {
     let text = "type scalar uint 4\ntype scalar uint 4\n";
     is_refused_in_run(rt, text, Outcome::Unreadable, "line 2 not readable\n")
@@ -100,7 +100,7 @@ fn fill(rt: &(impl AllocGlobal + Abort), types: &mut UniqueArena) -> Result<(), 
     add(rt, types, Some(name), inner, Span::new(1, 2))
 }
 
-/// Fills an empty arena, and answers whether the first filling was refused, which leaves the arena
+/// Fills an empty arena, and returns whether the first filling was refused, which leaves the arena
 /// as it was. One request alone is refused in a test, so the second filling succeeds.
 fn is_refused_in_filling(rt: &(impl AllocGlobal + Abort), types: &mut UniqueArena) -> bool {
     let refused = fill(rt, types).is_err();
@@ -151,18 +151,18 @@ fn is_of_memory(rt: &impl Abort, error: &WithSpan<ValidationError>) -> bool {
     }
 }
 
-/// Validates a filled module, and answers whether memory was refused.
+/// Validates a filled module, and returns whether memory was refused.
 fn is_refused_in_call(rt: &impl Abort, validator: &mut Validator, module: &Module) -> bool {
     assert!(rt; module.constants.is_empty());
     assert!(rt; module.overrides.is_empty());
     assert!(rt; module.global_expressions.is_empty());
-    let answer = validator.validate(module);
+    let result = validator.validate(module);
     assert_eq!(rt; validator.type_count(), 0);
-    let error = answer.expect_err(rt, "a Boolean has one byte");
+    let error = result.expect_err(rt, "a Boolean has one byte");
     is_of_memory(rt, &error)
 }
 
-/// Refused memory leaves the validator as after `reset`, and it then answers as a fresh one.
+/// Refused memory leaves the validator as after `reset`, and its next result is that of a fresh one.
 fn is_refused_in_calls(
     rt: &(impl AllocGlobal + Abort),
     module: &Module,

@@ -1,4 +1,4 @@
-//! Runs over memory, and failures of each call in turn.
+//! Runs from memory to memory, with a failure of each call in turn.
 
 use super::{assert_same, assert_same_for, assert_shown};
 use naga_report::counted::Counted;
@@ -10,7 +10,8 @@ use std::io::{Error, ErrorKind, Read, Write};
 use std::process::Abort;
 use std::test::Fail;
 
-/// A reader or writer that moves `step` bytes a call, and whose call of number `bad` is interrupted.
+/// A reader or writer that moves at most `step` bytes a call, and whose call of number `bad`, from 0, is
+/// interrupted.
 #[derive(Drop)]
 struct Failing<S> {
     inner: S,
@@ -20,7 +21,7 @@ struct Failing<S> {
 }
 
 impl<S> Failing<S> {
-    /// How many bytes the next call moves, or that it fails.
+    /// The greatest number of bytes that the next call moves, unless it fails.
     fn turn(&mut self, len: usize) -> io::Result<usize> {
         let call = self.calls;
         self.calls = call.saturating_add(1);
@@ -50,14 +51,14 @@ impl<W: Write> Write for Failing<W> {
     }
 }
 
-/// A text of 84 bytes.
+/// A text of 82 bytes.
 const TEXT: &str =
     "# a comment and a setting\ncaps 67108864\n\ntype scalar float 2\ntype vector 3 sint 4\n";
 
-/// The report on it, of 27 bytes.
+/// The report on it, of 25 bytes.
 const REPORT: &str = "T0 ff 2 2\nT1 ff 16 16\nok\n";
 
-/// Runs, and answers how that ended, how many reads and writes failed, and the writer.
+/// Runs, and returns how that ended, the numbers of reads and of writes that failed, and the writer.
 fn run_counted<R: Read + Drop, W: Write + Drop>(
     alloc: Global,
     reader: R,
@@ -66,10 +67,12 @@ fn run_counted<R: Read + Drop, W: Write + Drop>(
     let mut reader = Counted::new(reader);
     let mut writer = Counted::new(writer);
     let ended = run(alloc, &mut reader, &mut writer);
-    (ended, (reader.failed, writer.failed), writer.inner)
+    let failures = (reader.failed(), writer.failed());
+    (ended, failures, writer.into_inner())
 }
 
-/// Makes sure that the run on each text reports this, ends with this status, and has no failure.
+/// Makes sure that the run on each text writes this report, has this exit status, and has no failure. A
+/// row is a text, its report and the status.
 fn assert_reported(rt: &impl Abort, alloc: Global, rows: &[(&str, &str, u8)]) {
     for (text, want, code) in rows {
         let (ended, failed, output) = run_counted(alloc, text.as_bytes(), Vec::new(alloc));
@@ -267,7 +270,7 @@ fn refused_structs_are_reported_on(rt: HostRuntime) {
 }
 
 #[test]
-fn sources_of_blending_are_reported_on(rt: HostRuntime) {
+fn blend_sources_are_reported_on(rt: HostRuntime) {
     assert_reported(
         &rt,
         rt.alloc(),
@@ -342,8 +345,8 @@ fn any_bytes_have_a_report(rt: HostRuntime) {
 }
 
 #[test]
-fn each_read_fails_in_turn(rt: HostRuntime) {
-    // Calls 0 to 21 give 4 bytes at most, and call 22 tells the end.
+fn a_failure_of_any_read_is_a_fault(rt: HostRuntime) {
+    // Calls 0 to 20 read at most 4 bytes each, and call 21 returns 0 at the end.
     let reads = TEXT.len().div_ceil(4);
     for bad in 0..30 {
         let reader = Failing {
@@ -366,7 +369,7 @@ fn each_read_fails_in_turn(rt: HostRuntime) {
 }
 
 #[test]
-fn each_write_and_the_flush_fail_in_turn(rt: HostRuntime) {
+fn a_failure_of_any_write_or_of_the_flush_is_a_fault(rt: HostRuntime) {
     // Calls 0 to 4 take 5 bytes each, and call 5 flushes.
     let out = REPORT.as_bytes();
     let writes = out.len().div_ceil(5);
@@ -392,7 +395,7 @@ fn each_write_and_the_flush_fail_in_turn(rt: HostRuntime) {
 }
 
 #[test]
-fn a_writer_that_takes_nothing_more_is_a_fault(rt: HostRuntime) {
+fn a_writer_without_room_is_a_fault(rt: HostRuntime) {
     let mut room = [0u8; 7];
     let (ended, (_, failed), left) = run_counted(rt.alloc(), TEXT.as_bytes(), &mut room[..]);
     assert_same(&rt, &ended, &Err(RunFault::Write));

@@ -1,4 +1,4 @@
-//! Modules read from texts, or built by hand, and what the rules say of them.
+//! Modules read from texts, or built by hand, and how they are validated.
 
 ghost use Rattle.naga_valid.specs.Accepted.{HasNoValues};
 ghost use Rattle.std.specs.Prelude.{◌≡◌};
@@ -16,18 +16,18 @@ use std::alloc::Global;
 use std::process::Abort;
 use std::test::Fail;
 
-/// What `judge` makes of the module that a text describes. No other function here owns a module, since
-/// each exit of a function drops what it owns, and the proof goes through each.
+/// Returns what `check` makes of the module that a text describes. No other function here owns a module,
+/// since each exit of a function drops what it owns, and the proof goes through each.
 fn with_text<R, F: FnOnce(&mut Module) -> R>(
     rt: &impl Abort,
     alloc: Global,
     text: &str,
-    judge: F,
+    check: F,
 ) -> R
-    requires { F.IsAlwaysCallable judge }
+    requires { F.IsAlwaysCallable check }
 {
     let mut contents = read_text(alloc, text.as_bytes()).expect(rt, "readable");
-    judge(&mut contents.module)
+    check(&mut contents.module)
 }
 
 /// A validator of whole modules.
@@ -50,7 +50,7 @@ fn add_float(
     module.types.insert(Type { name: None, inner }, span)
 }
 
-/// Makes sure that a module is of the kind that is judged so far.
+/// Makes sure that a module is of the kind that is validated so far.
 fn assert_valueless(rt: &impl Abort, module: &Module)
     ensures { HasNoValues «module».now }
 {
@@ -59,7 +59,7 @@ fn assert_valueless(rt: &impl Abort, module: &Module)
     assert!(rt; module.global_expressions.is_empty());
 }
 
-/// The refusal of a type without a name whose width wants `SHADER_FLOAT16`.
+/// The refusal of a type without a name whose width needs `SHADER_FLOAT16`.
 fn refused_half(alloc: Global, handle: Handle<TypeTag>) -> ValidationError {
     ValidationError::Type_ {
         handle,
@@ -125,6 +125,24 @@ fn is_accepted_empty(rt: &impl Abort, alloc: Global, module: &Module) -> Result<
 }
 
 #[test]
+fn types_of_a_text_have_no_span_and_no_name(rt: HostRuntime) {
+    let text = "type scalar float 4\ntype vector 4 float 4\ntype struct 16 1:0";
+    with_text(&rt, rt.alloc(), text, |module| {
+        have_no_span_and_no_name(&rt, module);
+    });
+}
+
+/// Makes sure that a module has three types, and that none has a span or a name.
+fn have_no_span_and_no_name(rt: &impl Abort, module: &Module) {
+    assert_same(rt, &module.types.len(), &3);
+    for (handle, ty) in module.types.iter() {
+        assert!(rt; handle.index() < module.types.len());
+        assert_same(rt, &module.types.get_span(handle), &Span::default());
+        assert_same(rt, &ty.name, &None);
+    }
+}
+
+#[test]
 fn types_of_f32_are_accepted(rt: HostRuntime) -> Result<(), Fail> {
     let text = "type scalar float 4\ntype vector 4 float 4\ntype matrix 2 3 float 4";
     with_text(&rt, rt.alloc(), text, |module| {
@@ -164,9 +182,7 @@ fn are_accepted_as_f32(rt: &impl Abort, alloc: Global, module: &Module) -> Resul
 }
 
 #[test]
-fn a_missing_capability_refuses_the_first_type_that_asks_for_it(
-    rt: HostRuntime,
-) -> Result<(), Fail> {
+fn the_first_type_that_needs_a_missing_capability_is_refused(rt: HostRuntime) -> Result<(), Fail> {
     for (text, index) in [
         ("type scalar float 2", 0_u16),
         (
@@ -186,13 +202,13 @@ fn a_missing_capability_refuses_the_first_type_that_asks_for_it(
 }
 
 #[test]
-fn a_given_capability_lets_the_type_in(rt: HostRuntime) -> Result<(), Fail> {
+fn a_capability_permits_the_types_that_need_it(rt: HostRuntime) -> Result<(), Fail> {
     with_text(&rt, rt.alloc(), "type scalar float 2", |module| {
         is_accepted_with_halves(&rt, rt.alloc(), module)
     })
 }
 
-/// Makes sure that both calls accept a module of one type where it may have two bytes.
+/// Makes sure that both calls accept a module of one type, if scalars may have two bytes.
 fn is_accepted_with_halves(rt: &impl Abort, alloc: Global, module: &Module) -> Result<(), Fail> {
     assert_valueless(rt, module);
     let mut validator = validator_under(alloc, Capabilities::SHADER_FLOAT16);
@@ -204,7 +220,7 @@ fn is_accepted_with_halves(rt: &impl Abort, alloc: Global, module: &Module) -> R
 }
 
 #[test]
-fn a_type_without_layout_is_refused_before_all_else(rt: HostRuntime) -> Result<(), Fail> {
+fn types_without_a_layout_are_refused_first(rt: HostRuntime) -> Result<(), Fail> {
     for (text, index) in [
         ("type scalar float 3\ntype scalar float 4", 0_u16),
         ("type scalar float 2\ntype scalar float 3", 1),
@@ -243,7 +259,7 @@ fn a_refusal_has_the_name_of_the_type(rt: HostRuntime) -> Result<(), Fail> {
     Ok(())
 }
 
-/// The refusal of a module whose second type has this width and stands at this place.
+/// The refusal of a module whose second type has this width and this span.
 fn refusal_at(
     rt: &impl Abort,
     alloc: Global,
@@ -258,7 +274,7 @@ fn refusal_at(
 }
 
 #[test]
-fn a_refusal_has_the_place_of_the_type(rt: HostRuntime) -> Result<(), Fail> {
+fn a_refusal_has_the_span_of_the_type(rt: HostRuntime) -> Result<(), Fail> {
     for width in [2, 3] {
         for (span, want) in [
             (Span::new(5, 9), Some(Span::new(5, 9))),
@@ -286,7 +302,7 @@ fn comment_on_function(alloc: Global, module: &mut Module) -> Result<(), Fail> {
 }
 
 #[test]
-fn a_missing_function_has_no_comment(rt: HostRuntime) -> Result<(), Fail> {
+fn a_comment_on_a_missing_function_is_refused(rt: HostRuntime) -> Result<(), Fail> {
     let error = with_text(&rt, rt.alloc(), "", |module| {
         comment_on_function(rt.alloc(), module)?;
         refusal_of(&rt, rt.alloc(), module)
@@ -300,7 +316,7 @@ fn a_missing_function_has_no_comment(rt: HostRuntime) -> Result<(), Fail> {
     Ok(())
 }
 
-/// Adds a type at a place, and comments on its first member.
+/// Adds a type with a span, and comments on its first member.
 fn comment_on_member(rt: &impl Abort, alloc: Global, module: &mut Module) -> Result<(), Fail> {
     let ty = add_float(rt, module, 4, Span::new(5, 9))?;
     let comment = ((ty, 0), List::new(alloc));
@@ -308,7 +324,7 @@ fn comment_on_member(rt: &impl Abort, alloc: Global, module: &mut Module) -> Res
 }
 
 #[test]
-fn a_missing_member_has_no_comment(rt: HostRuntime) -> Result<(), Fail> {
+fn a_comment_on_a_missing_member_is_refused(rt: HostRuntime) -> Result<(), Fail> {
     let error = with_text(&rt, rt.alloc(), "", |module| {
         comment_on_member(&rt, rt.alloc(), module)?;
         refusal_of(&rt, rt.alloc(), module)
@@ -325,7 +341,7 @@ fn a_missing_member_has_no_comment(rt: HostRuntime) -> Result<(), Fail> {
 }
 
 #[test]
-fn each_answer_is_of_its_own_module(rt: HostRuntime) -> Result<(), Fail> {
+fn each_result_is_of_its_own_module(rt: HostRuntime) -> Result<(), Fail> {
     let good = "type scalar float 4";
     for refused in [
         "type scalar float 4\ntype scalar float 3",
@@ -333,7 +349,7 @@ fn each_answer_is_of_its_own_module(rt: HostRuntime) -> Result<(), Fail> {
     ] {
         with_text(&rt, rt.alloc(), good, |good| {
             with_text(&rt, rt.alloc(), refused, |refused| {
-                are_judged_in_turn(&rt, rt.alloc(), good, refused)
+                are_validated_in_turn(&rt, rt.alloc(), good, refused)
             })
         })?;
     }
@@ -341,7 +357,7 @@ fn each_answer_is_of_its_own_module(rt: HostRuntime) -> Result<(), Fail> {
 }
 
 /// Makes sure that one validator accepts the one module and refuses the other, again and again.
-fn are_judged_in_turn(
+fn are_validated_in_turn(
     rt: &impl Abort,
     alloc: Global,
     good: &Module,
@@ -362,7 +378,7 @@ fn are_judged_in_turn(
 }
 
 #[test]
-fn a_reset_forgets_the_module_alone(rt: HostRuntime) -> Result<(), Fail> {
+fn a_reset_keeps_the_settings(rt: HostRuntime) -> Result<(), Fail> {
     with_text(&rt, rt.alloc(), "type scalar float 2", |half| {
         with_text(&rt, rt.alloc(), "type scalar float 8", |double| {
             settings_outlast_a_reset(&rt, rt.alloc(), half, double)
@@ -405,7 +421,7 @@ fn late_function() -> FwdDepError {
 }
 
 #[test]
-fn errors_come_from_those_below(rt: HostRuntime) {
+fn errors_are_made_from_those_of_lower_crates(rt: HostRuntime) {
     let error = LayoutError {
         ty: Handle::new(7),
         inner: LayoutErrorInner::NonPowerOfTwoWidth,
@@ -433,7 +449,7 @@ fn errors_come_from_those_below(rt: HostRuntime) {
 }
 
 #[test]
-fn errors_read_as_sentences(rt: HostRuntime) -> Result<(), Fail> {
+fn errors_have_messages(rt: HostRuntime) -> Result<(), Fail> {
     let named = ValidationError::Type_ {
         handle: Handle::new(0),
         name: Text::from_string(String::from_str(rt.alloc(), "name")?),
@@ -484,7 +500,7 @@ fn settings_outlast(validator: &mut Validator, module: &Module)
 }
 
 #[test]
-fn widths_are_judged_by_the_capabilities(rt: HostRuntime) {
+fn widths_are_checked_under_the_capabilities(rt: HostRuntime) {
     let validator = validator_under(rt.alloc(), Capabilities::default());
     assert_same(&rt, &validator.check_width(Scalar::F32), &Ok(Ok(())));
     assert!(rt; validator.check_width(Scalar::F16).is_err());

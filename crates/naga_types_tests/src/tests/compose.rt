@@ -1,7 +1,7 @@
 //! Compositions, by hand.
 
 ghost use Rattle.std.specs.Prelude.{All, IsTrue};
-ghost use Rattle.naga_typing.specs.Resolutions.{ResolutionExists};
+ghost use Rattle.naga_typing.specs.Resolutions.{TypesExist};
 
 use super::{assert_references_ok, assert_same, assert_same_for, assert_shown, with_text};
 use naga_ir::handle::Handle;
@@ -18,7 +18,7 @@ use std::process::Abort;
 
 /// Whether what a resolution names is there. A form that is given as a value names nothing in tests.
 fn exists(resolution: &TypeResolution, types: &UniqueArena) -> bool
-    ensures { IsTrue result → ResolutionExists types.now resolution.now }
+    ensures { IsTrue result → TypesExist types.now resolution.now }
 {
     match resolution {
         TypeResolution::Handle(handle) => handle.index() < types.len(),
@@ -28,7 +28,7 @@ fn exists(resolution: &TypeResolution, types: &UniqueArena) -> bool
 
 /// Whether what all of these name is there.
 fn all_exist(resolutions: &[TypeResolution], types: &UniqueArena) -> bool
-    ensures { IsTrue result → All (ResolutionExists types.now) resolutions.now }
+    ensures { IsTrue result → All (TypesExist types.now) resolutions.now }
 {
     for index in 0..resolutions.len() {
         if !exists(&resolutions[index], types) {

@@ -71,7 +71,7 @@ fn names_stand_for_their_bits(rt: HostRuntime) -> Result<(), Fail> {
 }
 
 #[test]
-fn unknown_bits_are_kept_where_they_are_asked_for(rt: HostRuntime) {
+fn unknown_bits_are_kept_if_they_are_asked_for(rt: HostRuntime) {
     let unknown = 1_u64 << 63 | 2;
     assert_same(
         &rt,

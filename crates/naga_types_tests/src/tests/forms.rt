@@ -1,4 +1,4 @@
-//! What each form of type is, and the structs that atomic compare-exchanges answer.
+//! What each form of type is, and the structs that atomic compare-exchanges return.
 
 ghost use Rattle.std.specs.Prelude.{◌<◌, All, IsTrue, length};
 ghost use Rattle.naga_ir_types.specs.declared.types.StructMember as member;
@@ -39,7 +39,7 @@ fn binding_array_of(size: ArraySize) -> TypeInner {
     }
 }
 
-/// A scalar, or a vector where there is a size.
+/// A scalar, or a vector if there is a size.
 fn numbers_of(size: Option<VectorSize>, scalar: Scalar) -> TypeInner {
     match size {
         None => TypeInner::Scalar(scalar),
@@ -161,7 +161,7 @@ fn other_forms_are_coordinates_in_no_image(rt: HostRuntime) {
     }
 }
 
-/// Whether the types of all members are there.
+/// Whether the types of all members exist.
 fn all_typed(members: &[StructMember], types: &UniqueArena) -> bool
     ensures { IsTrue result → All (λ (m : member.StructMember). m.ty < length types.now) members.now }
 {
@@ -208,8 +208,8 @@ fn members_of(
     Ok(members)
 }
 
-/// Whether an exchange answers a struct of such members, where the old value is to be this scalar.
-fn is_exchanged(
+/// Whether an exchange returns a struct of such members, if the old value is to be this scalar.
+fn is_exchange_struct(
     rt: &impl Abort,
     alloc: Global,
     old: Scalar,
@@ -226,14 +226,14 @@ fn is_exchanged(
 }
 
 #[test]
-fn exchanges_answer_the_old_value_and_whether(rt: HostRuntime) -> Result<(), Fail> {
+fn exchanges_return_the_old_value_and_a_flag(rt: HostRuntime) -> Result<(), Fail> {
     let word = Scalar::U32;
     let old = (Some("old_value"), 0);
     let flag = (Some("exchanged"), 1);
-    let answer = is_exchanged(&rt, rt.alloc(), word, &[old, flag])?;
-    assert!(rt; answer);
-    let answer = is_exchanged(&rt, rt.alloc(), Scalar::I32, &[old, flag])?;
-    assert!(rt; !answer, "another old value");
+    let result = is_exchange_struct(&rt, rt.alloc(), word, &[old, flag])?;
+    assert!(rt; result);
+    let result = is_exchange_struct(&rt, rt.alloc(), Scalar::I32, &[old, flag])?;
+    assert!(rt; !result, "another old value");
     for parts in [
         &[][..],
         &[old],
@@ -249,8 +249,8 @@ fn exchanges_answer_the_old_value_and_whether(rt: HostRuntime) -> Result<(), Fai
         &[old, (Some("exchanged"), 3)],
         &[(Some("old_value"), 1), flag],
     ] {
-        let answer = is_exchanged(&rt, rt.alloc(), word, parts)?;
-        assert!(rt; !answer, "{parts:?}");
+        let result = is_exchange_struct(&rt, rt.alloc(), word, parts)?;
+        assert!(rt; !result, "{parts:?}");
     }
     Ok(())
 }

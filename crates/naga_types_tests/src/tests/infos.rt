@@ -1,10 +1,8 @@
-//! Lists of infos, and the texts of errors.
+//! Lists of infos.
 
-use super::{aligned, assert_same, assert_shown};
+use super::{aligned, assert_same};
 use naga_flags::flags::TypeFlags;
-use naga_flags::width::WidthError;
 use naga_ir::handle::Handle;
-use naga_types::error::{Disalignment, TypeError};
 use naga_types::info::{TypeInfo, TypeInfos};
 use std::test::Fail;
 
@@ -45,63 +43,4 @@ fn infos_are_found_by_handle(rt: HostRuntime) -> Result<(), Fail> {
     }
     assert_same(&rt, &infos.len(), &3);
     Ok(())
-}
-
-#[test]
-fn errors_read_as_sentences(rt: HostRuntime) {
-    let alignment = aligned(&rt, 16);
-    let error = TypeError::MatrixElementNotFloat;
-    assert_shown(
-        &rt,
-        &error,
-        "Matrix elements must always be floating-point types",
-    );
-    let error = TypeError::from(WidthError::Abstract);
-    assert_shown(
-        &rt,
-        &error,
-        "Abstract types may only appear in constant expressions",
-    );
-    for (why, want) in [
-        (
-            Disalignment::ArrayStride {
-                stride: 20,
-                alignment,
-            },
-            "The array stride 20 is not a multiple of the required alignment 16",
-        ),
-        (
-            Disalignment::StructSpan {
-                span: 20,
-                alignment,
-            },
-            "The struct span 20, is not a multiple of the required alignment 16",
-        ),
-        (
-            Disalignment::MemberOffset {
-                index: 1,
-                offset: 20,
-                alignment,
-            },
-            "The struct member[1] offset 20 is not a multiple of the required alignment 16",
-        ),
-        (
-            Disalignment::MemberOffsetAfterStruct {
-                index: 1,
-                offset: 20,
-                expected: 32,
-            },
-            "The struct member[1] offset 20 must be at least 32",
-        ),
-        (
-            Disalignment::UnsizedMember { index: 1 },
-            "The struct member[1] is not statically sized",
-        ),
-        (
-            Disalignment::NonHostShareable,
-            "The type is not host-shareable",
-        ),
-    ] {
-        assert_shown(&rt, &why, want);
-    }
 }

@@ -15,7 +15,7 @@ use naga_types::info::TypeInfo;
 use std::process::Abort;
 use std::test::Fail;
 
-/// What is said of a type, before and after overrides have their values.
+/// The results for a type, before and after overrides have their values.
 type BeforeAndAfter = (Result<TypeInfo, TypeError>, Result<TypeInfo, TypeError>);
 
 /// Adds an integer, and an array that an override of it sizes. The override begins with a value behind so
@@ -49,8 +49,8 @@ fn add_array(
     Ok(())
 }
 
-/// What is said of such an array.
-fn said_of(
+/// The results for such an array.
+fn results_for(
     rt: &(impl AllocGlobal + Abort),
     value: Option<Literal>,
     constants: usize,
@@ -67,7 +67,7 @@ fn said_of(
 #[test]
 fn a_size_may_stand_behind_one_constant(rt: HostRuntime) -> Result<(), Fail> {
     for constants in [0, 1] {
-        let (before, after) = said_of(&rt, Some(Literal::U32(3)), constants)?;
+        let (before, after) = results_for(&rt, Some(Literal::U32(3)), constants)?;
         assert_same_for(&rt, &constants, &before, &after);
         assert_same_for(&rt, &constants, &after?.flags.bits(), &0x57);
     }
@@ -84,7 +84,7 @@ fn resolved_overrides_size_arrays_by_counts(rt: HostRuntime) -> Result<(), Fail>
         (Some(Literal::F32(0)), 0),
         (None, 0),
     ] {
-        let (before, after) = said_of(&rt, value, constants)?;
+        let (before, after) = results_for(&rt, value, constants)?;
         assert_same_for(&rt, &value, &before?.flags.bits(), &0x57);
         assert_same_for(&rt, &value, &after, &refused);
     }

@@ -1,6 +1,6 @@
 //! What is returned if memory is refused.
 //!
-//! Each scenario makes sure that every answer is right, or says that memory was refused and changed
+//! Each scenario makes sure that every result is right, or says that memory was refused and changed
 //! nothing, and returns whether it was; one whose module can't be built ends with `OutOfMemory`. Two
 //! tests run them all, and the second asks that nothing was refused. `scripts/refused-memory` runs both
 //! with one request after another refused, until the second passes too.
@@ -119,7 +119,7 @@ fn is_name_refused(
     }
 }
 
-/// Judges a struct whose array's name is in the answer; after a refusal the next call has that answer.
+/// Judges a struct whose array's name is in the error; after a refusal the next call returns that error.
 fn is_refused_in_a_name(rt: &(impl AllocGlobal + Abort)) -> Result<bool, OutOfMemory> {
     with_module(rt.alloc(), |module| {
         let array = add_lights(rt, rt.alloc(), module, Some("lights"))?;
@@ -131,7 +131,7 @@ fn is_refused_in_a_name(rt: &(impl AllocGlobal + Abort)) -> Result<bool, OutOfMe
     })
 }
 
-/// Adds infos of alignments of 1 and 2 bytes by turns, and answers whether one was refused, which leaves
+/// Adds infos of alignments of 1 and 2 bytes by turns, and returns whether one was refused, which leaves
 /// the infos as they were. One request alone is refused in a test, so the next call succeeds.
 fn are_pushes_refused(rt: &impl Abort, infos: &mut TypeInfos) -> bool {
     let mut refused = false;

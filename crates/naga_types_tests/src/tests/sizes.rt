@@ -79,8 +79,10 @@ fn last_type(rt: &impl Abort, module: &Module) -> Handle<TypeTag> {
 }
 
 #[test]
-fn an_array_has_the_size_of_its_elements(rt: HostRuntime) {
+fn a_matrix_has_the_size_of_its_columns_and_an_array_of_its_elements(rt: HostRuntime) {
     for (text, want) in [
+        ("type matrix 2 3 float 4", Some(32)),
+        ("type coop 8 8 float 2 A", Some(128)),
         ("type scalar uint 4\ntype array 0 dyn 16", Some(16)),
         ("type scalar uint 4\ntype array 0 3 16", Some(48)),
         ("type scalar uint 4\ntype array 0 268435456 16", None),
@@ -124,7 +126,7 @@ fn add_pending_constant(rt: &impl Abort, module: &mut Module) -> Result<Handle<T
 }
 
 #[test]
-fn an_override_may_begin_with_a_constant(rt: HostRuntime) -> Result<(), Fail> {
+fn the_initialiser_of_an_override_may_be_a_constant(rt: HostRuntime) -> Result<(), Fail> {
     with_module(rt.alloc(), |module| {
         let array = add_pending_constant(&rt, module)?;
         assert_same(&rt, &size_at(&rt, rt.alloc(), module, array), &Some(24));
@@ -205,8 +207,8 @@ fn vectors_matrices_and_pointers_have_lengths(rt: HostRuntime) {
     }
 }
 
-/// Whether two types of a module are one.
-fn are_one(
+/// Whether two types of a module are the same.
+fn are_same(
     rt: &impl Abort,
     alloc: Global,
     module: &Module,
@@ -224,7 +226,7 @@ fn are_one(
 }
 
 #[test]
-fn a_pointer_to_a_scalar_is_a_value_pointer(rt: HostRuntime) {
+fn a_pointer_to_a_scalar_equals_the_value_pointer(rt: HostRuntime) {
     let text =
         "type scalar uint 4\ntype pointer 0 function\ntype valuepointer 0 uint 4 function\ntype struct 4\ntype struct 8";
     with_text(&rt, rt.alloc(), text, |module| {
@@ -236,8 +238,8 @@ fn a_pointer_to_a_scalar_is_a_value_pointer(rt: HostRuntime) {
             (0, 3, false),
         ] {
             let (lhs, rhs) = (Handle::new(lhs), Handle::new(rhs));
-            let answer = are_one(&rt, rt.alloc(), module, lhs, rhs);
-            assert_same_for(&rt, &lhs, &answer, &want);
+            let same = are_same(&rt, rt.alloc(), module, lhs, rhs);
+            assert_same_for(&rt, &lhs, &same, &want);
         }
     });
 }

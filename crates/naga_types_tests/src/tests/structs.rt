@@ -1,10 +1,9 @@
-//! What the rule says of structs: of the last type of a text, or of structs whose members have names or
-//! are built in, as those of no text are.
+//! The rule of structs, on the last type of a text, or on structs whose members have names or are
+//! built in, as those of no text are.
 
-use super::{add_type, aligned, assert_refused, assert_same_for, info_of, judged, with_module};
+use super::{add_type, assert_refused, assert_same_for, info_of, judged, with_module};
 use bitflags::Flags;
-use naga_flags::flags::{Capabilities, TypeFlags};
-use naga_flags::width::ImmediateError;
+use naga_flags::flags::Capabilities;
 use naga_ir::handle::Handle;
 use naga_ir::ir::Module;
 use naga_ir::list::List;
@@ -12,8 +11,8 @@ use naga_ir::memory::OutOfMemory;
 use naga_ir::tags::TypeTag;
 use naga_ir::text::Text;
 use naga_ir::types::{ArraySize, Binding, Scalar, StructMember, TypeInner};
-use naga_types::error::{Disalignment, TypeError, VaryingError};
-use naga_types::info::{LayoutCompatibility, TypeInfo};
+use naga_types::error::{TypeError, VaryingError};
+use naga_types::info::TypeInfo;
 use std::alloc::Global;
 use std::process::Abort;
 use std::test::Fail;
@@ -26,55 +25,6 @@ pub(super) fn member(ty: Handle<TypeTag>, offset: u32, binding: Option<Binding>)
         binding,
         offset,
     }
-}
-
-/// Makes sure of the flags of structs, of an alignment of 4 bytes in storage buffers, and of this layout
-/// in uniform ones. Immediates may hold them.
-fn assert_laid_out(
-    rt: &(impl AllocGlobal + Abort),
-    text: &str,
-    flags: u8,
-    uniform: LayoutCompatibility,
-) {
-    let want = TypeInfo {
-        uniform_layout: uniform,
-        ..TypeInfo::new(TypeFlags::from_bits_retain(flags), aligned(rt, 4))
-    };
-    assert_same_for(
-        rt,
-        &text,
-        &info_of(rt, Capabilities::default(), text),
-        &want,
-    );
-}
-
-#[test]
-fn structs_have_the_layouts_that_their_members_allow(rt: HostRuntime) {
-    let third = Handle::new(2);
-    let uniform = Ok(aligned(&rt, 16));
-    assert_laid_out(
-        &rt,
-        "type scalar uint 4\ntype struct 8 0:0 0:4",
-        0xf7,
-        uniform,
-    );
-    let why = Disalignment::UnsizedMember { index: 1 };
-    let text = "type scalar uint 4\ntype array 0 dyn 16\ntype struct 32 0:0 1:16";
-    assert_laid_out(&rt, text, 0x35, Err((third, why)));
-    let why = Disalignment::MemberOffsetAfterStruct {
-        index: 1,
-        offset: 8,
-        expected: 16,
-    };
-    let text = "type scalar uint 4\ntype struct 8 0:0 0:4\ntype struct 12 1:0 0:8";
-    assert_laid_out(&rt, text, 0xf7, Err((third, why)));
-    let why = Disalignment::MemberOffsetAfterStruct {
-        index: 2,
-        offset: 16,
-        expected: 24,
-    };
-    let text = "type scalar uint 4\ntype struct 8 0:0 0:4\ntype struct 20 1:0 1:8 0:16";
-    assert_laid_out(&rt, text, 0xf7, Err((third, why)));
 }
 
 #[test]
@@ -125,26 +75,6 @@ fn members_stand_one_after_another_within_the_struct(rt: HostRuntime) {
 }
 
 #[test]
-fn immediates_name_the_last_member_that_they_cannot_hold(rt: HostRuntime) {
-    let given = Capabilities::SHADER_FLOAT16.union(Capabilities::SHADER_INT16);
-    for (text, last) in [
-        (
-            "type scalar uint 4\ntype scalar float 2\ntype struct 8 1:0 0:4",
-            Scalar::F16,
-        ),
-        (
-            "type scalar uint 4\ntype scalar float 2\ntype scalar sint 2\ntype struct 8 1:0 2:2 0:4",
-            Scalar::I16,
-        ),
-    ] {
-        let info = info_of(&rt, given, text);
-        let refused = ImmediateError::InvalidScalar(last);
-        assert_same_for(&rt, &text, &info.immediates_compatibility, &Err(refused));
-        assert_same_for(&rt, &text, &info.storage_layout, &Ok(aligned(&rt, 4)));
-    }
-}
-
-#[test]
 fn sources_of_blending_come_in_pairs(rt: HostRuntime) {
     let given = Capabilities::DUAL_SOURCE_BLENDING;
     let both = "type scalar uint 4\ntype struct 8 0:0:0:0 0:4:0:1";
@@ -163,6 +93,33 @@ fn sources_of_blending_come_in_pairs(rt: HostRuntime) {
                 TypeError::InvalidBlendSrc(VaryingError::IncompleteBlendSrcUsage {
                     present_blend_src: 0,
                 }),
+            ),
+            (
+                given,
+                "type vector 4 float 4\ntype struct 16 0:0:0:0",
+                TypeError::InvalidBlendSrc(VaryingError::IncompleteBlendSrcUsage {
+                    present_blend_src: 0,
+                }),
+            ),
+            (
+                given,
+                "type scalar uint 4\ntype struct 8 0:0 0:4:0:1",
+                TypeError::InvalidBlendSrc(VaryingError::IncompleteBlendSrcUsage {
+                    present_blend_src: 1,
+                }),
+            ),
+            (
+                given,
+                "type scalar uint 4\ntype scalar sint 4\ntype struct 8 0:0:0:0 1:4:0:1",
+                TypeError::InvalidBlendSrc(VaryingError::BlendSrcOutputTypeMismatch {
+                    blend_src_0_type: Handle::new(0),
+                    blend_src_1_type: Handle::new(1),
+                }),
+            ),
+            (
+                given,
+                "type matrix 2 2 float 4\ntype struct 32 0:0:0:0 0:16:0:1",
+                TypeError::InvalidBlendSrc(VaryingError::NotIOShareableType(Handle::new(0))),
             ),
             (
                 given,
@@ -197,7 +154,7 @@ fn source(blend_src: u32) -> Option<Binding> {
 }
 
 #[test]
-fn what_is_built_in_stands_beside_sources_of_blending(rt: HostRuntime) -> Result<(), Fail> {
+fn builtin_values_may_stand_beside_sources_of_blending(rt: HostRuntime) -> Result<(), Fail> {
     let info = with_module(rt.alloc(), |module| {
         let word = add_type(&rt, module, TypeInner::Scalar(Scalar::U32))?;
         let mut members = List::new(rt.alloc());
@@ -244,8 +201,8 @@ pub(super) fn add_lights(
     Ok(array)
 }
 
-/// What is said of a struct that begins with an array without a length, of this name.
-fn said_of_lights(
+/// The result for a struct that begins with an array without a length, of this name.
+fn judged_lights(
     rt: &impl Abort,
     alloc: Global,
     name: Option<&str>,
@@ -259,10 +216,10 @@ fn said_of_lights(
 #[test]
 fn an_array_without_a_length_is_the_last_member(rt: HostRuntime) -> Result<(), Fail> {
     for (name, want) in [(None, ""), (Some(""), ""), (Some("lights"), "lights")] {
-        let answer = said_of_lights(&rt, rt.alloc(), name)?;
+        let result = judged_lights(&rt, rt.alloc(), name)?;
         let want = Text::from_string(String::from_str(rt.alloc(), want)?);
         let refused = TypeError::InvalidDynamicArray(want, Handle::new(1));
-        assert_eq!(rt; answer, Err(refused), "{name:?}");
+        assert_eq!(rt; result, Err(refused), "{name:?}");
     }
     Ok(())
 }

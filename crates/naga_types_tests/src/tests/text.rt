@@ -1,4 +1,4 @@
-//! Texts, and what is read of them.
+//! Texts, and what they say.
 
 use super::{assert_same, assert_same_for};
 use bitflags::Flags;
@@ -59,7 +59,7 @@ fn texts_are_read(rt: HostRuntime) {
 }
 
 #[test]
-fn lines_are_refused(rt: HostRuntime) {
+fn lines_are_unreadable(rt: HostRuntime) {
     for (text, line) in [
         ("type scalar uint 4\ntype scalar uint 4", 2),
         ("type vector 2 uint 4\n\n#\ntype vector 02 uint 04\n", 4),

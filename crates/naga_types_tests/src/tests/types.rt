@@ -1,13 +1,13 @@
-//! What the rules say of each form of type but structs: of the last type of a text.
+//! The rules of each form of type but structs, on the last type of a text.
 
 use super::{aligned, assert_refused, assert_same_for, info_of};
 use bitflags::Flags;
 use naga_flags::flags::{Capabilities, TypeFlags};
-use naga_flags::width::{ImmediateError, WidthError};
+use naga_flags::width::WidthError;
 use naga_ir::handle::Handle;
 use naga_ir::text::StaticText;
-use naga_ir::types::{AddressSpace, ImageClass, ImageDimension, Scalar, ScalarKind};
-use naga_types::error::{Disalignment, TypeError};
+use naga_ir::types::{AddressSpace, ImageClass, ImageDimension, ScalarKind};
+use naga_types::error::TypeError;
 use naga_types::info::TypeInfo;
 use std::process::Abort;
 
@@ -87,42 +87,6 @@ fn other_forms_are_accepted(rt: HostRuntime) {
 }
 
 #[test]
-fn immediates_hold_no_type_of_16_bits(rt: HostRuntime) {
-    let refused = ImmediateError::InvalidScalar(Scalar::F16);
-    for text in [
-        "type scalar float 2",
-        "type vector 4 float 2",
-        "type matrix 3 3 float 2",
-    ] {
-        let info = info_of(&rt, Capabilities::SHADER_FLOAT16, text);
-        assert_same_for(&rt, &text, &info.immediates_compatibility, &Err(refused));
-    }
-}
-
-#[test]
-fn strides_of_arrays_are_multiples_of_the_alignment(rt: HostRuntime) {
-    for (text, flags) in [
-        ("type atomic uint 4\ntype array 0 4 4", 0x33),
-        ("type scalar uint 4\ntype array 0 dyn 4", 0x35),
-    ] {
-        let uniform = Disalignment::ArrayStride {
-            stride: 4,
-            alignment: aligned(&rt, 16),
-        };
-        let want = TypeInfo {
-            uniform_layout: Err((Handle::new(1), uniform)),
-            ..TypeInfo::new(TypeFlags::from_bits_retain(flags), aligned(&rt, 4))
-        };
-        assert_same_for(
-            &rt,
-            &text,
-            &info_of(&rt, Capabilities::default(), text),
-            &want,
-        );
-    }
-}
-
-#[test]
 fn numbers_of_other_kinds_and_widths_are_refused(rt: HostRuntime) {
     let none = Capabilities::default();
     let missing = WidthError::MissingCapability {
@@ -130,6 +94,7 @@ fn numbers_of_other_kinds_and_widths_are_refused(rt: HostRuntime) {
         flag: StaticText::new("SHADER_FLOAT16"),
     };
     let wide = WidthError::Invalid(ScalarKind::Bool, 4);
+    let narrow = WidthError::Invalid(ScalarKind::Float, 1);
     assert_refused(
         &rt,
         &[
@@ -169,6 +134,7 @@ fn numbers_of_other_kinds_and_widths_are_refused(rt: HostRuntime) {
                 TypeError::WidthError(WidthError::Abstract),
             ),
             (none, "type vector 2 bool 4", TypeError::WidthError(wide)),
+            (none, "type scalar float 1", TypeError::WidthError(narrow)),
             (
                 none,
                 "type matrix 2 2 float 2",
@@ -230,8 +196,28 @@ fn other_forms_are_refused(rt: HostRuntime) {
             ),
             (
                 none,
+                "type scalar uint 4\ntype array 0 dyn 4\ntype pointer 1 private",
+                TypeError::InvalidPointerToUnsized {
+                    base,
+                    space: AddressSpace::Private,
+                },
+            ),
+            (
+                none,
                 "type scalar uint 4\ntype bindingarray 0 dyn",
                 TypeError::BindingArrayBaseTypeNotStruct(Handle::new(0)),
+            ),
+            (
+                none,
+                "type image 3 1 float",
+                TypeError::UnsupportedImageType {
+                    dim: ImageDimension::D3,
+                    arrayed: true,
+                    class: ImageClass::Sampled {
+                        kind: ScalarKind::Float,
+                        multi: false,
+                    },
+                },
             ),
             (
                 none,

@@ -1,9 +1,9 @@
-//! The types that two typings work out.
+//! The types that two typings resolve.
 
-ghost use Rattle.naga_ir.specs.Handles.{GlobalReferencesOk};
-ghost use Rattle.naga_ir.specs.ItemReferences.{global_lists};
+ghost use Rattle.naga_ir.specs.Handles.{HandlesAccepted};
 
-use super::{add, add_type, assert_references_ok, assert_same, assert_shown, with_module};
+use super::{add, add_type, assert_same, assert_shown, with_module};
+use naga_handles::handles::validate_module_handles;
 use naga_ir::expression::{BinaryOperator, Expression, Literal, MathFunction};
 use naga_ir::handle::Handle;
 use naga_ir::ir::Module;
@@ -17,7 +17,7 @@ use std::alloc::Global;
 use std::process::Abort;
 use std::test::Fail;
 
-/// A typing that knows no type but those that the laws name.
+/// A typing that supports only the forms whose types the laws give.
 #[derive(Clone, Copy)]
 struct DeclaredTyping;
 
@@ -67,7 +67,7 @@ fn resolve_all<T: Typing>(
     alloc: Global,
     module: &Module,
 ) -> Result<List<TypeResolution>, ResolveError>
-    requires { GlobalReferencesOk (global_lists «module».now) }
+    requires { HandlesAccepted «module».now }
 {
     let mut resolutions = List::new(alloc);
     for (_, expression) in module.global_expressions.iter() {
@@ -77,20 +77,27 @@ fn resolve_all<T: Typing>(
     Ok(resolutions)
 }
 
+/// Makes sure that the handles of a module are right.
+fn assert_handles_ok(rt: &impl Abort, alloc: Global, module: &Module)
+    ensures { HandlesAccepted «module».now }
+{
+    assert!(rt; validate_module_handles(alloc, module).is_ok());
+}
+
 /// The type of the last global expression of a module.
-fn last_type<T: Typing>(
+pub(super) fn last_type<T: Typing>(
     rt: &impl Abort,
     alloc: Global,
     typing: &T,
     module: &Module,
 ) -> Result<TypeResolution, ResolveError> {
-    assert_references_ok(rt, alloc, module);
+    assert_handles_ok(rt, alloc, module);
     let resolutions = resolve_all(typing, alloc, module)?;
     let last = resolutions.as_slice().last().expect(rt, "an expression");
     Ok(last.try_clone()?)
 }
 
-/// The zeros of a matrix of two columns and three rows, of a vector of two and of one of three.
+/// The zero values of a matrix of two columns and three rows, of a vector of two and of one of three.
 fn add_zeros(rt: &impl Abort, module: &mut Module) -> Result<[Handle<ExpressionTag>; 3], Fail> {
     let scalar = Scalar::F32;
     let matrix = TypeInner::Matrix {
@@ -150,8 +157,8 @@ fn a_vector_times_a_matrix_has_as_many_components_as_columns(rt: HostRuntime) ->
     Ok(())
 }
 
-/// A choice between the first zero and the second.
-fn choice<T: Typing>(
+/// A selection between the first zero value and the second.
+fn selection<T: Typing>(
     rt: &impl Abort,
     alloc: Global,
     typing: &T,
@@ -170,15 +177,15 @@ fn choice<T: Typing>(
 }
 
 #[test]
-fn a_choice_has_the_type_of_what_is_accepted(rt: HostRuntime) -> Result<(), Fail> {
-    let plain = choice(&rt, rt.alloc(), &PlainTyping)?;
+fn a_selection_has_the_type_of_the_accepted_value(rt: HostRuntime) -> Result<(), Fail> {
+    let plain = selection(&rt, rt.alloc(), &PlainTyping)?;
     assert_same(&rt, &plain, &Ok(TypeResolution::Handle(Handle::new(0))));
-    let declared = choice(&rt, rt.alloc(), &DeclaredTyping)?;
+    let declared = selection(&rt, rt.alloc(), &DeclaredTyping)?;
     assert_same(&rt, &declared, &Err(ResolveError::NotResolvable));
     Ok(())
 }
 
-/// The type of what stands at a place.
+/// The type of a load.
 fn load(rt: &impl Abort, alloc: Global) -> Result<Result<TypeResolution, ResolveError>, Fail> {
     with_module(alloc, |module| {
         let pointer = add(rt, module, Expression::Literal(Literal::F32(0)))?;
@@ -188,7 +195,7 @@ fn load(rt: &impl Abort, alloc: Global) -> Result<Result<TypeResolution, Resolve
 }
 
 #[test]
-fn what_stands_at_a_place_has_no_type(rt: HostRuntime) -> Result<(), Fail> {
+fn a_load_is_not_resolvable(rt: HostRuntime) -> Result<(), Fail> {
     let load = load(&rt, rt.alloc())?;
     assert_same(&rt, &load, &Err(ResolveError::NotResolvable));
     Ok(())

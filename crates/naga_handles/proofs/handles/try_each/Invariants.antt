@@ -1,6 +1,6 @@
 use Rattle.std.proofs.Common.{drop}
 use Rattle.std.specs.Fn.{FnReturnsAt}
-use Rattle.naga_handles.proofs.Passing.{Passed}
+use Rattle.naga_handles.proofs.PassedPrefix.{Passed}
 use Rattle.naga_handles.proofs.handles.try_each.Given as goal
 
 abbrev pub invariant-loop-item : goal.invariant-loop-item

@@ -1,32 +1,32 @@
 use Rattle.std.proofs.Common.{rules, ◌≡◌, ◌∙◌, ap, subst, sym}
 use Rattle.std.specs.Prelude.{Err}
 use Rattle.std.specs.List.{enumerate_from, flat_map}
-use Rattle.naga_ir.specs.Walks.{ChecksEach}
-use Rattle.naga_handles.specs.ItemLooks.{Answers, expression_looks}
-use Rattle.naga_handles.proofs.Passing.{begin, end, left-along, more, stop}
+use Rattle.naga_ir.specs.FirstFailure.{ChecksEach}
+use Rattle.naga_handles.specs.steps.ItemChecks.{IsResult, expression_checks}
+use Rattle.naga_handles.proofs.PassedPrefix.{begin, end, left-along, more, stop}
 use Rattle.naga_handles.proofs.handles.validate_expressions.Goals as goal
 
 pub loop-handle-init : goal.loop-handle-init
 loop-handle-init c =
-    let looks = expression_looks c.args.scope.now.counts c.args.scope.now.caller in
+    let looks = expression_checks c.args.scope.now.counts c.args.scope.now.caller in
     let whole = enumerate_from 0 c.args.function.now.expressions in
-    left-along Answers _ _ (ap (flat_map looks) (sym (c.into_iter-handle-iterator.ensures.into_iter_gives ∙ c.iter-handle-items.ensures))) (begin Answers (flat_map looks whole))
+    left-along IsResult _ _ (ap (flat_map looks) (sym (c.into_iter-handle-iterator.ensures.into_iter_gives ∙ c.iter-handle-items.ensures))) (begin IsResult (flat_map looks whole))
 
 pub loop-handle-preserved : goal.loop-handle-preserved
 loop-handle-preserved c =
-    let looks = expression_looks c.args.scope.now.counts c.args.scope.now.caller in
-    more Answers (looks (c.in-Some.handle, c.in-Some.expression.now)) (flat_map looks c.next.new.self)
-    (left-along Answers _ _ (ap (flat_map looks) c.in-Some.ensures.steps) c.loop-handle.invariant) c.in_ok-validate_expression_handles.ensures
+    let looks = expression_checks c.args.scope.now.counts c.args.scope.now.caller in
+    more IsResult (looks (c.in-Some.handle, c.in-Some.expression.now)) (flat_map looks c.next.new.self)
+    (left-along IsResult _ _ (ap (flat_map looks) c.in-Some.ensures.steps) c.loop-handle.invariant) c.in_ok-validate_expression_handles.ensures
 
 pub returns-in_err-validate_expression_handles : goal.returns-in_err-validate_expression_handles
 returns-in_err-validate_expression_handles c =
-    let looks = expression_looks c.args.scope.now.counts c.args.scope.now.caller in
+    let looks = expression_checks c.args.scope.now.counts c.args.scope.now.caller in
     let is : c.from_residual.result ≡ Err c.in_err-validate_expression_handles.field-0.0 = search rules in
-    subst (ChecksEach Answers _) (sym is)
-    (stop Answers (looks (c.in-Some.handle, c.in-Some.expression.now)) (flat_map looks c.next.new.self) _
-    (left-along Answers _ _ (ap (flat_map looks) c.in-Some.ensures.steps) c.loop-handle.invariant) c.in_err-validate_expression_handles.ensures)
+    subst (ChecksEach IsResult _) (sym is)
+    (stop IsResult (looks (c.in-Some.handle, c.in-Some.expression.now)) (flat_map looks c.next.new.self) _
+    (left-along IsResult _ _ (ap (flat_map looks) c.in-Some.ensures.steps) c.loop-handle.invariant) c.in_err-validate_expression_handles.ensures)
 
 pub returns : goal.returns
 returns c =
-    let looks = expression_looks c.args.scope.now.counts c.args.scope.now.caller in
-    end Answers (left-along Answers _ _ (ap (flat_map looks) c.in-None.ensures.steps.0) c.loop-handle.invariant)
+    let looks = expression_checks c.args.scope.now.counts c.args.scope.now.caller in
+    end IsResult (left-along IsResult _ _ (ap (flat_map looks) c.in-None.ensures.steps.0) c.loop-handle.invariant)

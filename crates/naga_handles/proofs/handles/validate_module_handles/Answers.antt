@@ -1,4 +1,4 @@
-use Rattle.naga_handles.proofs.Whole.{decides}
+use Rattle.naga_handles.proofs.HandleVerdict.{decides}
 use Rattle.naga_handles.proofs.handles.validate_module_handles.Goals as goal
 
 pub returns : goal.returns

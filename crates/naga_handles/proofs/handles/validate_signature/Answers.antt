@@ -1,13 +1,13 @@
 use Rattle.std.proofs.Common.{rules, ◌≡◌, ap, subst, sym}
 use Rattle.std.specs.Prelude.{Err}
-use Rattle.naga_ir.specs.Walks.{ChecksEach}
+use Rattle.naga_ir.specs.FirstFailure.{ChecksEach}
 use Rattle.naga_ir.specs.declared.ir.FunctionArgument.{FunctionArgument}
 use Rattle.naga_ir.specs.declared.ir.FunctionResult.{FunctionResult}
 use Rattle.naga_ir.specs.declared.reference.Reference.TheVariants as to
 use Rattle.naga_ir.proofs.StatementLemmas.{checks-along}
-use Rattle.naga_handles.specs.ItemLooks.{Answers, looks}
-use Rattle.naga_handles.specs.Looks.{of_function}
-use Rattle.naga_handles.proofs.Looking.{checks-called-one, looks-before, looks-then, one-present}
+use Rattle.naga_handles.specs.steps.ItemChecks.{IsResult, checks}
+use Rattle.naga_handles.specs.steps.Checks.{of_function}
+use Rattle.naga_handles.proofs.CheckLemmas.{checks-called-one, references-before, references-then, one-present}
 use Rattle.naga_handles.proofs.handles.validate_signature.Goals as goal
 
 pub returns-in_err-try_each : goal.returns-in_err-try_each
@@ -16,13 +16,13 @@ returns-in_err-try_each c =
     let s = of_function c.args.scope.now.caller in
     let f = c.args.function.now in
     let is : c.from_residual.result ≡ Err c.in_err-try_each.field-0.0 = search rules in
-    subst (ChecksEach Answers _) (sym is)
-    (looks-before n s _ _ _ (checks-called-one n s (λ (a : FunctionArgument). to.Type_ a.ty) f.arguments c.as_slice.ensures (λ y t k. search rules) c.in_err-try_each.ensures))
+    subst (ChecksEach IsResult _) (sym is)
+    (references-before n s _ _ _ (checks-called-one n s (λ (a : FunctionArgument). to.Type_ a.ty) f.arguments c.as_slice.ensures (λ y t k. search rules) c.in_err-try_each.ensures))
 
 pub returns : goal.returns
 returns c =
     let n = c.args.scope.now.counts in
     let s = of_function c.args.scope.now.caller in
     let f = c.args.function.now in
-    looks-then n s _ _ _ (checks-called-one n s (λ (a : FunctionArgument). to.Type_ a.ty) f.arguments c.as_slice.ensures (λ y t k. search rules) c.in_ok-try_each.ensures)
-    (checks-along Answers _ _ _ (ap (looks n s) (one-present (λ (r : FunctionResult). to.Type_ r.ty) f.result)) (search rules))
+    references-then n s _ _ _ (checks-called-one n s (λ (a : FunctionArgument). to.Type_ a.ty) f.arguments c.as_slice.ensures (λ y t k. search rules) c.in_ok-try_each.ensures)
+    (checks-along IsResult _ _ _ (ap (checks n s) (one-present (λ (r : FunctionResult). to.Type_ r.ty) f.result)) (search rules))

@@ -2,9 +2,9 @@ use Rattle.std.proofs.Common.{rules, ℕ, ◌∙◌, List, Option, ap, map, refl
 use Rattle.naga_ir.specs.ItemReferences.{workgroup_sizes}
 use Rattle.naga_ir.specs.declared.reference.Reference.TheVariants as to
 use Rattle.naga_ir.proofs.StatementLemmas.{checks-along}
-use Rattle.naga_handles.specs.ItemLooks.{Answers, looks}
-use Rattle.naga_handles.specs.Looks.{of_function}
-use Rattle.naga_handles.proofs.Looking.{checks-called, flat-present, one-present}
+use Rattle.naga_handles.specs.steps.ItemChecks.{IsResult, checks}
+use Rattle.naga_handles.specs.steps.Checks.{of_function}
+use Rattle.naga_handles.proofs.CheckLemmas.{checks-called, flat-present, one-present}
 use Rattle.naga_handles.proofs.handles.validate_workgroup_sizes.Goals as goal
 
 pub returns-in-Some : goal.returns-in-Some
@@ -12,6 +12,6 @@ returns-in-Some c =
     let n = c.args.scope.now.counts in
     let s = of_function c.args.scope.now.caller in
     let sizes = c.in-Some.sizes in
-    checks-along Answers _ _ _ (ap (looks n s) (flat-present to.Expression sizes ∙ ap (λ (o : Option (List (Option ℕ))). map to.Expression (workgroup_sizes o)) (sym c.in-Some.is)))
+    checks-along IsResult _ _ _ (ap (checks n s) (flat-present to.Expression sizes ∙ ap (λ (o : Option (List (Option ℕ))). map to.Expression (workgroup_sizes o)) (sym c.in-Some.is)))
     (checks-called n s (λ (o : Option ℕ). map to.Expression (option_to_list o)) sizes refl
-    (λ y t k. checks-along Answers _ _ _ (ap (looks n s) (one-present to.Expression y.now)) (search rules)) c.try_each.ensures)
+    (λ y t k. checks-along IsResult _ _ _ (ap (checks n s) (one-present to.Expression y.now)) (search rules)) c.try_each.ensures)

@@ -1,10 +1,10 @@
 use Rattle.std.proofs.Common.{◌≡◌, ◌∙◌, ℕ, [], List, length, sym, subst, arith}
 use Rattle.naga_ir.specs.ItemReferences.{global_lists}
-use Rattle.naga_handles.specs.Visits.{Placed, Reached}
+use Rattle.naga_handles.specs.steps.VisitState.{Placed, Reached}
 use Rattle.naga_handles.specs.declared.order.Item.{Item}
-use Rattle.naga_handles.proofs.Places.{placed_all, placed_none}
-use Rattle.naga_handles.proofs.Tops.{gate_end}
-use Rattle.naga_handles.proofs.WalkSteps.{reached_at}
+use Rattle.naga_handles.proofs.GrowingOrder.{placed_all, placed_none}
+use Rattle.naga_handles.proofs.GateLemmas.{gate_end}
+use Rattle.naga_handles.proofs.VisitLemmas.{reached_at}
 use Rattle.naga_handles.proofs.order.order_of.Goals as goal
 
 pub loop-index-init : goal.loop-index-init

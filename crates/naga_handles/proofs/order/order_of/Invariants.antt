@@ -1,5 +1,5 @@
 use Rattle.naga_ir.specs.ItemReferences.{global_lists}
-use Rattle.naga_handles.specs.Visits.{Placed, Reached}
+use Rattle.naga_handles.specs.steps.VisitState.{Placed, Reached}
 use Rattle.naga_handles.proofs.order.order_of.Given as goal
 
 abbrev pub invariant-loop-index : goal.invariant-loop-index

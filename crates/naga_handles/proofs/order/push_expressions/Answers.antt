@@ -1,9 +1,9 @@
 use Rattle.std.proofs.Common.{◌≡◌, ◌+◌, ℕ, List, [], ◌∷◌, ◌++◌, sym, subst, arith}
 use Rattle.naga_ir.specs.Ranks.{gate}
-use Rattle.naga_handles.specs.Visits.{Placed}
+use Rattle.naga_handles.specs.steps.VisitState.{Placed}
 use Rattle.naga_handles.specs.declared.order.Item.{Item}
 use Rattle.naga_handles.specs.declared.order.Item.TheVariants as item
-use Rattle.naga_handles.proofs.Places.{placed_expression}
+use Rattle.naga_handles.proofs.GrowingOrder.{placed_expression}
 use Rattle.naga_handles.proofs.order.push_expressions.Goals as goal
 
 pub loop-index-preserved : goal.loop-index-preserved

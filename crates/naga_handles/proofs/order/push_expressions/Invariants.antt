@@ -1,4 +1,4 @@
-use Rattle.naga_handles.specs.Visits.{PlacesUpTo}
+use Rattle.naga_handles.specs.steps.VisitState.{PlacesUpTo}
 use Rattle.naga_handles.proofs.order.push_expressions.Given as goal
 
 abbrev pub invariant-loop-index : goal.invariant-loop-index

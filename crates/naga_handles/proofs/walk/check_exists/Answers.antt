@@ -1,4 +1,4 @@
-use Rattle.naga_handles.proofs.WalkFaults.{not_there}
+use Rattle.naga_handles.proofs.OrderFaults.{not_there}
 use Rattle.naga_handles.proofs.walk.check_exists.Goals as goal
 
 pub returns-clause-refused : goal.returns-clause-refused

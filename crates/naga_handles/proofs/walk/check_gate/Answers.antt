@@ -1,6 +1,6 @@
 use Rattle.std.proofs.Common.{◌<◌, ◌∙◌, ℕ, sym, subst, rules}
 use Rattle.std.proofs.lemmas.Option.{same_Some}
-use Rattle.naga_handles.specs.Visits.{NamesBefore}
+use Rattle.naga_handles.specs.steps.VisitState.{NamesBefore}
 use Rattle.naga_handles.proofs.walk.check_gate.Goals as goal
 
 pub returns-in_default-clause-before : goal.returns-in_default-clause-before

@@ -2,11 +2,11 @@ use Rattle.std.proofs.Common.{◌<◌, ◌≤◌, ◌∙◌, ℕ, sym, subst, ru
 use Rattle.std.proofs.lemmas.Option.{same_Some}
 use Rattle.naga_ir.specs.Handles.{Exists, module_counts}
 use Rattle.naga_handles.specs.Faults.{item}
-use Rattle.naga_handles.proofs.WalkFaults.{constant_there, item_stands, late_value, no_item, override_there}
+use Rattle.naga_handles.proofs.OrderFaults.{constant_there, item_stands, late_value, no_item, override_there}
 use Rattle.naga_handles.proofs.walk.check_item.Goals as goal
 
-pub returns-in_default-clause-stands : goal.returns-in_default-clause-stands
-returns-in_default-clause-stands c = no_item c.args.module.now c.args.handle c.args.expression.now c.requires (sym c.named_item.ensures ∙ c.in_default.is)
+pub returns-in_default-clause-right : goal.returns-in_default-clause-right
+returns-in_default-clause-right c = no_item c.args.module.now c.args.handle c.args.expression.now c.requires (sym c.named_item.ensures ∙ c.in_default.is)
 
 pub check_exists-requires : goal.check_exists-requires
 check_exists-requires c = item c.args.handle c.args.expression.now c.in-Some.item c.requires (sym c.named_item.ensures ∙ c.in-Some.is)
@@ -21,8 +21,8 @@ initialiser-requires-clause-overrides c =
     let there : Exists (module_counts c.args.module.now) c.in-Some.item = search rules in
     override_there c.args.module.now c.args.handle c.args.expression.now c.requires c.in-Some.item (sym c.named_item.ensures ∙ c.in-Some.is) there
 
-pub returns-in_default-initialiser-clause-stands : goal.returns-in_default-initialiser-clause-stands
-returns-in_default-initialiser-clause-stands c =
+pub returns-in_default-initialiser-clause-right : goal.returns-in_default-initialiser-clause-right
+returns-in_default-initialiser-clause-right c =
     let there : Exists (module_counts c.args.module.now) c.in-Some.item = search rules in
     item_stands c.args.module.now c.args.handle c.args.expression.now c.requires c.in-Some.item (sym c.named_item.ensures ∙ c.in-Some.is) there
     (λ n begins. let none = sym c.initialiser.ensures ∙ c.in_default-initialiser.is in absurd (cc))
@@ -33,8 +33,8 @@ returns-in_err-check_dep-clause-refused c =
     let fault = late_value c.args.module.now c.args.handle c.args.expression.now c.requires c.in-Some-initialiser.init (sym c.initialiser.ensures ∙ c.in-Some-initialiser.is) late in
     search rules
 
-pub returns-clause-stands : goal.returns-clause-stands
-returns-clause-stands c =
+pub returns-clause-right : goal.returns-clause-right
+returns-clause-right c =
     let there : Exists (module_counts c.args.module.now) c.in-Some.item = search rules in
     let before : c.in-Some-initialiser.init < c.args.handle = search rules in
     item_stands c.args.module.now c.args.handle c.args.expression.now c.requires c.in-Some.item (sym c.named_item.ensures ∙ c.in-Some.is) there

@@ -1,7 +1,7 @@
 use Rattle.std.proofs.Common.{◌<◌, ◌∙◌, ℕ, length, sym, subst, rules}
 use Rattle.std.proofs.lemmas.Option.{same_Some}
 use Rattle.naga_handles.specs.Faults.{type_}
-use Rattle.naga_handles.specs.Visits.{NamesBefore}
+use Rattle.naga_handles.specs.steps.VisitState.{NamesBefore}
 use Rattle.naga_handles.proofs.walk.check_named_type.Goals as goal
 
 pub returns-in_default-clause-before : goal.returns-in_default-clause-before

@@ -1,6 +1,6 @@
 use Rattle.std.proofs.Common.{◌∙◌, ◌<◌, rules}
 use Rattle.naga_ir_types.specs.Parts.{parts}
-use Rattle.naga_handles.proofs.Before.{all_below, none_below, one_below}
+use Rattle.naga_handles.proofs.PlacesBefore.{all_below, none_below, one_below}
 use Rattle.naga_handles.proofs.walk.check_parts.Goals as goal
 
 pub loop-part-init : goal.loop-part-init

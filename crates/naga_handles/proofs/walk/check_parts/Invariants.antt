@@ -1,7 +1,7 @@
 use Rattle.naga_ir_types.specs.Parts.{parts}
-use Rattle.naga_handles.proofs.Before.{Below}
+use Rattle.naga_handles.proofs.PlacesBefore.{Below}
 use Rattle.naga_handles.proofs.walk.check_parts.Given as goal
 
--- those so far come before the type
+-- those so far precede the type
 abbrev pub invariant-loop-part : goal.invariant-loop-part
 invariant-loop-part l = Below l.handle (parts l.inner) l.part-iterator

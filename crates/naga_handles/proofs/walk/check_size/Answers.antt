@@ -3,11 +3,11 @@ use Rattle.std.proofs.lemmas.Option.{same_Some}
 use Rattle.naga_ir.specs.ItemReferences.{global_lists}
 use Rattle.naga_ir_types.specs.Parts.{size_override}
 use Rattle.naga_handles.specs.Faults.{initialiser, size}
-use Rattle.naga_handles.proofs.WalkFaults.{late_size, no_size, size_none, size_some, size_stands}
+use Rattle.naga_handles.proofs.OrderFaults.{late_size, no_size, size_none, size_some, size_stands}
 use Rattle.naga_handles.proofs.walk.check_size.Goals as goal
 
-pub returns-in_default-clause-stands : goal.returns-in_default-clause-stands
-returns-in_default-clause-stands c =
+pub returns-in_default-clause-right : goal.returns-in_default-clause-right
+returns-in_default-clause-right c =
     let x = c.requires.0 in
     no_size c.args.module.now c.args.handle x c.args.inner.now c.requires.1 c.requires.2 (sym c.size_override.ensures ∙ c.in_default.is)
 
@@ -25,8 +25,8 @@ returns-in_err-check_dep-clause-refused c =
     let fault = late_size c.args.module.now c.args.handle c.requires.0 c.args.inner.now c.requires.1 c.requires.2 c.in-Some.size c.index-sizing.result.now (sym c.size_override.ensures ∙ c.in-Some.is) c.index-sizing.ensures late in
     search rules
 
-pub returns-in_default-init-clause-stands : goal.returns-in_default-init-clause-stands
-returns-in_default-init-clause-stands c =
+pub returns-in_default-init-clause-right : goal.returns-in_default-init-clause-right
+returns-in_default-init-clause-right c =
     let there : c.in-Some.size < length c.args.module.now.overrides = search rules in
     let before : c.index-sizing.result.now.ty < c.args.handle = search rules in
     size_stands c.args.module.now c.args.handle c.requires.0 c.args.inner.now c.requires.1 c.requires.2 c.in-Some.size c.index-sizing.result.now (sym c.size_override.ensures ∙ c.in-Some.is) c.index-sizing.ensures there before
@@ -40,8 +40,8 @@ pub check_exists-requires-2 : goal.check_exists-requires-2
 check_exists-requires-2 c =
     initialiser c.args.handle c.in-Some-init.last (size_some (global_lists c.args.module.now) c.args.handle c.in-Some.size c.requires.0 c.index-sizing.result.now c.requires.1 (ap size_override c.requires.2 ∙ sym c.size_override.ensures ∙ c.in-Some.is) c.index-sizing.ensures ∙ c.in-Some-init.is)
 
-pub returns-clause-stands : goal.returns-clause-stands
-returns-clause-stands c =
+pub returns-clause-right : goal.returns-clause-right
+returns-clause-right c =
     let there : c.in-Some.size < length c.args.module.now.overrides = search rules in
     let before : c.index-sizing.result.now.ty < c.args.handle = search rules in
     let last : c.in-Some-init.last < length c.args.module.now.global_expressions = search rules in

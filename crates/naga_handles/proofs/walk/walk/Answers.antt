@@ -1,6 +1,6 @@
 use Rattle.std.proofs.Common.{◌≡◌, ℕ, length, arith, subst}
-use Rattle.naga_handles.specs.Visits.{Reached}
-use Rattle.naga_handles.proofs.WalkSteps.{reached_at}
+use Rattle.naga_handles.specs.steps.VisitState.{Reached}
+use Rattle.naga_handles.proofs.VisitLemmas.{reached_at}
 use Rattle.naga_handles.proofs.walk.walk.Goals as goal
 
 pub loop-index-init : goal.loop-index-init

@@ -1,4 +1,4 @@
-use Rattle.naga_handles.specs.Visits.{Reached}
+use Rattle.naga_handles.specs.steps.VisitState.{Reached}
 use Rattle.naga_handles.proofs.walk.walk.Given as goal
 
 abbrev pub invariant-loop-index : goal.invariant-loop-index

@@ -1,5 +1,5 @@
 use Rattle.std.proofs.Common.{ℕ, List, ◌++◌, ap, codes, ◌∙◌}
-use Rattle.naga_report.proofs.Reports.{begun, ended, within, written}
+use Rattle.naga_report.proofs.TypeLines.{begun, ended, within, written}
 use Rattle.naga_report.proofs.report.accepted.Goals as goal
 
 pub loop-handle-init : goal.loop-handle-init

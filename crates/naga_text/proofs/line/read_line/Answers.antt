@@ -1,7 +1,7 @@
 use Rattle.std.proofs.Common.{◌≡◌, List, ℕ, Option, Some, None, IfSome, ◌∙◌, sym}
 use Rattle.std.proofs.lemmas.Result.{IfOk-weaker}
 use Rattle.naga_text.specs.Forms.{IsForm}
-use Rattle.naga_text.specs.Reading.{line_of}
+use Rattle.naga_text.specs.steps.LineForms.{line_of}
 use Rattle.naga_text.specs.declared.line.Line.{Line}
 use Rattle.naga_text.proofs.LineLaws.{line_found, line_again}
 use Rattle.naga_text.proofs.line.read_line.Goals as goal
@@ -14,7 +14,7 @@ only : (ws : List (List ℕ)) (line : Line) → IsForm ws line → (read : Optio
 only ws line h read e = e ∙ line_again ws line h
 
 pub returns-clause-found : goal.returns-clause-found
-returns-clause-found c = IfOk-weaker c.keyword.result _ _ (found _) c.keyword.ensures.read
+returns-clause-found c = IfOk-weaker c.keyword.result _ _ (found _) c.keyword.ensures
 
 pub returns-clause-only : goal.returns-clause-only
-returns-clause-only c = λ line h. IfOk-weaker c.keyword.result _ _ (only _ line h) c.keyword.ensures.read
+returns-clause-only c = λ line h. IfOk-weaker c.keyword.result _ _ (only _ line h) c.keyword.ensures

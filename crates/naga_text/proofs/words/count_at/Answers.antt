@@ -1,4 +1,4 @@
-use Rattle.naga_text.proofs.NamingLaws.{counted}
+use Rattle.naga_text.proofs.WordLaws.{counted}
 use Rattle.naga_text.proofs.words.count_at.Goals as goal
 
 pub returns : goal.returns

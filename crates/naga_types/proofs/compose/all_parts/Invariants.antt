@@ -1,8 +1,9 @@
 use Rattle.std.proofs.Common.{◌≡◌, take}
-use Rattle.naga_types.specs.Composing.{all_parts, resolutions_of}
-use Rattle.naga_types.specs.Layouts.{told}
+use Rattle.naga_types.specs.Composing.{all_parts}
+use Rattle.naga_types.specs.Layouts.{saturated}
+use Rattle.naga_types.specs.steps.Components.{resolutions_of}
 use Rattle.naga_types.proofs.compose.all_parts.Given as goal
 
 -- the total is that of the components so far
 abbrev pub invariant-loop-index : goal.invariant-loop-index
-invariant-loop-index l = l.total ≡ told (all_parts l.types (take l.index (resolutions_of l.components)))
+invariant-loop-index l = l.total ≡ saturated (all_parts l.types (take l.index (resolutions_of l.components)))

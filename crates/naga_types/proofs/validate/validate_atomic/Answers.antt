@@ -1,6 +1,6 @@
 use Rattle.std.proofs.Common.{rules, ◌≡◌, ◌∙◌}
 use Rattle.std.specs.Prelude.{Err}
-use Rattle.naga_types.proofs.Members.{same_refusal}
+use Rattle.naga_types.proofs.JudgingLemmas.{same_refusal}
 use Rattle.naga_types.proofs.validate.validate_atomic.Goals as goal
 
 pub returns-in_err-check_atomic : goal.returns-in_err-check_atomic

@@ -1,9 +1,9 @@
 use Rattle.std.proofs.Common.{◌<◌, ℕ, All, subst, sym, arith}
 use Rattle.naga_ir_types.proofs.PartLemmas.{base_is, members_are}
 use Rattle.naga_ir_types.specs.declared.types.StructMember.{StructMember}
-use Rattle.naga_typing.proofs.Named.{array_override_is_there, references_exist}
+use Rattle.naga_typing.proofs.Existence.{array_override_exists, references_exist}
 use Rattle.naga_typing.specs.Context.{lists_of}
-use Rattle.naga_types.proofs.Parts.{before, binding_array_base_before, pointer_base_before}
+use Rattle.naga_types.proofs.PartsBefore.{before, binding_array_base_before, pointer_base_before}
 use Rattle.naga_types.proofs.validate.validate_type.Goals as goal
 
 pub get-requires : goal.get-requires
@@ -17,7 +17,7 @@ validate_array-requires-clause-before c =
 
 pub validate_array-requires-clause-there : goal.validate_array-requires-clause-there
 validate_array-requires-clause-there c =
-    array_override_is_there (lists_of c.args.gctx) _ _ _ _ (references_exist (lists_of c.args.gctx) c.requires.references _ _ c.index-2.ensures) c.in-Array.is
+    array_override_exists (lists_of c.args.gctx) _ _ _ _ (references_exist (lists_of c.args.gctx) c.requires.references _ _ c.index-2.ensures) c.in-Array.is
 
 pub validate_struct-requires-clause-members : goal.validate_struct-requires-clause-members
 validate_struct-requires-clause-members c =

@@ -1,4 +1,4 @@
-//! Lines of types, each form.
+//! Lines that describe types, each form.
 
 ghost use Rattle.std.specs.Prelude.{◌<◌};
 
@@ -206,7 +206,7 @@ fn structs_are_as_written(rt: HostRuntime) -> Result<(), Fail> {
 }
 
 #[test]
-fn numbers_and_pointers_are_refused(rt: HostRuntime) {
+fn numbers_and_pointers_are_unreadable(rt: HostRuntime) {
     for text in [
         "type coop 8 8 float 2",
         "type coop 8 8 float 2 A A",
@@ -229,7 +229,7 @@ fn numbers_and_pointers_are_refused(rt: HostRuntime) {
 }
 
 #[test]
-fn arrays_and_structs_are_refused(rt: HostRuntime) {
+fn arrays_and_structs_are_unreadable(rt: HostRuntime) {
     for text in [
         "type array 0 4",
         "type array 0 4 4 4",
@@ -258,7 +258,7 @@ fn arrays_and_structs_are_refused(rt: HostRuntime) {
 }
 
 #[test]
-fn images_and_rays_are_refused(rt: HostRuntime) {
+fn images_and_rays_are_unreadable(rt: HostRuntime) {
     for text in [
         "type image 2 0",
         "type image 2 0 float 0",

@@ -1,7 +1,7 @@
 use Rattle.std.proofs.Common.{◌≡◌, ◌≤◌, ℕ, Some, length, slice_get, subst, refl, arith}
-use Rattle.naga_handles.specs.Visits.{ExpressionStands}
-use Rattle.naga_handles.proofs.Ordered.{can_be_ordered}
-use Rattle.naga_handles.proofs.WalkSteps.{seen_more, seen_one, ungated}
+use Rattle.naga_handles.specs.steps.VisitState.{ExpressionOk}
+use Rattle.naga_handles.proofs.OrderLemmas.{can_be_ordered}
+use Rattle.naga_handles.proofs.VisitLemmas.{seen_more, seen_one, ungated}
 use Rattle.naga_handles.proofs.walk.Walker.visit_rest.Goals as goal
 
 pub loop-index-init : goal.loop-index-init
@@ -16,7 +16,7 @@ check_named_type-requires-clause-ungated c = ungated c.args.module.now _ (omega 
 pub loop-index-preserved : goal.loop-index-preserved
 loop-index-preserved c =
     let at = subst (λ (n : ℕ). slice_get c.args.module.now.global_expressions n ≡ Some c.expression_at-expression.result.now) c.new-place.ensures c.expression_at-expression.ensures.read in
-    let stands = subst (λ (n : ℕ). ExpressionStands c.args.module.now n c.expression_at-expression.result.now) c.new-place.ensures c.in_ok-check_expression.ensures.stands in
+    let stands = subst (λ (n : ℕ). ExpressionOk c.args.module.now n c.expression_at-expression.result.now) c.new-place.ensures c.in_ok-check_expression.ensures.right in
     record {
       at = refl;
       looked = omega (arith, c.expression_at-expression.ensures.counted, c.loop-index.invariant.looked);
@@ -34,8 +34,8 @@ returns-clause-visited c =
     let start : c.args.self.now.visited ≤ c.len-index-end.result = omega (arith, c.requires.reached.inside, c.len-index-end.ensures.value) in
     omega (arith, c.loop-index.invariant.at, c.loop-index-test.false, c.len-index-end.ensures.value, c.loop-index.auto.index-end start)
 
-pub returns-clause-looked : goal.returns-clause-looked
-returns-clause-looked c =
+pub returns-clause-counted : goal.returns-clause-counted
+returns-clause-counted c =
     let start : c.args.self.now.visited ≤ c.len-index-end.result = omega (arith, c.requires.reached.inside, c.len-index-end.ensures.value) in
     omega (arith, c.loop-index.invariant.looked, c.loop-index-test.false, c.len-index-end.ensures.value, c.loop-index.auto.index-end start)
 

@@ -1,10 +1,10 @@
 use Rattle.std.proofs.Common.{◌≡◌, ◌≤◌, ℕ, Some, slice_get, subst, refl, rules, arith}
-use Rattle.naga_handles.specs.Visits.{ExpressionStands}
-use Rattle.naga_handles.proofs.WalkSteps.{late_gate, seen_more, seen_one}
+use Rattle.naga_handles.specs.steps.VisitState.{ExpressionOk}
+use Rattle.naga_handles.proofs.VisitLemmas.{late_gate, seen_more, seen_one}
 use Rattle.naga_handles.proofs.walk.Walker.visit_up_to.Goals as goal
 
 pub loop-index-init : goal.loop-index-init
-loop-index-init c = record { at = refl; looked = c.requires.looked; seen = λ k a b. absurd (omega (arith, a, b)); tight = omega arith }
+loop-index-init c = record { at = refl; looked = c.requires.counted; seen = λ k a b. absurd (omega (arith, a, b)); tight = omega arith }
 
 pub expression_at-expression-requires-clause-few : goal.expression_at-expression-requires-clause-few
 expression_at-expression-requires-clause-few c = omega (arith, c.loop-index.invariant.looked, c.requires.few.0, c.loop-index-test.true, c.index-index-end.ensures.bound)
@@ -19,7 +19,7 @@ returns-in_err-check_gate-clause-refused c =
 pub loop-index-preserved : goal.loop-index-preserved
 loop-index-preserved c =
     let at = subst (λ (n : ℕ). slice_get c.args.module.now.global_expressions n ≡ Some c.expression_at-expression.result.now) c.new-place.ensures c.expression_at-expression.ensures.read in
-    let stands = subst (λ (n : ℕ). ExpressionStands c.args.module.now n c.expression_at-expression.result.now) c.new-place.ensures c.in_ok-check_expression.ensures.stands in
+    let stands = subst (λ (n : ℕ). ExpressionOk c.args.module.now n c.expression_at-expression.result.now) c.new-place.ensures c.in_ok-check_expression.ensures.right in
     record {
       at = refl;
       looked = omega (arith, c.expression_at-expression.ensures.counted, c.loop-index.invariant.looked);
@@ -30,15 +30,15 @@ loop-index-preserved c =
 
 pub returns-clause-seen : goal.returns-clause-seen
 returns-clause-seen c = record {
-  inside = omega (arith, c.loop-index.invariant.at, c.loop-index.invariant.tight, c.requires.inside, c.requires.there);
+  inside = omega (arith, c.loop-index.invariant.at, c.loop-index.invariant.tight, c.requires.inside, c.requires.exists);
   grows = omega (arith, c.loop-index.invariant.at, c.loop-index.auto.index);
   each = λ e a b. c.loop-index.invariant.seen e a (omega (arith, b, c.loop-index.invariant.at));
   reach = omega (arith, c.loop-index.invariant.at, c.loop-index-test.false, c.index-index-end.ensures.value);
   tight = omega (arith, c.loop-index.invariant.at, c.loop-index.invariant.tight);
 }
 
-pub returns-clause-looked : goal.returns-clause-looked
-returns-clause-looked c = omega (arith, c.loop-index.invariant.at, c.loop-index.invariant.looked)
+pub returns-clause-counted : goal.returns-clause-counted
+returns-clause-counted c = omega (arith, c.loop-index.invariant.at, c.loop-index.invariant.looked)
 
 pub returns-clause-few : goal.returns-clause-few
 returns-clause-few c = omega (arith, c.loop-index.invariant.at, c.loop-index.invariant.tight, c.requires.few.1, c.index-index-end.ensures.bound, c.index-index-end.ensures.value)

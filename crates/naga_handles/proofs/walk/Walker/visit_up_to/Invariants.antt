@@ -1,5 +1,5 @@
 use Rattle.std.proofs.Common.{◌≡◌, ◌+◌, ◌<◌, ◌≤◌, ℕ, max}
-use Rattle.naga_handles.specs.Visits.{Seen}
+use Rattle.naga_handles.specs.steps.VisitState.{Seen}
 use Rattle.naga_handles.proofs.walk.Walker.visit_up_to.Given as goal
 
 abbrev pub invariant-loop-index : goal.invariant-loop-index

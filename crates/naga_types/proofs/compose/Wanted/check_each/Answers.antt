@@ -1,9 +1,9 @@
 use Rattle.std.proofs.Common.{◌≡◌, true, false, sym, ap, ◌∙◌}
 use Rattle.std.specs.Prelude.{Err}
-use Rattle.naga_types.specs.Composing.{fits, resolutions_of}
+use Rattle.naga_types.specs.steps.Components.{fits, resolutions_of}
 use Rattle.naga_types.specs.Judging.{granted}
 use Rattle.naga_types.specs.declared.error.ComposeError.TheVariants.{ComponentType}
-use Rattle.naga_types.proofs.Composing.{component_exists, one_fits, one_misfits}
+use Rattle.naga_types.proofs.ComposeLemmas.{component_exists, one_fits, one_misfits}
 use Rattle.naga_types.proofs.compose.Wanted.check_each.Goals as goal
 
 pub fits-requires-clause-component : goal.fits-requires-clause-component
@@ -14,7 +14,7 @@ returns-then-not-fits c =
     let wanted = fits c.args.types.now c.args.self.now in
     let given = resolutions_of c.args.components.now in
     let fails : wanted (c.loop-index.index, c.get.result.now) ≡ false = sym c.fits.ensures ∙ c.if-not-fits.true in
-    ap (λ n. Err (ComponentType n)) c.told.ensures
+    ap (λ n. Err (ComponentType n)) c.saturated.ensures
     ∙ sym (ap (λ o. granted o tt) (one_misfits wanted given c.loop-index.index c.get.result.now c.get.ensures c.loop-index.invariant fails))
 
 pub loop-index-preserved : goal.loop-index-preserved

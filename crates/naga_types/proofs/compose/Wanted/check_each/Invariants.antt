@@ -1,5 +1,5 @@
-use Rattle.naga_types.specs.Composing.{fits, resolutions_of}
-use Rattle.naga_types.proofs.Composing.{FitSoFar}
+use Rattle.naga_types.specs.steps.Components.{fits, resolutions_of}
+use Rattle.naga_types.proofs.ComposeLemmas.{FitSoFar}
 use Rattle.naga_types.proofs.compose.Wanted.check_each.Given as goal
 
 -- the components so far are what is wanted

@@ -1,17 +1,60 @@
-use Rattle.std.proofs.Common.{rules, ◌≡◌, None, sym, subst}
+use Rattle.std.proofs.Common.{rules, ◌≡◌, ◌+◌, ◌<◌, ◌∙◌, None, Some, ap, get_or, inl, length, sym, subst, take}
+use Rattle.std.specs.Prelude.{Err, OnOk}
+use Rattle.std.proofs.lemmas.Option.{get_or_from_slice_get, slice_get_within}
 use Rattle.naga_flags.specs.Flags.{has}
-use Rattle.naga_types.specs.Answers.{Answers}
-use Rattle.naga_types.specs.Judging.{granted, unless}
+use Rattle.naga_types.specs.FormFlags.{member_flags}
+use Rattle.naga_types.specs.RuleResults.{IsRuleResult}
+use Rattle.naga_types.specs.Judging.{first, granted, judged, unless}
 use Rattle.naga_types.specs.StructRule as rule
-use Rattle.naga_types.specs.StructRule.{around, noted}
 use Rattle.naga_types.specs.Surroundings.{flags_at}
 use Rattle.naga_types.specs.declared.error.TypeError.TheVariants.{InvalidData}
-use Rattle.naga_types.proofs.Members.{fourth, none_broken}
+use Rattle.naga_types.specs.declared.structs.Sources.{Sources}
+use Rattle.naga_types.specs.steps.Structs.{is_noted, sources_of, surroundings_of, with_member}
+use Rattle.naga_types.proofs.JudgingLemmas.{broken, fourth, none_broken, second, third}
+use Rattle.naga_types.proofs.SourceLemmas.{same_conditions, sources_more}
 use Rattle.naga_types.proofs.structs.StructType.check_member.Goals as goal
+
+pub returns-in_err-note-clause-judged : goal.returns-in_err-note-clause-judged
+returns-in_err-note-clause-judged c =
+    let s = surroundings_of c.args.self.now in
+    let members = c.args.self.now.members.now in
+    let error = c.in_err-note.field-0.0 in
+    let is : c.from_residual.result ≡ Err error = search rules in
+    let known : unless (has (flags_at s c.args.member.now.ty) member_flags) (InvalidData c.args.member.now.ty) ≡ None = search rules in
+    let conditions = λ (sources : Sources). first (rule.source_conditions s.capabilities (is_noted sources) (rule.source_of c.args.member.now.binding)) in
+    let noted : conditions c.args.sources.now ≡ Some error = broken _ _ _ c.in_err-note.ensures.judged in
+    let refused = sym (same_conditions s.capabilities (take c.args.index members) (rule.source_of c.args.member.now.binding)) ∙ sym (ap conditions c.requires.noted) ∙ noted in
+    subst (IsRuleResult (judged (rule.member_conditions s members c.args.self.now.span (c.args.index, c.args.member.now)) tt)) (sym is)
+    (inl (sym (ap (λ o. granted o tt) (second _ _ (first (rule.place_conditions s members c.args.self.now.span c.args.index c.args.member.now)) (rule.unsized_member s members c.args.index c.args.member.now) error known refused))))
+
+pub returns-in_err-check_place-clause-judged : goal.returns-in_err-check_place-clause-judged
+returns-in_err-check_place-clause-judged c =
+    let s = surroundings_of c.args.self.now in
+    let members = c.args.self.now.members.now in
+    let error = c.in_err-check_place.field-0.0 in
+    let is : c.from_residual-in_err-check_place.result ≡ Err error = search rules in
+    let known : unless (has (flags_at s c.args.member.now.ty) member_flags) (InvalidData c.args.member.now.ty) ≡ None = search rules in
+    let conditions = λ (sources : Sources). first (rule.source_conditions s.capabilities (is_noted sources) (rule.source_of c.args.member.now.binding)) in
+    let free = sym (same_conditions s.capabilities (take c.args.index members) (rule.source_of c.args.member.now.binding)) ∙ sym (ap conditions c.requires.noted) ∙ none_broken _ _ _ c.in_ok-note.ensures.judged in
+    subst (IsRuleResult (judged (rule.member_conditions s members c.args.self.now.span (c.args.index, c.args.member.now)) tt)) (sym is)
+    (inl (sym (ap (λ o. granted o tt) (third _ _ _ (rule.unsized_member s members c.args.index c.args.member.now) error known free (broken _ _ _ c.in_err-check_place.ensures)))))
 
 pub returns-clause-judged : goal.returns-clause-judged
 returns-clause-judged c =
-    let known : unless (has (flags_at (around c.args.self.now) c.args.member.now.ty) 0x21) (InvalidData c.args.member.now.ty) ≡ None = search rules in
-    let last = fourth _ _ _ (rule.unsized_member (around c.args.self.now) c.args.self.now.members.now c.args.index c.args.member.now) known
-    (none_broken _ _ _ c.in_ok-note.ensures.judged) (none_broken _ _ _ c.in_ok-check_place.ensures) in
-    subst (λ o. Answers (granted o tt) c.check_size.result) (sym last) c.check_size.ensures
+    let s = surroundings_of c.args.self.now in
+    let members = c.args.self.now.members.now in
+    let known : unless (has (flags_at s c.args.member.now.ty) member_flags) (InvalidData c.args.member.now.ty) ≡ None = search rules in
+    let conditions = λ (sources : Sources). first (rule.source_conditions s.capabilities (is_noted sources) (rule.source_of c.args.member.now.binding)) in
+    let free = sym (same_conditions s.capabilities (take c.args.index members) (rule.source_of c.args.member.now.binding)) ∙ sym (ap conditions c.requires.noted) ∙ none_broken _ _ _ c.in_ok-note.ensures.judged in
+    let last = fourth _ _ _ (rule.unsized_member s members c.args.index c.args.member.now) known free (none_broken _ _ _ c.in_ok-check_place.ensures) in
+    subst (λ o. IsRuleResult (granted o tt) c.check_size.result) (sym last) c.check_size.ensures
+
+pub returns-clause-noted : goal.returns-clause-noted
+returns-clause-noted c =
+    let members = c.args.self.now.members.now in
+    let member = c.args.member.now in
+    let within : c.args.index < length members = slice_get_within members c.args.index member c.requires.member in
+    let at : member ≡ get_or members c.args.index member = sym (get_or_from_slice_get members c.args.index member member c.requires.member) in
+    let more : c.note.new.self ≡ sources_of (take (c.args.index + 1) members) =
+    c.in_ok-note.ensures.noted ∙ ap (λ (sources : Sources). with_member sources member) c.requires.noted ∙ sym (sources_more members c.args.index member within at) in
+    subst (λ (sources : Sources). OnOk c.check_size.result (c.note.new.self ≡ sources)) more (search rules)

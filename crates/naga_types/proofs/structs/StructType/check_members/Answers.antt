@@ -1,18 +1,17 @@
-use Rattle.std.proofs.Common.{rules, ◌≡◌, ◌<◌, ◌∙◌, ap, get_or, length, subst, sym, arith}
-use Rattle.std.specs.Prelude.{Err, Ok}
+use Rattle.std.proofs.Common.{rules, ◌≡◌, ◌<◌, ap, get_or, length, subst, sym, arith}
+use Rattle.std.specs.Prelude.{Err}
 use Rattle.naga_ir_types.specs.declared.types.StructMember.{StructMember}
-use Rattle.naga_types.specs.Answers.{Answers}
+use Rattle.naga_types.specs.RuleResults.{IsRuleResult}
 use Rattle.naga_types.specs.Judging.{first, judged}
 use Rattle.naga_types.specs.StructRule as rule
-use Rattle.naga_types.specs.StructRule.{around, sources_of}
-use Rattle.naga_types.specs.declared.structs.Sources.{Sources}
-use Rattle.naga_types.proofs.Firsts.{passed, refused}
-use Rattle.naga_types.proofs.Members.{answers_first, not_refused, sources_more}
+use Rattle.naga_types.specs.steps.Structs.{sources_of, surroundings_of}
+use Rattle.naga_types.proofs.FirstLemmas.{passed, refused}
+use Rattle.naga_types.proofs.JudgingLemmas.{not_refused, result_first}
 use Rattle.naga_types.proofs.structs.StructType.check_members.Goals as goal
 
 pub returns-in_err-check_member : goal.returns-in_err-check_member
 returns-in_err-check_member c =
-    let s = around c.args.self.now in
+    let s = surroundings_of c.args.self.now in
     let members = c.args.self.now.members.now in
     let refusal = rule.member_refusal s members c.args.self.now.span in
     let error = c.in_err-check_member.field-0.0 in
@@ -20,24 +19,20 @@ returns-in_err-check_member c =
     let at : member ≡ get_or members c.loop-index.index member = ap (λ (m : StructMember). get_or members c.loop-index.index m) c.index-self-index.is in
     let within : c.loop-index.index < length members = omega (arith, c.loop-index-test.true, c.loop-index.auto.index-end) in
     let is : c.from_residual.result ≡ Err error = search rules in
-    let here = subst (λ (taken : Sources). Answers (judged (rule.member_conditions s members c.args.self.now.span taken (c.loop-index.index, member)) tt) (Err error)) c.loop-index.invariant.noted c.in_err-check_member.ensures.judged in
-    subst (Answers (judged (rule.member_refusals s members c.args.self.now.span) (sources_of members))) (sym is)
-    (answers_first (refusal (c.loop-index.index, member)) (first (rule.member_refusals s members c.args.self.now.span)) tt (sources_of members) error
+    subst (IsRuleResult (judged (rule.member_refusals s members c.args.self.now.span) (sources_of members))) (sym is)
+    (result_first (refusal (c.loop-index.index, member)) (first (rule.member_refusals s members c.args.self.now.span)) tt (sources_of members) error
     (λ e some. refused refusal members c.loop-index.index member within at c.loop-index.invariant.left e some)
-    here)
+    c.in_err-check_member.ensures.judged)
 
 pub loop-index-preserved : goal.loop-index-preserved
 loop-index-preserved c =
-    let s = around c.args.self.now in
+    let s = surroundings_of c.args.self.now in
     let members = c.args.self.now.members.now in
     let refusal = rule.member_refusal s members c.args.self.now.span in
     let member : StructMember = get_or members c.loop-index.index c.index-self-index.result in
     let at : member ≡ get_or members c.loop-index.index member = ap (λ (m : StructMember). get_or members c.loop-index.index m) c.index-self-index.is in
     let within : c.loop-index.index < length members = omega (arith, c.loop-index-test.true, c.loop-index.auto.index-end) in
-    let here = subst (λ (taken : Sources). Answers (judged (rule.member_conditions s members c.args.self.now.span taken (c.loop-index.index, member)) tt) (Ok tt)) c.loop-index.invariant.noted c.in_ok-check_member.ensures.judged in
     record {
-      left = passed refusal members c.loop-index.index member within at c.loop-index.invariant.left (not_refused _ _ _ here);
-      noted = c.in_ok-check_member.ensures.noted
-          ∙ ap (λ (taken : Sources). rule.with_member taken member) c.loop-index.invariant.noted
-          ∙ sym (sources_more members c.loop-index.index member within at);
+      left = passed refusal members c.loop-index.index member within at c.loop-index.invariant.left (not_refused _ _ _ c.in_ok-check_member.ensures.judged);
+      noted = c.in_ok-check_member.ensures.noted;
     }

@@ -1,6 +1,6 @@
 use Rattle.std.proofs.Common.{◌∙◌, ap, sym}
 use Rattle.naga_types.specs.declared.structs.Sources.{Sources}
-use Rattle.naga_types.proofs.Members.{source_before}
+use Rattle.naga_types.proofs.SourceLemmas.{source_before}
 use Rattle.naga_types.proofs.structs.StructType.check_sources.Goals as goal
 
 pub check_pair-requires-clause-first : goal.check_pair-requires-clause-first

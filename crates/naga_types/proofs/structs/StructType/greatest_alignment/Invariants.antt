@@ -1,13 +1,12 @@
-use Rattle.std.proofs.Common.{◌≡◌, map, drop, max}
-use Rattle.std.specs.Prelude.{fold}
+use Rattle.std.proofs.Common.{◌≡◌, map, take}
+use Rattle.std.specs.Result.{result_unwrap_or}
 use Rattle.naga_ir_types.specs.declared.types.StructMember.{StructMember}
-use Rattle.naga_types.specs.Layouts as layouts
-use Rattle.naga_types.specs.StructRule.{around}
 use Rattle.naga_types.specs.Surroundings.{info_at}
+use Rattle.naga_types.specs.steps.Structs.{layout_in, surroundings_of}
+use Rattle.naga_typing.specs.Layout.{greatest}
 use Rattle.naga_types.proofs.structs.StructType.greatest_alignment.Given as goal
 
--- beside the members that are left, the greatest so far is the greatest of all
+-- the greatest so far is that of the members so far
 abbrev pub invariant-loop-member : goal.invariant-loop-member
 invariant-loop-member l =
-    fold max l.greatest (map (λ (m : StructMember). layouts.alignment_or_one (layouts.layout_in l.space (info_at (around l.self) m.ty))) (drop l.member-index l.self.members.now))
-    ≡ layouts.greatest_alignment (around l.self) l.space l.self.members.now
+    l.greatest ≡ greatest (map (λ (m : StructMember). result_unwrap_or (layout_in l.space (info_at (surroundings_of l.self) m.ty)) 1) (take l.member-index l.self.members.now))

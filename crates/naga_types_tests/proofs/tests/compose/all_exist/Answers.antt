@@ -2,7 +2,7 @@ use Rattle.std.proofs.Common.{◌<◌, ◌≤◌, length, refl, rules}
 use Rattle.std.proofs.lemmas.Option.{slice_get_read}
 use Rattle.naga_types_tests.proofs.HoldsBefore.{all_hold, one_holds}
 use Rattle.naga_types_tests.proofs.tests.compose.all_exist.Goals as goal
-use Rattle.naga_typing.specs.Resolutions.{ResolutionExists}
+use Rattle.naga_typing.specs.Resolutions.{TypesExist}
 
 pub loop-index-preserved : goal.loop-index-preserved
 loop-index-preserved c =
@@ -10,9 +10,9 @@ loop-index-preserved c =
     let i = c.loop-index.index in
     let read = c.index-resolutions-index in
     let within : i < length rs = search rules in
-    one_holds (ResolutionExists c.args.types.now) rs i read.result (slice_get_read rs (length rs) i read.result refl within read.is) (c.exists.ensures c.if-not-exists.false) c.loop-index.invariant
+    one_holds (TypesExist c.args.types.now) rs i read.result (slice_get_read rs (length rs) i read.result refl within read.is) (c.exists.ensures c.if-not-exists.false) c.loop-index.invariant
 
 pub returns : goal.returns
 returns c =
     let past : length c.args.resolutions.now ≤ c.loop-index.index = search rules in
-    λ yes. all_hold (ResolutionExists c.args.types.now) c.args.resolutions.now c.loop-index.index past c.loop-index.invariant
+    λ yes. all_hold (TypesExist c.args.types.now) c.args.resolutions.now c.loop-index.index past c.loop-index.invariant

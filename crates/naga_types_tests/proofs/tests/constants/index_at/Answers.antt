@@ -1,10 +1,10 @@
 use Rattle.std.proofs.Common.{sym, subst}
 use Rattle.naga_ir.specs.ItemReferences.{GlobalLists, global_lists}
-use Rattle.naga_typing.specs.Constants.{NamedAreThere}
-use Rattle.naga_typing.proofs.Named.{named_are_there}
+use Rattle.naga_typing.specs.Constants.{NamedItemsExist}
+use Rattle.naga_typing.proofs.Existence.{named_items_exist}
 use Rattle.naga_types_tests.proofs.tests.constants.index_at.Goals as goal
 
 pub get_const_val_from-requires-clause-named : goal.get_const_val_from-requires-clause-named
 get_const_val_from-requires-clause-named g c =
     let m = c.args.module.now in
-    subst (λ (l : GlobalLists). NamedAreThere l m.global_expressions) (sym c.to_ctx.ensures.lists) (named_are_there (global_lists m) c.assert_references_ok.ensures)
+    subst (λ (l : GlobalLists). NamedItemsExist l m.global_expressions) (sym c.to_ctx.ensures.lists) (named_items_exist (global_lists m) c.assert_references_ok.ensures)

@@ -1,7 +1,7 @@
 use Rattle.std.proofs.Common.{◌≡◌, ◌∙◌, List, Ok, ap, sym, subst}
 use Rattle.naga_typing.specs.Typings.{CanResolve}
 use Rattle.naga_typing.specs.declared.typifier.TypeResolution.{TypeResolution}
-use Rattle.naga_typing.proofs.Resolving.{can_resolve_next, none_resolved, one_resolved}
+use Rattle.naga_typing.proofs.ExpressionTypes.{can_resolve_next, none_resolved, one_resolved}
 use Rattle.naga_types_tests.proofs.tests.typings.resolve_all.Goals as goal
 
 pub loop-expression-init : goal.loop-expression-init

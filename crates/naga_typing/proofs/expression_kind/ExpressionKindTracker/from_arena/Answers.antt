@@ -1,11 +1,11 @@
 use Rattle.std.proofs.Common.{rules, ◌≡◌, ◌++◌, ◌∷◌, [], refl, ◌∙◌}
 use Rattle.naga_typing.specs.Kinds.{kind_of}
-use Rattle.naga_typing.proofs.LatestKinds.{accepts, kinds_look_back, next_operands}
-use Rattle.naga_typing.proofs.Working.{all_have_values, further, started}
+use Rattle.naga_typing.proofs.ExpressionKinds.{next_operands}
+use Rattle.naga_typing.proofs.Iteration.{accepts_all, all_values, one_more_value, start}
 use Rattle.naga_typing.proofs.expression_kind.ExpressionKindTracker.from_arena.Goals as goal
 
 pub loop-expression-init : goal.loop-expression-init
-loop-expression-init c = started kind_of accepts c.args.arena.now _ _ c.new.ensures.items (c.into_iter-expression-iterator.ensures.into_iter_gives ∙ c.iter-expression-items.ensures)
+loop-expression-init c = start kind_of accepts_all c.args.arena.now _ _ c.new.ensures (c.into_iter-expression-iterator.ensures.into_iter_gives ∙ c.iter-expression-items.ensures)
 
 pub kind_of-kind-requires : goal.kind_of-kind-requires
 kind_of-kind-requires c = next_operands c.args.arena.now c.requires _ _ _ _ _ c.loop-expression.invariant c.in-Some.ensures.steps
@@ -13,7 +13,7 @@ kind_of-kind-requires c = next_operands c.args.arena.now c.requires _ _ _ _ _ c.
 pub loop-expression-preserved : goal.loop-expression-preserved
 loop-expression-preserved c =
     let now : c.push.new.self.items ≡ c.loop-expression.tracker ++ kind_of c.loop-expression.tracker c.in-Some.expression.now ∷ [] = search rules in
-    further kind_of accepts c.args.arena.now _ _ _ _ _ c.loop-expression.invariant c.in-Some.ensures.steps (kinds_look_back c.args.arena.now c.requires) _ refl now
+    one_more_value kind_of accepts_all c.args.arena.now _ _ _ _ _ _ c.loop-expression.invariant c.in-Some.ensures.steps refl now
 
 pub returns-clause-kinds : goal.returns-clause-kinds
-returns-clause-kinds c = all_have_values kind_of accepts c.args.arena.now _ _ c.loop-expression.invariant c.in-None.ensures.steps.0
+returns-clause-kinds c = all_values kind_of accepts_all c.args.arena.now _ _ c.loop-expression.invariant c.in-None.ensures.steps.0

@@ -1,5 +1,5 @@
 use Rattle.naga_ir.specs.References.{operands}
-use Rattle.naga_typing.proofs.LatestKinds.{Seen}
+use Rattle.naga_typing.proofs.ExpressionKinds.{Seen}
 use Rattle.naga_typing.proofs.expression_kind.ExpressionKindTracker.latest.Given as goal
 
 -- the kind is the latest of the operands so far

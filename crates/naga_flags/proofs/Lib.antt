@@ -1,0 +1,2 @@
+pub mod HasLemmas
+mod WorkedBits

@@ -1,0 +1,127 @@
+-- What follows when all items were visited, and what a fault contradicts.
+use Rattle.std.proofs.Common.{◌≡◌, ◌<◌, ◌≤◌, ◌⊎◌, inl, inr, ℕ, zero, suc, List, [], ◌∷◌, ◌++◌, Option, Some, All, Contains, length, map, slice_get, refl, sym, ap, subst, ◌∙◌, arith, option_to_list}
+use Rattle.std.specs.List.{flat_map}
+use Rattle.std.proofs.lemmas.Bool.{cases_lt}
+use Rattle.std.proofs.lemmas.List.Elements.{All-append, All-contains, Contains-append_left, Contains-append_right}
+use Rattle.std.proofs.lemmas.Option.{slice_get_within}
+use Rattle.naga_handles.proofs.ReferenceLists.{all_in, all_named, all_of_option, all_within}
+use Rattle.naga_ir.proofs.ReferredTo.{item_in, only, type_in, within_all}
+use Rattle.naga_ir.specs.Handles.{Exists, OrderedReference, constant, initialiser_of, module_counts, operand, override, part, place_of, size_initialiser, size_type}
+use Rattle.naga_ir.specs.ItemReferences.{expression_references, global_lists, type_references}
+use Rattle.naga_ir.specs.References.{named_item, named_type, operands}
+use Rattle.naga_ir.specs.declared.expression.Expression.{Expression}
+use Rattle.naga_ir.specs.declared.expression.Expression.TheVariants as form
+use Rattle.naga_ir.specs.declared.ir.Module.{Module}
+use Rattle.naga_ir.specs.declared.reference.Reference.{Reference}
+use Rattle.naga_ir.specs.declared.reference.Reference.TheVariants as to
+use Rattle.naga_ir_types.specs.Parts.{parts, size_override}
+use Rattle.naga_ir_types.specs.declared.types.«Type».{«Type»}
+use Rattle.naga_handles.specs.Faults.{IsOrderFault, VisitedReference, initialiser, item, not_back, not_gated, not_visited, size, type_}
+use Rattle.naga_handles.specs.Order.{CanBeOrdered}
+use Rattle.naga_handles.specs.steps.VisitState.{AllBefore, ExpressionOk, NamesBefore, Reached, Seen, TypeOk, constant_value, named_initialiser}
+use Rattle.naga_handles.specs.declared.error.InvalidHandleError.{InvalidHandleError}
+use Rattle.naga_handles.proofs.OrderFaults.{size_within}
+use Rattle.naga_handles.proofs.VisitLemmas.{seen_names, seen_stands}
+
+before_of : (place : ℕ) (others : List ℕ) (p : ℕ) → AllBefore place others → Contains others p → p < place
+unfolding AllBefore
+before_of place others p all h = all p h
+
+names_of : (t u : ℕ) (x : Expression) → NamesBefore t x → named_type x ≡ Some u → u < t
+unfolding NamesBefore
+names_of t u x all h = all u h
+
+module _ (m : Module) (types : (t : ℕ) (x : «Type») → slice_get m.types t ≡ Some x → TypeOk m t x.inner)
+    (expressions : (e : ℕ) (x : Expression) → slice_get m.global_expressions e ≡ Some x → ExpressionOk m e x)
+    (names : (e : ℕ) (x : Expression) → slice_get m.global_expressions e ≡ Some x → NamesBefore (length m.types) x) where
+  abbrev There : Reference → Type 0
+  There = Exists (module_counts m)
+
+  of_type : (t : ℕ) (x : «Type») → slice_get m.types t ≡ Some x → All There (type_references x.inner)
+  of_type t x at =
+      let stands = types t x at in
+      let there = slice_get_within m.types t x at in
+      All-append There (map to.Type_ (parts x.inner)) (map to.Override (option_to_list (size_override x.inner)))
+      (all_in There to.Type_ (parts x.inner) (λ p h. let before = before_of t (parts x.inner) p stands.parts_before h in omega (arith, before, there)))
+      (all_named There to.Override (size_override x.inner) (λ o h. stands.size.exists o h))
+
+  of_expression : (e : ℕ) (x : Expression) → slice_get m.global_expressions e ≡ Some x → All There (expression_references x)
+  of_expression e x at =
+      let stands = expressions e x at in
+      let there = slice_get_within m.global_expressions e x at in
+      All-append There (map to.Expression (operands x)) (map to.Type_ (option_to_list (named_type x)) ++ option_to_list (named_item x))
+      (all_in There to.Expression (operands x) (λ o h. let before = before_of e (operands x) o stands.operands_before h in omega (arith, before, there)))
+      (All-append There (map to.Type_ (option_to_list (named_type x))) (option_to_list (named_item x))
+      (all_named There to.Type_ (named_type x) (λ u h. names_of (length m.types) u x (names e x at) h))
+      (all_of_option There (named_item x) stands.item.exists))
+
+  begins : (e n : ℕ) (x : Expression) → slice_get m.global_expressions e ≡ Some x → named_initialiser (global_lists m) x ≡ Some n → n < e
+  begins e n x at h = (expressions e x at).item.before n h
+
+  back : (s t : Reference) → OrderedReference (global_lists m) s t → place_of t < place_of s
+  unfolding named_initialiser
+  back _ _ (part t u x at h) = before_of t (parts x.inner) u (types t x at).parts_before h
+  back _ _ (size_type t o x v at sized stands) = (types t x at).size.type_before o v sized stands
+  back _ _ (operand e o x at h) = before_of e (operands x) o (expressions e x at).operands_before h
+  back _ _ (constant e c d at stands) = begins e d.init (form.Constant c) at (ap constant_value stands)
+  back _ _ (override e o n v at stands h) = begins e n (form.Override o) at (ap initialiser_of stands ∙ h)
+
+  all_right : ((t n e : ℕ) (x : Expression) → t < length m.types → size_initialiser (global_lists m) t ≡ Some n → e ≤ n → slice_get m.global_expressions e ≡ Some x → NamesBefore t x) → ((t : ℕ) → t < length m.types → (x : «Type») × (slice_get m.types t ≡ Some x)) → CanBeOrdered m
+  all_right gates there = record {
+    exist =
+        All-append There (flat_map (λ (t : «Type»). type_references t.inner) m.types) (flat_map expression_references m.global_expressions)
+        (all_within There (λ (t : «Type»). type_references t.inner) m.types of_type)
+        (all_within There expression_references m.global_expressions of_expression);
+    initialisers = λ t n h. let x = there t (size_within (global_lists m) t n h) in (types t x.0 x.1).size.initialiser_exists n h;
+    back = back;
+    gates = λ t n e u h l named. names_of t u named.0 (gates t n e named.0 (size_within (global_lists m) t n h) h l named.1) named.2;
+  }
+
+at_place : {X : Type 0} (xs : List X) (k : ℕ) → k < length xs → (x : X) × (slice_get xs k ≡ Some x)
+at_place [] k h = absurd (omega (arith, h))
+at_place (x ∷ xs) zero h = (x, refl)
+at_place (x ∷ xs) (suc k) h = at_place xs k (omega (arith, h))
+
+-- if all were visited, all can be ordered
+pub can_be_ordered : (m : Module) (c looks : ℕ) → Reached m (length m.types) c looks → ((e : ℕ) → c ≤ e → e < length m.global_expressions → Seen m (length m.types) e) → CanBeOrdered m
+can_be_ordered m c looks r rest =
+    all_right m (λ t x at. r.types t x (slice_get_within m.types t x at) at) (λ e x at. seen_stands m (length m.types) e x (seen e x at) at) (λ e x at. seen_names m (length m.types) e x (seen e x at) at)
+    (λ t n e x within h l at. r.gates t n e x within h l at) (at_place m.types)
+  where
+    by_place : (e : ℕ) → e < length m.global_expressions → (e < c) ⊎ (c ≤ e) → Seen m (length m.types) e
+    by_place e there (inl l) = r.seen e l
+    by_place e there (inr l) = rest e l there
+
+    seen : (e : ℕ) (x : Expression) → slice_get m.global_expressions e ≡ Some x → Seen m (length m.types) e
+    seen e x at = by_place e (slice_get_within m.global_expressions e x at) (cases_lt e c)
+
+module _ (m : Module) (a : CanBeOrdered m) where
+  abbrev of_types : List Reference
+  of_types = flat_map (λ (t : «Type»). type_references t.inner) m.types
+
+  -- what types and global expressions refer to exists
+  is_there : (r : Reference) → Contains (of_types ++ flat_map expression_references m.global_expressions) r → Exists (module_counts m) r
+  is_there r h = All-contains (Exists (module_counts m)) _ r a.exist h
+
+  expression_there : (e : ℕ) (x : Expression) (r : Reference) → slice_get m.global_expressions e ≡ Some x → Contains (expression_references x) r → Exists (module_counts m) r
+  expression_there e x r at h = is_there r (Contains-append_right of_types _ r (within_all expression_references m.global_expressions e x r at h))
+
+  -- the type that a global expression names exists
+  pub named_there : (e u : ℕ) (x : Expression) → slice_get m.global_expressions e ≡ Some x → named_type x ≡ Some u → u < length m.types
+  named_there e u x at h = expression_there e x (to.Type_ u) at (type_in x u h)
+
+  visited_there : (r : Reference) → VisitedReference m r → Exists (module_counts m) r
+  visited_there _ (size t o x at sized) =
+      let among : Contains (map to.Override (option_to_list (size_override x.inner))) (to.Override o) =
+      subst (λ (s : Option ℕ). Contains (map to.Override (option_to_list s)) (to.Override o)) (sym sized) (only (to.Override o)) in
+      is_there _ (Contains-append_left of_types _ _ (within_all (λ (t : «Type»). type_references t.inner) m.types t x (to.Override o) at
+      (Contains-append_right (map to.Type_ (parts x.inner)) _ (to.Override o) among)))
+  visited_there _ (initialiser t n h) = a.initialisers t n h
+  visited_there _ (item e x r at named) = expression_there e x r at (item_in x r named)
+  visited_there _ (type_ e u names ungated) = named_there e u names.0 names.1 names.2
+
+  -- if there is a fault, types and global expressions can't be ordered
+  pub fault_breaks : (e : InvalidHandleError) → IsOrderFault m e → ⊥
+  fault_breaks _ (not_back s t pair late) = let back = a.back s t pair in absurd (omega (arith, back, late))
+  fault_breaks _ (not_gated t n e u begins l names late) = let gated = a.gates t n e u begins l names in absurd (omega (arith, gated, late))
+  fault_breaks _ (not_visited r visited absent) = absent (visited_there r visited)

@@ -1,0 +1,5 @@
+-- What private functions alone promise one another.
+pub mod Checks
+pub mod ItemChecks
+pub mod OtherItems
+pub mod VisitState

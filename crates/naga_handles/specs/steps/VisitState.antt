@@ -1,0 +1,103 @@
+-- What is known while types and global expressions are visited.
+use Rattle.std.specs.Prelude.{◌≡◌, ◌⊎◌, ℕ, ◌+◌, ◌<◌, ◌≤◌, max, List, Option, Some, None, Contains, length, slice_get}
+use Rattle.naga_ir.specs.Handles.{Exists, initialiser_of, module_counts, size_initialiser}
+use Rattle.naga_ir.specs.ItemReferences.{GlobalLists, global_lists}
+use Rattle.naga_ir.specs.Ranks.{gate, rank_of_expression, rank_of_type, top_before}
+use Rattle.naga_ir.specs.References.{named_item, named_type, operands}
+use Rattle.naga_ir.specs.declared.expression.Expression.{Expression}
+use Rattle.naga_ir.specs.declared.expression.Expression.TheVariants as form
+use Rattle.naga_ir.specs.declared.ir.Constant.{Constant}
+use Rattle.naga_ir.specs.declared.ir.Override.{Override}
+use Rattle.naga_ir.specs.declared.ir.Module.{Module}
+use Rattle.naga_ir.specs.declared.reference.Reference.{Reference}
+use Rattle.naga_ir_types.specs.Parts.{parts, size_override}
+use Rattle.naga_ir_types.specs.declared.types.TypeInner.{TypeInner}
+use Rattle.naga_ir_types.specs.declared.types.«Type».{«Type»}
+use Rattle.naga_handles.specs.Faults.{forward}
+use Rattle.naga_handles.specs.Order.{NamesOrderFault, rank_of, reference_to}
+use Rattle.naga_handles.specs.declared.error.InvalidHandleError.{InvalidHandleError}
+use Rattle.naga_handles.specs.declared.error.ValidationFault.{ValidationFault}
+use Rattle.naga_handles.specs.declared.error.ValidationFault.TheVariants.{OutOfMemory}
+use Rattle.naga_handles.specs.declared.order.Item.{Item}
+use Rattle.naga_handles.specs.declared.order.Item.TheVariants as item
+
+-- all these indices are less than this one
+unfoldable pub AllBefore : ℕ → List ℕ → Type 0
+AllBefore place others = (p : ℕ) → Contains others p → p < place
+
+-- one of these indices isn't less than this one, and the error says so
+abbrev pub NamesLate : (ℕ → Reference) → ℕ → List ℕ → InvalidHandleError → Type 0
+NamesLate at place others error = (p : ℕ) × Contains others p × (place ≤ p) × (error ≡ forward (at place) (at p))
+
+-- the initialiser of a constant, if there is one
+abbrev pub constant_value : Option Constant → Option ℕ
+constant_value None = None
+constant_value (Some c) = Some c.init
+
+-- the initialiser of the constant or override that an expression names
+unfoldable pub named_initialiser : GlobalLists → Expression → Option ℕ
+named_initialiser g (form.Constant c) = constant_value (slice_get g.constants c)
+named_initialiser g (form.Override o) = initialiser_of (slice_get g.overrides o)
+named_initialiser g _ = None
+
+-- the override that sizes the type x at t exists, so does its initialiser, and its type precedes t
+pub record SizeOk (m : Module) (t : ℕ) (x : TypeInner) : Type 0 where
+  pub exists : (o : ℕ) → size_override x ≡ Some o → o < length m.overrides
+  pub type_before : (o : ℕ) (v : Override) → size_override x ≡ Some o → slice_get m.overrides o ≡ Some v → v.ty < t
+  pub initialiser_exists : (n : ℕ) → size_initialiser (global_lists m) t ≡ Some n → n < length m.global_expressions
+
+-- the references of the type x at t are right
+pub record TypeOk (m : Module) (t : ℕ) (x : TypeInner) : Type 0 where
+  pub parts_before : AllBefore t (parts x)
+  pub size : SizeOk m t x
+
+-- the item that the expression x at e names exists, and its initialiser precedes e
+pub record ItemOk (m : Module) (e : ℕ) (x : Expression) : Type 0 where
+  pub exists : (r : Reference) → named_item x ≡ Some r → Exists (module_counts m) r
+  pub before : (n : ℕ) → named_initialiser (global_lists m) x ≡ Some n → n < e
+
+-- the references of the expression x at e are right, its type aside
+pub record ExpressionOk (m : Module) (e : ℕ) (x : Expression) : Type 0 where
+  pub operands_before : AllBefore e (operands x)
+  pub item : ItemOk m e x
+
+-- the type that an expression names precedes t
+unfoldable pub NamesBefore : ℕ → Expression → Type 0
+NamesBefore t x = (u : ℕ) → named_type x ≡ Some u → u < t
+
+-- the references of the expression at e are right, and its type precedes t
+unfoldable pub Seen : Module → ℕ → ℕ → Type 0
+Seen m t e = (x : Expression) → slice_get m.global_expressions e ≡ Some x → ExpressionOk m e x × NamesBefore t x
+
+-- the expressions from one index to another were visited for the type t, which the initialiser `last` sizes
+pub record SeenUpTo (m : Module) (t from to last : ℕ) : Type 0 where
+  pub inside : to ≤ length m.global_expressions
+  pub grows : from ≤ to
+  pub each : (e : ℕ) → from ≤ e → e < to → Seen m t e
+  pub reach : last < to
+  pub tight : to ≤ max from (last + 1)
+
+-- the types before t and the expressions before c were visited, each once
+pub record Reached (m : Module) (t c looks : ℕ) : Type 0 where
+  pub inside : c ≤ length m.global_expressions
+  pub few : c ≤ 4294967295
+  pub top : top_before (global_lists m) t ≡ c
+  pub looked : looks ≡ t + c
+  pub seen : (e : ℕ) → e < c → Seen m t e
+  pub types : (k : ℕ) (x : «Type») → k < t → slice_get m.types k ≡ Some x → TypeOk m k x.inner
+  pub gates : (k n e : ℕ) (x : Expression) → k < t → size_initialiser (global_lists m) k ≡ Some n → e ≤ n → slice_get m.global_expressions e ≡ Some x → NamesBefore k x
+
+-- the order as far as the types before t and the expressions before c
+pub record Placed (g : GlobalLists) (order : List Item) (t c : ℕ) : Type 0 where
+  pub ranked : (k : ℕ) (i : Item) → slice_get order k ≡ Some i → rank_of g (reference_to i) ≡ k
+  pub types : (k : ℕ) → k < t → slice_get order (rank_of_type g k) ≡ Some (item.Type_ k)
+  pub expressions : (e : ℕ) → e < c → slice_get order (rank_of_expression g e) ≡ Some (item.Expression e)
+  pub long : length order ≡ t + c
+
+-- if the order was right as far as the expressions before `from`, and those up to `to` precede the next type, then it is right as far as those before `to`
+abbrev pub PlacesUpTo : List Item → List Item → ℕ → ℕ → Type 0
+PlacesUpTo old new from to = (g : GlobalLists) (t : ℕ) → Placed g old t from → ((e : ℕ) → from ≤ e → e < to → gate g e ≡ t) → Placed g new t to
+
+-- memory was refused, or the fault is one of a type or global expression
+abbrev pub IsNoOrder : Module → ValidationFault → Type 0
+IsNoOrder m fault = (fault ≡ OutOfMemory) ⊎ NamesOrderFault m fault

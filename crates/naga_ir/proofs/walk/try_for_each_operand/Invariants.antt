@@ -1,9 +1,0 @@
-use Rattle.std.proofs.Common.{take, map}
-use Rattle.std.specs.Prelude.{Ok}
-use Rattle.naga_ir.specs.Statements.{joined}
-use Rattle.naga_ir.specs.Walks.{ChecksEach}
-use Rattle.naga_ir.proofs.StatementLemmas.{named_if}
-use Rattle.naga_ir.proofs.walk.try_for_each_operand.Given as goal
-
-abbrev pub invariant-loop-operand : goal.invariant-loop-operand
-invariant-loop-operand g l = ChecksEach (goal.F-post g l.check) (joined (map named_if (take l.operand-index l.operands))) (Ok tt)

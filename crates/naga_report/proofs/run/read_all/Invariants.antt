@@ -1,0 +1,13 @@
+use Rattle.std.proofs.Common.{◌≡◌, ◌-◌, ◌^◌, vec_len}
+use Rattle.std.specs.Io.KnownBytes.{Consumes}
+use Rattle.naga_report.proofs.run.read_all.Given as goal
+
+-- the input so far is what the reader gave
+abbrev pub invariant-reads : goal.invariant-reads
+invariant-reads g l = record {
+  taken : Consumes (g.R.Read.remaining l.fn.reader.inner) (g.R.Read.remaining l.reader.inner) l.input.items;
+  none_failed : l.reader.failed ≡ l.fn.reader.failed;
+}
+
+abbrev pub decreases-reads : goal.decreases-reads
+decreases-reads g l = 2 ^ 64 - vec_len l.input

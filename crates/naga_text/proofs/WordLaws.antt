@@ -1,0 +1,142 @@
+-- The reader of a word returns the one value with that word.
+use Rattle.std.proofs.Common.{◌≡◌, ◌==◌, ℕ, ◌<◌, zero, suc, true, false, List, [], ◌∷◌, Option, None, Some, refl, sym, ap, ◌∙◌, subst, codes, bytes_eq, inl, inr, arith, length, nat_lt, nat_le, ◌&&◌}
+use Rattle.std.proofs.lemmas.Bool.{and_parts, cases_Bool, ne_eqb, true≢false}
+use Rattle.std.proofs.lemmas.Option.{option_and_then_some, same_Some}
+use Rattle.std.proofs.lemmas.Slice.Eq.{bytes_eq-Decides}
+use Rattle.std.specs.Char.{is_ascii_digit}
+use Rattle.std.specs.Int.NonZero.{non_zero_u32_get}
+use Rattle.std.specs.Option.{MatchOption}
+use Rattle.std.specs.Str.{all_ascii_digits}
+use Rattle.std.specs.declared.num.NonZeroU32.{NonZeroU32}
+use borrow.Author.Tests.{eqb-true}
+use Rattle.naga_arena.specs.Numbers.{largest_u32}
+use Rattle.naga_ir_types.proofs.SameInner.{non_zero_same}
+use Rattle.naga_ir_types.specs.Sizes.{components, cooperative_components}
+use Rattle.naga_ir_types.specs.declared.types.ArraySize.{ArraySize}
+use Rattle.naga_ir_types.specs.declared.types.ArraySize.TheVariants.{Constant, Pending, Dynamic}
+use Rattle.naga_ir_types.specs.declared.types.CooperativeSize.{CooperativeSize}
+use Rattle.naga_ir_types.specs.declared.types.CooperativeSize.TheVariants.{Eight, Sixteen}
+use Rattle.naga_ir_types.specs.declared.types.VectorSize.{VectorSize}
+use Rattle.naga_ir_types.specs.declared.types.VectorSize.TheVariants.{Bi, Tri, Quad}
+use Rattle.naga_text.specs.Words.{handle_of, number_of, number_up_to, value_after}
+use Rattle.naga_text.specs.Forms.{array_size_part, pointed_components}
+use Rattle.naga_text.specs.steps.WordForms.{◌>>=◌, array_size_of, bounded_size_of, cooperative_size_at, cooperative_size_of, count_at, count_of, pointed_size_at, pointed_size_of, size_at, size_of}
+use Rattle.naga_text.proofs.TableLaws.{by_number, by_test, passed_by}
+
+-- a size has its own number alone, and each size's number is that of it
+size_at_found : (n : ℕ) (size : VectorSize) → size_at n ≡ Some size → n ≡ components size
+size_at_found n size h =
+    let P = λ (size : VectorSize). n ≡ components size in
+    by_number P (n == 2) _ _ size h (eqb-true n 2) (λ h.
+    by_number P (n == 3) _ _ size h (eqb-true n 3) (λ h.
+    by_number P (n == 4) _ _ size h (eqb-true n 4) (λ h. cc)))
+
+size_at_again : (size : VectorSize) → size_at (components size) ≡ Some size
+size_at_again Bi = refl
+size_at_again Tri = refl
+size_at_again Quad = refl
+
+-- a size is read of a word that writes its number, and of each such word
+pub size_found : (w : List ℕ) (size : VectorSize) → size_of w ≡ Some size → number_up_to 4 w ≡ Some (components size)
+size_found w size h = option_and_then_some size_at (number_up_to 4 w) size h λ n e h. e ∙ ap Some (size_at_found n size h)
+
+pub size_again : (w : List ℕ) (size : VectorSize) → number_up_to 4 w ≡ Some (components size) → size_of w ≡ Some size
+size_again w size h = ap (λ n. n >>= size_at) h ∙ size_at_again size
+
+-- and so is the size of a value pointer
+pointed_size_at_found : (n : ℕ) (size : Option VectorSize) → pointed_size_at n ≡ Some size → n ≡ pointed_components size
+pointed_size_at_found n size h =
+    by_number (λ (size : Option VectorSize). n ≡ pointed_components size) (n == 0) _ _ size h (eqb-true n 0) (λ h.
+    option_and_then_some _ (size_at n) size h λ s e h. size_at_found n s e ∙ ap pointed_components (same_Some (Some s) size h))
+
+pointed_size_at_again : (size : Option VectorSize) → pointed_size_at (pointed_components size) ≡ Some size
+pointed_size_at_again None = refl
+pointed_size_at_again (Some Bi) = refl
+pointed_size_at_again (Some Tri) = refl
+pointed_size_at_again (Some Quad) = refl
+
+pub pointed_size_found : (w : List ℕ) (size : Option VectorSize) → pointed_size_of w ≡ Some size → number_up_to 4 w ≡ Some (pointed_components size)
+pointed_size_found w size h = option_and_then_some pointed_size_at (number_up_to 4 w) size h λ n e h. e ∙ ap Some (pointed_size_at_found n size h)
+
+pub pointed_size_again : (w : List ℕ) (size : Option VectorSize) → number_up_to 4 w ≡ Some (pointed_components size) → pointed_size_of w ≡ Some size
+pointed_size_again w size h = ap (λ n. n >>= pointed_size_at) h ∙ pointed_size_at_again size
+
+-- and that of a cooperative matrix
+cooperative_size_at_found : (n : ℕ) (size : CooperativeSize) → cooperative_size_at n ≡ Some size → n ≡ cooperative_components size
+cooperative_size_at_found n size h =
+    let P = λ (size : CooperativeSize). n ≡ cooperative_components size in
+    by_number P (n == 8) _ _ size h (eqb-true n 8) (λ h.
+    by_number P (n == 16) _ _ size h (eqb-true n 16) (λ h. cc))
+
+cooperative_size_at_again : (size : CooperativeSize) → cooperative_size_at (cooperative_components size) ≡ Some size
+cooperative_size_at_again Eight = refl
+cooperative_size_at_again Sixteen = refl
+
+pub cooperative_size_found : (w : List ℕ) (size : CooperativeSize) → cooperative_size_of w ≡ Some size → number_up_to 16 w ≡ Some (cooperative_components size)
+cooperative_size_found w size h = option_and_then_some cooperative_size_at (number_up_to 16 w) size h λ n e h. e ∙ ap Some (cooperative_size_at_found n size h)
+
+pub cooperative_size_again : (w : List ℕ) (size : CooperativeSize) → number_up_to 16 w ≡ Some (cooperative_components size) → cooperative_size_of w ≡ Some size
+cooperative_size_again w size h = ap (λ n. n >>= cooperative_size_at) h ∙ cooperative_size_at_again size
+
+-- a count has its own number alone, and its number is that of it
+count_at_found : (n : ℕ) (count : NonZeroU32) → count_at n ≡ Some count → n ≡ non_zero_u32_get count
+count_at_found zero count h = cc
+count_at_found (suc n) count h = ap non_zero_u32_get (same_Some _ count h)
+
+count_at_again : (count : NonZeroU32) → count_at (non_zero_u32_get count) ≡ Some count
+count_at_again count = go count.value count.ok
+  where
+    go : (n : ℕ) (ok : 0 < n) → count_at n ≡ Some (record { value = n; ok = ok })
+    go zero ok = absurd (omega (arith, ok))
+    go (suc n) ok = ap Some (non_zero_same _ _ refl)
+
+-- a number that was tested to be no 0 is read as a count
+pub counted : (count : Option NonZeroU32) (n : ℕ) → MatchOption count (n ≡ 0) (λ c. non_zero_u32_get c ≡ n) → count ≡ count_at n
+counted None n h = sym (ap count_at h)
+counted (Some count) n h = sym (ap count_at (sym h) ∙ count_at_again count)
+
+-- a word that writes a number is digits
+digits_of : (most : ℕ) (w : List ℕ) (n : ℕ) → number_up_to most w ≡ Some n → all_ascii_digits w ≡ true
+digits_of most w n h =
+    by_test (nat_lt 0 (length w) && nat_le (length w) 20 && all_ascii_digits w && nat_le (value_after 0 w) most) (Some (value_after 0 w)) None n h
+    (λ e p.
+    let tests = and_parts (nat_lt 0 (length w) && nat_le (length w) 20 && all_ascii_digits w) (nat_le (value_after 0 w) most) e in
+    (and_parts (nat_lt 0 (length w) && nat_le (length w) 20) (all_ascii_digits w) tests.0).1)
+    (λ h. cc)
+
+-- a word that begins with this byte, which is no digit, writes no number
+no_digit : (most byte : ℕ) (cs : List ℕ) (n : ℕ) → is_ascii_digit byte ≡ false → number_up_to most (byte ∷ cs) ≡ Some n → ⊥
+no_digit most byte cs n none h = true≢false (sym (and_parts (is_ascii_digit byte) (all_ascii_digits cs) (digits_of most (byte ∷ cs) n h)).0 ∙ none)
+
+-- a size of an array is read of a word that writes it, and of each such word
+bounded_size_found : (w : List ℕ) (size : ArraySize) → bounded_size_of w ≡ Some size → array_size_part size w
+bounded_size_found [] size h = cc
+bounded_size_found (c ∷ cs) size h =
+    let P = λ (size : ArraySize). array_size_part size (c ∷ cs) in
+    by_test (c == 111) _ _ size h
+    (λ same h.
+    option_and_then_some _ (handle_of cs) size h λ handle e h.
+    subst P (same_Some (Pending handle) size h) (cs, ap (λ c. c ∷ cs) (eqb-true c 111 same), e))
+    (λ h.
+    option_and_then_some _ (count_of (c ∷ cs)) size h λ count e h.
+    option_and_then_some count_at (number_of (c ∷ cs)) count e λ n f e.
+    subst P (same_Some (Constant count) size h) (f ∙ ap Some (count_at_found n count e)))
+
+pub array_size_found : (w : List ℕ) (size : ArraySize) → array_size_of w ≡ Some size → array_size_part size w
+array_size_found w size h =
+    by_number (λ (size : ArraySize). array_size_part size w) (bytes_eq w (codes "dyn")) Dynamic (bounded_size_of w) size h (bytes_eq-Decides w (codes "dyn")).0 (bounded_size_found w size)
+
+count_again : (w : List ℕ) (count : NonZeroU32) → number_of w ≡ Some (non_zero_u32_get count) → array_size_of w ≡ Some (Constant count)
+count_again [] count h = cc
+count_again (c ∷ cs) count h =
+    let no_override : (c == 111) ≡ false = ne_eqb c 111 (λ e. no_digit largest_u32 111 cs _ refl (ap (λ c. number_of (c ∷ cs)) (sym e) ∙ h)) in
+    let no_word : bytes_eq (c ∷ cs) (codes "dyn") ≡ false = elim (cases_Bool (bytes_eq (c ∷ cs) (codes "dyn"))) [
+      | inl e ↦ absurd (no_digit largest_u32 100 (121 ∷ 110 ∷ []) _ refl (ap number_of (sym ((bytes_eq-Decides (c ∷ cs) (codes "dyn")).0 e)) ∙ h))
+      | inr e ↦ e
+    ] in
+    passed_by _ _ _ no_word ∙ passed_by _ _ _ no_override ∙ ap (λ n. (n >>= count_at) >>= (λ count. Some (Constant count))) h ∙ ap (λ c. c >>= (λ count. Some (Constant count))) (count_at_again count)
+
+pub array_size_again : (w : List ℕ) (size : ArraySize) → array_size_part size w → array_size_of w ≡ Some size
+array_size_again w (Constant count) h = count_again w count h
+array_size_again w (Pending size) h = ap array_size_of h.1 ∙ ap (λ n. n >>= (λ size. Some (Pending size))) h.2
+array_size_again w Dynamic h = ap array_size_of h

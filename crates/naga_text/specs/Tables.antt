@@ -1,0 +1,68 @@
+-- The words that stand for values: a row is a word and its value.
+use Rattle.std.specs.Prelude.{ℕ, Bool as Truth, true, false, List, [], ◌∷◌, Option, Some, None, codes, bytes_eq, if◌then◌else◌}
+use Rattle.naga_ir_types.specs.declared.types.AddressSpace.{AddressSpace}
+use Rattle.naga_ir_types.specs.declared.types.AddressSpace.TheVariants as space
+use Rattle.naga_ir_types.specs.declared.types.CooperativeRole.{CooperativeRole}
+use Rattle.naga_ir_types.specs.declared.types.CooperativeRole.TheVariants as role
+use Rattle.naga_ir_types.specs.declared.types.ImageClass.{ImageClass}
+use Rattle.naga_ir_types.specs.declared.types.ImageClass.TheVariants as class
+use Rattle.naga_ir_types.specs.declared.types.ImageDimension.{ImageDimension}
+use Rattle.naga_ir_types.specs.declared.types.ImageDimension.TheVariants.{D1, D2, D3, Cube}
+use Rattle.naga_ir_types.specs.declared.types.ScalarKind.{ScalarKind}
+use Rattle.naga_ir_types.specs.declared.types.ScalarKind.TheVariants.{Sint, Uint, Float, Bool, AbstractInt, AbstractFloat}
+
+-- the value beside a word in a table, if it is there: that of the first row with the word
+abbrev pub chosen : {A : Type 0} → List (List ℕ × A) → List ℕ → Option A
+chosen [] w = None
+chosen (row ∷ table) w = if bytes_eq w row.0 then Some row.1 else chosen table w
+
+-- the kinds of scalars
+abbrev pub kinds : List (List ℕ × ScalarKind)
+kinds =
+    (codes "sint", Sint) ∷
+    (codes "uint", Uint) ∷
+    (codes "float", Float) ∷
+    (codes "bool", Bool) ∷
+    (codes "aint", AbstractInt) ∷
+    (codes "afloat", AbstractFloat) ∷
+    []
+
+-- the truth values
+abbrev pub truths : List (List ℕ × Truth)
+truths = (codes "0", false) ∷ (codes "1", true) ∷ []
+
+-- the operands that cooperative matrices are
+abbrev pub roles : List (List ℕ × CooperativeRole)
+roles = (codes "A", role.A) ∷ (codes "B", role.B) ∷ (codes "C", role.C) ∷ []
+
+-- the address spaces; that of storage can be read and written
+abbrev pub spaces : List (List ℕ × AddressSpace)
+spaces =
+    (codes "function", space.Function) ∷
+    (codes "private", space.Private) ∷
+    (codes "workgroup", space.WorkGroup) ∷
+    (codes "uniform", space.Uniform) ∷
+    (codes "storage", space.Storage (record { load = true; store = true; atomic = false })) ∷
+    (codes "handle", space.Handle) ∷
+    (codes "immediate", space.Immediate) ∷
+    (codes "taskpayload", space.TaskPayload) ∷
+    (codes "raypayload", space.RayPayload) ∷
+    (codes "incomingraypayload", space.IncomingRayPayload) ∷
+    []
+
+-- the dimensions of images
+abbrev pub dimensions : List (List ℕ × ImageDimension)
+dimensions = (codes "1", D1) ∷ (codes "2", D2) ∷ (codes "3", D3) ∷ (codes "cube", Cube) ∷ []
+
+-- the classes of images; a storage image has format 0 and all accesses
+abbrev pub classes : List (List ℕ × ImageClass)
+classes =
+    (codes "float", class.Sampled Float false) ∷
+    (codes "floatms", class.Sampled Float true) ∷
+    (codes "sint", class.Sampled Sint false) ∷
+    (codes "uint", class.Sampled Uint false) ∷
+    (codes "depth", class.Depth false) ∷
+    (codes "depthms", class.Depth true) ∷
+    (codes "storage", class.Storage (record { 0 = 0 }) (record { load = true; store = true; atomic = true })) ∷
+    (codes "external", class.External) ∷
+    []

@@ -1,0 +1,4 @@
+-- What the private functions say of their steps.
+pub mod LineForms
+pub mod SoFar
+pub mod WordForms

@@ -1,0 +1,207 @@
+-- What the readers of one line return.
+use Rattle.std.specs.Prelude.{ℕ, List, [], ◌∷◌, Option, Some, None, codes}
+use Rattle.naga_arena.specs.Numbers.{largest_u8}
+use Rattle.naga_flags.specs.Bits.{all_capabilities, all_validation_flags}
+use Rattle.naga_ir_types.specs.declared.types.Scalar.{Scalar as ScalarType}
+use Rattle.naga_ir_types.specs.declared.types.TypeInner.{TypeInner}
+use Rattle.naga_ir_types.specs.declared.types.TypeInner.TheVariants.{Scalar, Vector, Matrix, CooperativeMatrix, Atomic, Pointer, ValuePointer, Array, Struct, Image, Sampler, AccelerationStructure, RayQuery, BindingArray}
+use Rattle.naga_text.specs.Tables.{chosen, classes, dimensions, kinds, roles, spaces, truths}
+use Rattle.naga_text.specs.Words.{handle_of, number_of, number_up_to}
+use Rattle.naga_text.specs.steps.WordForms.{◌>>=◌, array_size_of, cooperative_size_of, member_of, pointed_size_of, read_each, size_of}
+use Rattle.naga_text.specs.declared.line.Line.{Line}
+use Rattle.naga_text.specs.declared.line.Line.TheVariants.{Flags, Capabilities, Resolved, Type_}
+
+-- what reads the words after a keyword
+abbrev pub Reader : Type 0 → Type 0
+Reader A = List (List ℕ) → Option A
+
+-- what the reader beside a keyword reads of the words after it
+abbrev pub read_by : {A : Type 0} → List (List ℕ × Reader A) → List ℕ → Reader A
+read_by readers keyword words = do
+  reader ← chosen readers keyword
+  reader words
+
+-- the scalar of a word for its kind and one for its width
+abbrev pub scalar_of : List ℕ → List ℕ → Option ScalarType
+scalar_of k w = do
+  kind ← chosen kinds k
+  width ← number_up_to largest_u8 w
+  Some (record { kind = kind; width = width })
+
+-- the type of the words after `scalar`
+abbrev pub scalar_type_of : Reader TypeInner
+scalar_type_of (k ∷ w ∷ []) = do
+  scalar ← scalar_of k w
+  Some (Scalar scalar)
+scalar_type_of _ = None
+
+-- the type of the words after `vector`
+abbrev pub vector_of : Reader TypeInner
+vector_of (n ∷ k ∷ w ∷ []) = do
+  size ← size_of n
+  scalar ← scalar_of k w
+  Some (Vector size scalar)
+vector_of _ = None
+
+-- the type of the words after `matrix`
+abbrev pub matrix_of : Reader TypeInner
+matrix_of (m ∷ n ∷ k ∷ w ∷ []) = do
+  columns ← size_of m
+  rows ← size_of n
+  scalar ← scalar_of k w
+  Some (Matrix columns rows scalar)
+matrix_of _ = None
+
+-- the type of the words after `coop`
+abbrev pub cooperative_matrix_of : Reader TypeInner
+cooperative_matrix_of (m ∷ n ∷ k ∷ w ∷ r ∷ []) = do
+  columns ← cooperative_size_of m
+  rows ← cooperative_size_of n
+  scalar ← scalar_of k w
+  role ← chosen roles r
+  Some (CooperativeMatrix columns rows scalar role)
+cooperative_matrix_of _ = None
+
+-- the type of the words after `atomic`
+abbrev pub atomic_of : Reader TypeInner
+atomic_of (k ∷ w ∷ []) = do
+  scalar ← scalar_of k w
+  Some (Atomic scalar)
+atomic_of _ = None
+
+-- the type of the words after `pointer`
+abbrev pub pointer_of : Reader TypeInner
+pointer_of (t ∷ s ∷ []) = do
+  base ← handle_of t
+  space ← chosen spaces s
+  Some (Pointer base space)
+pointer_of _ = None
+
+-- the type of the words after `valuepointer`
+abbrev pub value_pointer_of : Reader TypeInner
+value_pointer_of (n ∷ k ∷ w ∷ s ∷ []) = do
+  size ← pointed_size_of n
+  scalar ← scalar_of k w
+  space ← chosen spaces s
+  Some (ValuePointer size scalar space)
+value_pointer_of _ = None
+
+-- the type of the words after `array`
+abbrev pub array_of : Reader TypeInner
+array_of (t ∷ z ∷ s ∷ []) = do
+  base ← handle_of t
+  size ← array_size_of z
+  stride ← number_of s
+  Some (Array base size stride)
+array_of _ = None
+
+-- the type of the words after `bindingarray`
+abbrev pub binding_array_of : Reader TypeInner
+binding_array_of (t ∷ z ∷ []) = do
+  base ← handle_of t
+  size ← array_size_of z
+  Some (BindingArray base size)
+binding_array_of _ = None
+
+-- the type of the words after `image`
+abbrev pub image_of : Reader TypeInner
+image_of (d ∷ a ∷ x ∷ []) = do
+  dim ← chosen dimensions d
+  arrayed ← chosen truths a
+  class ← chosen classes x
+  Some (Image dim arrayed class)
+image_of _ = None
+
+-- the type of the words after `sampler`
+abbrev pub sampler_of : Reader TypeInner
+sampler_of (b ∷ []) = do
+  comparison ← chosen truths b
+  Some (Sampler comparison)
+sampler_of _ = None
+
+-- the type of the words after `accel`
+abbrev pub acceleration_structure_of : Reader TypeInner
+acceleration_structure_of (b ∷ []) = do
+  vertex_return ← chosen truths b
+  Some (AccelerationStructure vertex_return)
+acceleration_structure_of _ = None
+
+-- the type of the words after `rayquery`
+abbrev pub ray_query_of : Reader TypeInner
+ray_query_of (b ∷ []) = do
+  vertex_return ← chosen truths b
+  Some (RayQuery vertex_return)
+ray_query_of _ = None
+
+-- the type of the words after `struct`
+abbrev pub struct_of : Reader TypeInner
+struct_of [] = None
+struct_of (s ∷ ws) = do
+  span ← number_of s
+  members ← read_each member_of ws
+  Some (Struct members span)
+
+-- the readers of the words after the form of a type that has no members
+abbrev pub memberless_readers : List (List ℕ × Reader TypeInner)
+memberless_readers =
+    (codes "scalar", scalar_type_of) ∷
+    (codes "vector", vector_of) ∷
+    (codes "matrix", matrix_of) ∷
+    (codes "coop", cooperative_matrix_of) ∷
+    (codes "atomic", atomic_of) ∷
+    (codes "pointer", pointer_of) ∷
+    (codes "valuepointer", value_pointer_of) ∷
+    (codes "array", array_of) ∷
+    (codes "bindingarray", binding_array_of) ∷
+    (codes "image", image_of) ∷
+    (codes "sampler", sampler_of) ∷
+    (codes "accel", acceleration_structure_of) ∷
+    (codes "rayquery", ray_query_of) ∷
+    []
+
+-- the readers of the words after the form of a type
+abbrev pub type_readers : List (List ℕ × Reader TypeInner)
+type_readers = (codes "struct", struct_of) ∷ memberless_readers
+
+-- the type of the words after `type`
+abbrev pub type_of : Reader TypeInner
+type_of [] = None
+type_of (form ∷ words) = read_by type_readers form words
+
+-- what the words after `flags` say
+abbrev pub flags_of : Reader Line
+flags_of (n ∷ []) = do
+  bits ← number_up_to all_validation_flags n
+  Some (Flags (record { 0 = bits }))
+flags_of _ = None
+
+-- what the words after `caps` say
+abbrev pub capabilities_of : Reader Line
+capabilities_of (n ∷ []) = do
+  bits ← number_up_to all_capabilities n
+  Some (Capabilities (record { 0 = bits }))
+capabilities_of _ = None
+
+-- what the words after `resolved` say
+abbrev pub resolved_of : Reader Line
+resolved_of [] = Some Resolved
+resolved_of _ = None
+
+-- what the words after `type` say
+abbrev pub type_line_of : Reader Line
+type_line_of words = do
+  inner ← type_of words
+  Some (Type_ inner)
+
+-- the readers of the words after the keyword of a setting
+abbrev pub setting_readers : List (List ℕ × Reader Line)
+setting_readers = (codes "flags", flags_of) ∷ (codes "caps", capabilities_of) ∷ (codes "resolved", resolved_of) ∷ []
+
+-- the readers of the words after a keyword
+abbrev pub line_readers : List (List ℕ × Reader Line)
+line_readers = (codes "type", type_line_of) ∷ setting_readers
+
+-- what words say
+abbrev pub line_of : Reader Line
+line_of [] = None
+line_of (keyword ∷ words) = read_by line_readers keyword words

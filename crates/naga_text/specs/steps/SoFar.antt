@@ -1,0 +1,70 @@
+-- What the reader of a text has read so far, one line more at a time.
+use Rattle.std.specs.Prelude.{◌≡◌, ℕ, ◌<◌, Bool, true, false, List, [], ◌∷◌, ◌++◌, Option, Some, None, Result, Ok, Err, length, filter_map, unwrap_or, Contains, MatchBool, MatchOption, ⊤}
+use Rattle.naga_arena.specs.Numbers.{largest_u32}
+use Rattle.naga_flags.specs.Bits.{all_validation_flags, default_capabilities}
+use Rattle.naga_ir_types.specs.declared.types.«Type».{«Type»}
+use Rattle.naga_ir_types.specs.declared.types.TypeInner.{TypeInner}
+use Rattle.naga_text.specs.Text.{AreConsistent, AreForms, IsFirstUnreadable, IsReadable, IsText, capabilities_in, first_in, flags_in, module_of, resolved_in, type_in}
+use Rattle.naga_text.specs.declared.line.Line.{Line as Line_}
+use Rattle.naga_text.specs.declared.text.Contents.{Contents}
+use Rattle.naga_text.specs.declared.text.ContentsSoFar.{ContentsSoFar}
+use Rattle.naga_text.specs.declared.text.TextError.{TextError}
+use Rattle.naga_text.specs.declared.text.TextError.TheVariants.{Line, OutOfMemory}
+
+-- a setting without a value was set; one with a value keeps it
+abbrev pub IsSetOnce : {A : Type 0} → Option A → A → Option A → Bool → Type 0
+IsSetOnce old value new set = MatchOption old ((set ≡ true) × (new ≡ Some value)) (λ before. (set ≡ false) × (new ≡ old))
+
+-- a type can be added to types: it is not among them, and there is room
+abbrev pub CanAdd : List «Type» → «Type» → Type 0
+CanAdd old t = (¬ (Contains old t)) × (length old < largest_u32)
+
+-- a type was added that could be, or it can't be added
+abbrev pub IsNewType : List «Type» → TypeInner → List «Type» → Bool → Type 0
+IsNewType old inner new added =
+    let t : «Type» = record { name = None; inner = inner } in
+    MatchBool added ((new ≡ old ++ t ∷ []) × CanAdd old t) (¬ (CanAdd old t))
+
+-- what lines say together, with each setting that they set
+abbrev pub so_far : List Line_ → ContentsSoFar
+so_far said = record {
+  «module» = module_of (filter_map type_in said);
+  flags = first_in flags_in said;
+  capabilities = first_in capabilities_in said;
+  resolved = first_in resolved_in said;
+}
+
+-- the contents, with the default of each setting that was not set
+abbrev pub finished : ContentsSoFar → Contents
+finished read = record {
+  «module» = read.«module»;
+  flags = unwrap_or read.flags (record { 0 = all_validation_flags });
+  capabilities = unwrap_or read.capabilities (record { 0 = default_capabilities });
+  resolved = unwrap_or read.resolved false;
+}
+
+-- after lines that say the old, one line more is consistent with them and makes them say the new, or is not, whatever follows
+abbrev pub IsAdded : ContentsSoFar → Line_ → ContentsSoFar → Bool → Type 0
+IsAdded old line new added = (said : List Line_) → AreConsistent said → old ≡ so_far said →
+    MatchBool added (AreConsistent (said ++ line ∷ []) × (new ≡ so_far (said ++ line ∷ []))) ((after : List Line_) → ¬ (AreConsistent (said ++ line ∷ [] ++ after)))
+
+-- the lines of a text so far say this
+pub record ReadSoFar (lines : List (List ℕ)) (read : ContentsSoFar) : Type 0 where
+  pub said : List Line_
+  pub forms : AreForms lines said
+  pub consistent : AreConsistent said
+  pub contents_are : read ≡ so_far said
+
+-- no text that begins with these lines can be read
+abbrev pub CannotBegin : List (List ℕ) → Type 0
+CannotBegin lines = (after : List (List ℕ)) → ¬ (IsReadable (lines ++ after))
+
+-- after lines that say the old, one line more makes them say the new, or no text can begin so
+abbrev pub IsReadNext : ContentsSoFar → List ℕ → ContentsSoFar → Bool → Type 0
+IsReadNext old line new read = (lines : List (List ℕ)) → ReadSoFar lines old → MatchBool read (ReadSoFar (lines ++ line ∷ []) new) (CannotBegin (lines ++ line ∷ []))
+
+-- the contents are what the lines say, or the line is the first up to which they can't be read, unless memory ran out
+abbrev pub AreRead : List (List ℕ) → Result Contents TextError → Type 0
+AreRead lines (Ok contents) = IsText lines contents
+AreRead lines (Err (Line n)) = IsFirstUnreadable lines n × (¬ (IsReadable lines))
+AreRead lines (Err OutOfMemory) = ⊤

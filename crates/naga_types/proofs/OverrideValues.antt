@@ -1,0 +1,38 @@
+-- What is accepted if overrides must have their values is accepted if they needn't.
+use Rattle.std.proofs.Common.{◌≡◌, ℕ, true, false, List, [], ◌∷◌, Option, Some, None, Ok, ap, slice_get, take}
+use Rattle.std.specs.Option.{option_map}
+use Rattle.std.proofs.lemmas.Option.{same_Some}
+use Rattle.naga_flags.specs.declared.flags.Capabilities.{Capabilities}
+use Rattle.naga_ir.specs.declared.ir.Module.{Module}
+use Rattle.naga_ir_types.specs.declared.types.«Type».{«Type»}
+use Rattle.naga_ir_types.specs.declared.types.TypeInner.{TypeInner}
+use Rattle.naga_ir_types.specs.declared.types.TypeInner.TheVariants as form
+use Rattle.naga_types.specs.AcceptedTypes.{AreTypesAccepted, judged_by, types_rule}
+use Rattle.naga_types.specs.Judging.{judged}
+use Rattle.naga_types.specs.TypeRule.{type_rule}
+use Rattle.naga_types.specs.declared.info.TypeInfo.{TypeInfo}
+use Rattle.naga_typing.specs.declared.layouter.TypeLayout.{TypeLayout}
+
+-- what passes two conditions passes the first
+first_alone : {A E : Type 0} (a b : Option E) (value i : A) → judged (a ∷ b ∷ []) value ≡ Ok i → judged (a ∷ None ∷ []) value ≡ Ok i
+first_alone None None value i is = is
+first_alone None (Some e) value i is = cc
+first_alone (Some e) b value i is = cc
+
+module _ (m : Module) (capabilities : Capabilities) (layouts : List TypeLayout) where
+  type_unresolved : (infos : List TypeInfo) (t : ℕ) (inner : TypeInner) (i : TypeInfo) → type_rule (judged_by m capabilities true layouts infos) t inner ≡ Ok i
+      → type_rule (judged_by m capabilities false layouts infos) t inner ≡ Ok i
+  type_unresolved infos t (form.Array base size stride) i is = first_alone _ _ _ i is
+  type_unresolved infos t _ i is = is
+
+  each_unresolved : (before : List TypeInfo) (k : ℕ) (i : TypeInfo) (found : Option «Type») → option_map (types_rule m capabilities true layouts before k) found ≡ Some (Ok i)
+      → option_map (types_rule m capabilities false layouts before k) found ≡ Some (Ok i)
+  each_unresolved before k i None is = cc
+  each_unresolved before k i (Some ty) is = ap Some (type_unresolved before k ty.inner i (same_Some _ _ is))
+
+  -- so all types are accepted, with the same infos
+  pub unresolved : (infos : List TypeInfo) → AreTypesAccepted m capabilities true layouts infos → AreTypesAccepted m capabilities false layouts infos
+  unresolved infos h = record {
+    laid_out = h.laid_out;
+    each_type = record { as_many = h.each_type.as_many; follow = λ k i at. each_unresolved (take k infos) k i (slice_get m.types k) (h.each_type.follow k i at) };
+  }

@@ -1,0 +1,3 @@
+-- What private functions alone promise one another.
+pub mod Index
+pub mod Layout

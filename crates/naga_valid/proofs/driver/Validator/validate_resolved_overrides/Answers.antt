@@ -1,0 +1,11 @@
+use Rattle.std.proofs.lemmas.Result.{MatchResult-weaker}
+use Rattle.naga_types.proofs.OverrideValues.{unresolved}
+use Rattle.naga_valid.proofs.driver.Validator.validate_resolved_overrides.Goals as goal
+
+pub returns-clause-unresolved : goal.returns-clause-unresolved
+returns-clause-unresolved c =
+    let m = c.args.module.now in
+    let facts = c.validate_impl.new.self.facts in
+    MatchResult-weaker c.validate_impl.result c.validate_impl.ensures.result
+    (λ info h. record { layouts = h.0.layouts; types = unresolved m c.args.self.now.capabilities h.0.layouts facts.infos h.0.types })
+    (λ e h. tt)
