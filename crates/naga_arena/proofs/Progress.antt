@@ -5,7 +5,11 @@ use Rattle.std.proofs.lemmas.List.{length-map, map-append}
 use Rattle.std.proofs.lemmas.List.Elements.{All-nil, All-cons}
 use Rattle.std.proofs.lemmas.Option.{same_Some, slice_get-get_or, slice_get_within}
 use Rattle.std.proofs.Math.Seq.{get_or-append_seam, take-append_seam}
-use Rattle.naga_arena.specs.Results.{AllAccepted, IsFirstRefusal}
+use Rattle.naga_arena.specs.Results.{IsFirstRefusal}
+
+-- every item is accepted, each with its value
+abbrev pub AllAccepted : {A E : Type 0} → List (Result A E) → List A → Type 0
+AllAccepted results values = results ≡ map Ok values
 
 pub slice_get-seam : {A : Type 0} (xs ys : List A) (x : A) → slice_get (xs ++ x ∷ ys) (length xs) ≡ Some x
 slice_get-seam xs ys x =

@@ -74,13 +74,6 @@ impl<V: Drop, K> HandleVec<V, K> {
         self.inner.capacity()
     }
 
-    /// The values, in the order of the items.
-    pub fn as_slice(&self) -> &[V]
-        ensures { result.now ≡ self.now.items }
-    {
-        self.inner.as_slice()
-    }
-
     /// Makes room for `additional` more values. The room never shrinks.
     ///
     /// # Errors

@@ -2,10 +2,31 @@
 //!
 //! Contracts see a set as the number of its bits, in its field `0`.
 
+use bitflags::parser::{WriteHex, to_writer};
 use bitflags::{Flag, Flags, bitflag_items};
+use std::fmt;
+
+/// Shows a set of flags by the names of those in it, as in `Capabilities(RAY_QUERY | SUBGROUP)`.
+fn debug_names<B: Flags, W: fmt::Write>(
+    f: &mut fmt::Formatter<W>,
+    set: &str,
+    flags: &B,
+) -> fmt::Result
+where
+    <B as Flags>::Bits: WriteHex,
+{
+    f.write_str(set)?;
+    f.write_str("(")?;
+    if flags.is_empty() {
+        f.write_str("0x0")?;
+    } else {
+        to_writer(flags, f)?;
+    }
+    f.write_str(")")
+}
 
 /// Which parts of a module a validator validates.
-#[derive(Clone, Copy, Debug, PartialEq, Eq)]
+#[derive(Clone, Copy, PartialEq, Eq)]
 pub struct ValidationFlags(u8);
 
 bitflag_items! {
@@ -50,6 +71,12 @@ impl Flags for ValidationFlags {
     }
 }
 
+impl fmt::Debug for ValidationFlags {
+    fn fmt<W: fmt::Write>(&self, f: &mut fmt::Formatter<W>) -> fmt::Result {
+        debug_names(f, "ValidationFlags", self)
+    }
+}
+
 impl Default for ValidationFlags {
     ghost use Rattle.std.specs.Prelude.{◌≡◌};
     ghost use Rattle.naga_flags.specs.Bits.{all_validation_flags};
@@ -63,7 +90,7 @@ impl Default for ValidationFlags {
 }
 
 /// What a shader may use beyond the core of the language: naga's `Capabilities`.
-#[derive(Clone, Copy, Debug, PartialEq, Eq)]
+#[derive(Clone, Copy, PartialEq, Eq)]
 pub struct Capabilities(u64);
 
 bitflag_items! {
@@ -184,6 +211,12 @@ impl Flags for Capabilities {
     }
 }
 
+impl fmt::Debug for Capabilities {
+    fn fmt<W: fmt::Write>(&self, f: &mut fmt::Formatter<W>) -> fmt::Result {
+        debug_names(f, "Capabilities", self)
+    }
+}
+
 impl Default for Capabilities {
     ghost use Rattle.std.specs.Prelude.{◌≡◌};
     ghost use Rattle.naga_flags.specs.Bits.{default_capabilities};
@@ -197,7 +230,7 @@ impl Default for Capabilities {
 }
 
 /// What a type may be used for: naga's `TypeFlags`.
-#[derive(Clone, Copy, Debug, PartialEq, Eq)]
+#[derive(Clone, Copy, PartialEq, Eq)]
 pub struct TypeFlags(u8);
 
 bitflag_items! {
@@ -248,8 +281,14 @@ impl Flags for TypeFlags {
     }
 }
 
+impl fmt::Debug for TypeFlags {
+    fn fmt<W: fmt::Write>(&self, f: &mut fmt::Formatter<W>) -> fmt::Result {
+        debug_names(f, "TypeFlags", self)
+    }
+}
+
 /// Stages of a pipeline.
-#[derive(Clone, Copy, Debug, PartialEq, Eq)]
+#[derive(Clone, Copy, PartialEq, Eq)]
 pub struct ShaderStages(u16);
 
 bitflag_items! {
@@ -302,9 +341,15 @@ impl Flags for ShaderStages {
     }
 }
 
+impl fmt::Debug for ShaderStages {
+    fn fmt<W: fmt::Write>(&self, f: &mut fmt::Formatter<W>) -> fmt::Result {
+        debug_names(f, "ShaderStages", self)
+    }
+}
+
 /// Groups of operations among the invocations of a subgroup, as devices support them (WGSL "Subgroup
 /// Built-in Functions").
-#[derive(Clone, Copy, Debug, PartialEq, Eq)]
+#[derive(Clone, Copy, PartialEq, Eq)]
 pub struct SubgroupOperationSet(u8);
 
 bitflag_items! {
@@ -348,6 +393,12 @@ impl Flags for SubgroupOperationSet {
 
     fn from_bits_retain(bits: u8) -> SubgroupOperationSet {
         SubgroupOperationSet(bits)
+    }
+}
+
+impl fmt::Debug for SubgroupOperationSet {
+    fn fmt<W: fmt::Write>(&self, f: &mut fmt::Formatter<W>) -> fmt::Result {
+        debug_names(f, "SubgroupOperationSet", self)
     }
 }
 

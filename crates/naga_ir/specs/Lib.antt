@@ -6,7 +6,7 @@
 -- Handles.OrderedInModule, GoBack: which references have to go back, and that they do
 -- Handles.SizeGatesHold: no expression that sizes a type names that type or a later one, and none before it does
 -- Handles.HandlesAccepted: these three
--- Handles.GlobalReferencesOk, FunctionReferencesOk: the same of types and global expressions, and of one function
+-- Handles.GlobalReferencesOk: the same of types and global expressions
 -- Ranks.rank_of_type, rank_of_expression: the index of each in the order of visits
 pub mod FirstFailure
 pub mod Handles

@@ -18,7 +18,7 @@ pub struct Counted<S> {
     failed: u64,
 }
 
-impl<S: Drop> Counted<S> {
+impl<S> Counted<S> {
     /// A reader or a writer, with no failure counted yet.
     pub fn new(inner: S) -> Counted<S>
         ensures inner { result.inner ≡ inner }

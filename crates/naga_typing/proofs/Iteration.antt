@@ -5,9 +5,9 @@ use Rattle.std.specs.Option.{option_map}
 use Rattle.std.proofs.lemmas.List.{length-map}
 use Rattle.std.proofs.lemmas.Option.{slice_get-map}
 use Rattle.naga_arena.proofs.InOrder.{none_follow, one_more_follows}
-use Rattle.naga_arena.proofs.Progress.{Progress, accepted_before, accepted_ok, begun, ended, number, refused, stands, went_on}
+use Rattle.naga_arena.proofs.Progress.{AllAccepted, Progress, accepted_before, accepted_ok, begun, ended, number, refused, stands, went_on}
 use Rattle.naga_arena.specs.InOrder.{AllAcceptedInOrder, FollowInOrder, RuleInOrder, given_at}
-use Rattle.naga_arena.specs.Results.{AllAccepted, IsFirstRefusal}
+use Rattle.naga_arena.specs.Results.{IsFirstRefusal}
 
 -- a rule that accepts every item
 abbrev pub accepts_all : {X : Type 0} → X → Result (Unit {0}) (Unit {0})

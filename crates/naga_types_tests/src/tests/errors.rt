@@ -25,7 +25,7 @@ fn errors_of_scalars_and_pointers_read_so(rt: HostRuntime) {
         &[
             (
                 TypeError::MissingCapability(Capabilities::RAY_QUERY),
-                "Capability Capabilities(8192) is required",
+                "Capability Capabilities(RAY_QUERY) is required",
             ),
             (
                 TypeError::InvalidAtomicWidth(ScalarKind::Sint, 2),
