@@ -1,7 +1,9 @@
 -- The greatest of some alignments, computed one item after another.
-use Rattle.std.proofs.Common.{◌≡◌, ℕ, ◌+◌, ◌<◌, ◌≤◌, max, List, [], ◌∷◌, ◌++◌, map, length, take, get_or, sym, ap, ◌∙◌, arith}
+use Rattle.std.proofs.Common.{◌≡◌, ℕ, ◌+◌, ◌<◌, ◌≤◌, ⊎_elim, max, All, Contains, List, [], ◌∷◌, ◌++◌, map, length, take, get_or, refl, sym, ap, ◌∙◌, arith}
 use Rattle.std.proofs.Math.Nat.{le-max_left, le-max_right, max-le, max_comm}
+use Rattle.std.proofs.lemmas.Bool.{cases_lt}
 use Rattle.std.proofs.lemmas.List.{map-append, take_more}
+use Rattle.std.proofs.lemmas.List.Elements.{All-cons, All-nil, All-tail, All-weaker, Contains-append_right}
 use Rattle.naga_typing.specs.Layout.{greatest}
 
 max_assoc : (a b c : ℕ) → max a (max b c) ≡ max (max a b) c
@@ -31,3 +33,29 @@ greatest_more f xs i x a h e so_far =
     ∙ ap greatest (sym (map-append f (take i xs) (x ∷ [])))
     ∙ ap (λ y. greatest (map f (take i xs ++ y ∷ []))) e
     ∙ ap (λ ys. greatest (map f ys)) (sym (take_more xs i x h))
+
+-- no item's number is above the greatest
+pub greatest-bounds : {X : Type 0} (f : X → ℕ) (xs : List X) → All (λ x. f x ≤ greatest (map f xs)) xs
+greatest-bounds f [] = All-nil (λ x. f x ≤ greatest (map f []))
+greatest-bounds f (x ∷ xs) =
+    let here : f x ≤ greatest (map f (x ∷ xs)) = le-max_left (f x) (greatest (map f xs)) in
+    let there : greatest (map f xs) ≤ greatest (map f (x ∷ xs)) = le-max_right (f x) (greatest (map f xs)) in
+    All-cons (λ y. f y ≤ greatest (map f (x ∷ xs))) x xs here
+    (All-weaker (λ y. f y ≤ greatest (map f xs)) (λ y. f y ≤ greatest (map f (x ∷ xs))) (λ y below. omega (arith, below, there)) xs (greatest-bounds f xs))
+
+-- what is at least 1 and above no item's number is not below the greatest
+pub greatest-least : {X : Type 0} (f : X → ℕ) (xs : List X) (bound : ℕ) → 1 ≤ bound → All (λ x. f x ≤ bound) xs → greatest (map f xs) ≤ bound
+greatest-least f [] bound one all = one
+greatest-least f (x ∷ xs) bound one all =
+    max-le (all 0 x (omega arith)) (greatest-least f xs bound one (All-tail (λ y. f y ≤ bound) x xs all))
+
+-- the greatest is the number of an item, if there is one and none has a number below 1
+pub greatest-among : {X : Type 0} (f : X → ℕ) (xs : List X) → 0 < length xs → All (λ x. 1 ≤ f x) xs → (x : X) × Contains xs x × (f x ≡ greatest (map f xs))
+greatest-among f [] some all = absurd (omega (arith, some))
+greatest-among f (x ∷ []) some all = (x, (0, omega arith, refl), omega (arith, all 0 x (omega arith)))
+greatest-among f (x ∷ y ∷ xs) some all =
+    let rest = greatest-among f (y ∷ xs) (omega arith) (All-tail (λ z. 1 ≤ f z) x (y ∷ xs) all) in
+    ⊎_elim
+    (λ (h : f x < f rest.0). (rest.0, Contains-append_right (x ∷ []) (y ∷ xs) rest.0 rest.1, omega (arith, rest.2, h)))
+    (λ (h : f rest.0 ≤ f x). (x, (0, omega arith, refl), omega (arith, rest.2, h)))
+    (cases_lt (f x) (f rest.0))

@@ -2,6 +2,7 @@
 -- Constants.index_of, override_count: the number that an expression gives, and the count that an override gives
 -- Layout.size_of, alignment_of: the size and the alignment of a type, in bytes
 -- Layout.layout_results, AreLayouts: which types have a layout, and what the layouts of a module are
+-- Leaves.leaf_at, AreSeparate: where the leaves of a type are, and that they are aligned, within the type, and share no byte
 -- Index.IsLength: how many elements can be indexed
 -- Kinds.kind_of, AreKinds: when the value of an expression is known
 -- Resolutions.AreSameTypes: which types are the same
@@ -13,6 +14,7 @@ pub mod Context
 pub mod Index
 pub mod Kinds
 pub mod Layout
+pub mod Leaves
 pub mod PlainLaws
 pub mod PlainTyping
 pub mod Resolutions
