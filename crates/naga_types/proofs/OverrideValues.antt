@@ -3,6 +3,7 @@ use Rattle.std.proofs.Common.{◌≡◌, ℕ, true, false, List, [], ◌∷◌, 
 use Rattle.std.specs.Option.{option_map}
 use Rattle.std.proofs.lemmas.Option.{same_Some}
 use Rattle.naga_flags.specs.declared.flags.Capabilities.{Capabilities}
+use Rattle.naga_ir.specs.ItemReferences.{global_lists}
 use Rattle.naga_ir.specs.declared.ir.Module.{Module}
 use Rattle.naga_ir_types.specs.declared.types.«Type».{«Type»}
 use Rattle.naga_ir_types.specs.declared.types.TypeInner.{TypeInner}
@@ -20,13 +21,13 @@ first_alone None (Some e) value i is = cc
 first_alone (Some e) b value i is = cc
 
 module _ (m : Module) (capabilities : Capabilities) (layouts : List TypeLayout) where
-  type_unresolved : (infos : List TypeInfo) (t : ℕ) (inner : TypeInner) (i : TypeInfo) → type_rule (judged_by m capabilities true layouts infos) t inner ≡ Ok i
-      → type_rule (judged_by m capabilities false layouts infos) t inner ≡ Ok i
+  type_unresolved : (infos : List TypeInfo) (t : ℕ) (inner : TypeInner) (i : TypeInfo) → type_rule (judged_by (global_lists m) capabilities true layouts infos) t inner ≡ Ok i
+      → type_rule (judged_by (global_lists m) capabilities false layouts infos) t inner ≡ Ok i
   type_unresolved infos t (form.Array base size stride) i is = first_alone _ _ _ i is
   type_unresolved infos t _ i is = is
 
-  each_unresolved : (before : List TypeInfo) (k : ℕ) (i : TypeInfo) (found : Option «Type») → option_map (types_rule m capabilities true layouts before k) found ≡ Some (Ok i)
-      → option_map (types_rule m capabilities false layouts before k) found ≡ Some (Ok i)
+  each_unresolved : (before : List TypeInfo) (k : ℕ) (i : TypeInfo) (found : Option «Type») → option_map (types_rule (global_lists m) capabilities true layouts before k) found ≡ Some (Ok i)
+      → option_map (types_rule (global_lists m) capabilities false layouts before k) found ≡ Some (Ok i)
   each_unresolved before k i None is = cc
   each_unresolved before k i (Some ty) is = ap Some (type_unresolved before k ty.inner i (same_Some _ _ is))
 

@@ -4,6 +4,8 @@ use Rattle.naga_ir_types.specs.declared.types.AddressSpace.TheVariants.{Function
 use Rattle.naga_ir_types.specs.declared.types.ArraySize.TheVariants.{Dynamic, Pending}
 use Rattle.naga_ir_types.specs.declared.types.ScalarKind.TheVariants.{Bool, Sint}
 use Rattle.naga_types.specs.FormFlags.{array_flags, atomic_flags, binding_array_flags, element_flags, member_flags, opaque_flags, pointer_flags, ray_query_flags, scalar_flags, unshared_flags}
+use Rattle.naga_types.specs.HostLayouts.{data_for_hosts}
+use Rattle.naga_types.specs.HostLeaves.{resolved_for_hosts, sized_for_hosts}
 
 pub numbers : scalar_flags Sint ≡ 0xff
 numbers = refl
@@ -46,3 +48,12 @@ elements = refl
 
 pub members : member_flags ≡ 0x21
 members = refl
+
+pub data-for-hosts : data_for_hosts ≡ 0x11
+data-for-hosts = refl
+
+pub sized-for-hosts : sized_for_hosts ≡ 0x13
+sized-for-hosts = refl
+
+pub resolved-for-hosts : resolved_for_hosts ≡ 0x31
+resolved-for-hosts = refl

@@ -1,16 +1,19 @@
 -- When all types of a module are accepted.
-use Rattle.std.specs.Prelude.{ℕ, Bool, List, Option, Result, option_map}
+use Rattle.std.specs.Prelude.{ℕ, Bool, List, Option, Result, option_map, take}
 use Rattle.naga_arena.specs.InOrder.{AllAcceptedInOrder, RuleInOrder}
 use Rattle.naga_flags.specs.declared.flags.Capabilities.{Capabilities}
 use Rattle.naga_ir.specs.Handles.{HandlesAccepted}
-use Rattle.naga_ir.specs.ItemReferences.{global_lists}
+use Rattle.naga_ir.specs.ItemReferences.{GlobalLists, global_lists}
 use Rattle.naga_ir.specs.declared.ir.Module.{Module}
 use Rattle.naga_ir_types.specs.declared.types.«Type».{«Type»}
 use Rattle.naga_types.specs.Surroundings.{Surroundings, form_at}
 use Rattle.naga_types.specs.TypeRule.{type_rule}
 use Rattle.naga_types.specs.declared.error.TypeError.{TypeError}
+use Rattle.naga_types.specs.declared.info.TypeContext.{TypeContext}
 use Rattle.naga_types.specs.declared.info.TypeInfo.{TypeInfo}
+use Rattle.naga_typing.specs.Context.{lists_of}
 use Rattle.naga_typing.specs.Layout.{AreLayouts}
+use Rattle.naga_typing.specs.declared.context.GlobalCtx.{GlobalCtx}
 use Rattle.naga_typing.specs.declared.layouter.TypeLayout.{TypeLayout}
 
 -- the rule on the type at a place
@@ -22,15 +25,19 @@ pub record IsLaidOut (m : Module) (layouts : List TypeLayout) : Type 0 where
   pub handles : HandlesAccepted m
   pub each_type : AreLayouts (global_lists m) layouts
 
--- what a type of a module is judged by: the capabilities, whether overrides have to have their values, the layouts of all types, and the infos of those before it
-abbrev pub judged_by : Module → Capabilities → Bool → List TypeLayout → List TypeInfo → Surroundings
-judged_by m capabilities resolved layouts infos = record { capabilities = capabilities.0; resolved = resolved; lists = global_lists m; layouts = layouts; infos = infos }
+-- what a type is judged by: the capabilities, whether overrides have to have their values, the lists that types refer to, the layouts of all types, and the infos of those before it
+abbrev pub judged_by : GlobalLists → Capabilities → Bool → List TypeLayout → List TypeInfo → Surroundings
+judged_by g capabilities resolved layouts infos = record { capabilities = capabilities.0; resolved = resolved; lists = g; layouts = layouts; infos = infos }
 
--- the rule of a module's types, each by the infos of those before it
-abbrev pub types_rule : Module → Capabilities → Bool → List TypeLayout → RuleInOrder «Type» TypeInfo TypeError
-types_rule m capabilities resolved layouts infos t ty = type_rule (judged_by m capabilities resolved layouts infos) t ty.inner
+-- the rule of all types, each by the infos of those before it
+abbrev pub types_rule : GlobalLists → Capabilities → Bool → List TypeLayout → RuleInOrder «Type» TypeInfo TypeError
+types_rule g capabilities resolved layouts infos t ty = type_rule (judged_by g capabilities resolved layouts infos) t ty.inner
 
 -- a module is laid out so, and each of its types keeps its rule, which gives these infos
 pub record AreTypesAccepted (m : Module) (capabilities : Capabilities) (resolved : Bool) (layouts : List TypeLayout) (infos : List TypeInfo) : Type 0 where
   pub laid_out : IsLaidOut m layouts
-  pub each_type : AllAcceptedInOrder (types_rule m capabilities resolved layouts) m.types infos
+  pub each_type : AllAcceptedInOrder (types_rule (global_lists m) capabilities resolved layouts) m.types infos
+
+-- the types before one are accepted, and these are their infos
+abbrev pub AreJudgedBefore : TypeContext → GlobalCtx → ℕ → Type 0
+AreJudgedBefore ctx g t = AllAcceptedInOrder (types_rule (lists_of g) ctx.capabilities ctx.overrides_resolved ctx.layouter.now) (take t g.types.now) (take t ctx.infos.now.infos)

@@ -6,12 +6,16 @@
 -- StructRule.struct_rule: the conditions of a struct and of its members, and what a struct may be used for
 -- Layouts.uniform_layout_of, storage_layout_of: the layouts of a struct, or why it has none
 -- AcceptedTypes.AreTypesAccepted: all types of a module are accepted, each by the infos of those before it
+-- HostLayouts.HasStorageByLeaves, HasUniformByLeaves: when data that hosts may share has a layout, by the alignments of its leaves
+-- HostLeaves.LeavesAreSeparate: the leaves of a type that hosts may share are aligned, end by its size, and share no byte
 -- RuleResults.IsRuleResult: what a call returns by a rule, out of memory aside
 -- Composing.compose_rule: whether a value of a type may be composed of components
 pub mod AcceptedTypes
 pub mod Composing
 pub mod Exchange
 pub mod FormFlags
+pub mod HostLayouts
+pub mod HostLeaves
 pub mod Infos
 pub mod Judging
 pub mod Layouts

@@ -1,3 +1,4 @@
+mod ModuleLaws
 mod Refusals
 mod RuleResults
 mod WorkedSettings

@@ -33,9 +33,9 @@ module _ (m : Module) (settings : Settings) where
   type_refuses handle name source r = (inr r, λ v. not_valid v)
     where
       First : List TypeLayout → Type 0
-      First layouts = IsFirstRefusalInOrder (types_rule m settings.capabilities settings.resolved layouts) m.types handle source
+      First layouts = IsFirstRefusalInOrder (types_rule (global_lists m) settings.capabilities settings.resolved layouts) m.types handle source
 
       not_valid : ¬ (IsValid m settings)
       not_valid (facts, v) =
           let same = layouts_once (global_lists m) r.layouts v.layouts r.laid_out.each_type v.types.laid_out.each_type in
-          refused_not_accepted (types_rule m settings.capabilities settings.resolved v.layouts) m.types facts.infos handle source (subst First same r.first) v.types.each_type
+          refused_not_accepted (types_rule (global_lists m) settings.capabilities settings.resolved v.layouts) m.types facts.infos handle source (subst First same r.first) v.types.each_type

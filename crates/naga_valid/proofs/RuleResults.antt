@@ -3,6 +3,7 @@ use Rattle.std.proofs.Common.{◌≡◌, ⊎_elim, ℕ, Bool, List, Some, Ok, Er
 use Rattle.std.specs.Option.{option_map}
 use Rattle.naga_arena.specs.InOrder.{given_at}
 use Rattle.naga_flags.specs.declared.flags.Capabilities.{Capabilities}
+use Rattle.naga_ir.specs.ItemReferences.{global_lists}
 use Rattle.naga_ir.specs.declared.ir.Module.{Module}
 use Rattle.naga_ir_types.specs.declared.types.«Type».{«Type»}
 use Rattle.naga_types.specs.AcceptedTypes.{judged_by, rule_at, types_rule}
@@ -16,24 +17,24 @@ use Rattle.naga_typing.specs.declared.layouter.TypeLayout.{TypeLayout}
 
 module _ (m : Module) (capabilities : Capabilities) (resolved : Bool) (layouts : List TypeLayout) (infos : List TypeInfo) (t : ℕ) (ty : «Type») (at : slice_get m.types t ≡ Some ty) where
   abbrev known : Surroundings
-  known = judged_by m capabilities resolved layouts infos
+  known = judged_by (global_lists m) capabilities resolved layouts infos
 
   abbrev ThisRule : Result TypeInfo TypeError → Type 0
   ThisRule r = IfSome (rule_at known t) (λ rule. IsRuleResult rule r)
 
-  given_is : given_at (types_rule m capabilities resolved layouts) m.types infos t ≡ Some (type_rule known t ty.inner)
-  given_is = ap (option_map (types_rule m capabilities resolved layouts infos t)) at
+  given_is : given_at (types_rule (global_lists m) capabilities resolved layouts) m.types infos t ≡ Some (type_rule known t ty.inner)
+  given_is = ap (option_map (types_rule (global_lists m) capabilities resolved layouts infos t)) at
 
   returned : (r : Result TypeInfo TypeError) → ThisRule r → IsRuleResult (type_rule known t ty.inner) r
   returned r said = subst (λ o. IfSome o (λ rule. IsRuleResult rule r)) (ap (λ x. option_map (type_rule known t) (form_in x)) at) said
 
   -- an info that is returned is the rule's
-  pub returns_ok : (i : TypeInfo) → ThisRule (Ok i) → given_at (types_rule m capabilities resolved layouts) m.types infos t ≡ Some (Ok i)
+  pub returns_ok : (i : TypeInfo) → ThisRule (Ok i) → given_at (types_rule (global_lists m) capabilities resolved layouts) m.types infos t ≡ Some (Ok i)
   returns_ok i said =
       given_is ∙ ap Some (sym (⊎_elim (λ (e : Ok i ≡ type_rule known t ty.inner). e) (λ (h : (Ok i ≡ Err OutOfMemory) × CarriesText (type_rule known t ty.inner)). cc (h.0)) (returned (Ok i) said)))
 
   -- and so is an error, but refused memory
-  pub returns_err : (e : TypeError) → ThisRule (Err e) → ¬ (e ≡ OutOfMemory) → given_at (types_rule m capabilities resolved layouts) m.types infos t ≡ Some (Err e)
+  pub returns_err : (e : TypeError) → ThisRule (Err e) → ¬ (e ≡ OutOfMemory) → given_at (types_rule (global_lists m) capabilities resolved layouts) m.types infos t ≡ Some (Err e)
   returns_err e said other =
       given_is ∙ ap Some (sym (⊎_elim
       (λ (e_is : Err e ≡ type_rule known t ty.inner). e_is)

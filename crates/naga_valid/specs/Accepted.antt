@@ -65,7 +65,7 @@ IsLayoutRefusal m e = HandlesAccepted m × IsFirstRefusal (layout_results (globa
 pub record IsTypeRefusal (m : Module) (settings : Settings) (handle : ℕ) (name : List ℕ) (source : TypeError) : Type 0 where
   pub layouts : List TypeLayout
   pub laid_out : IsLaidOut m layouts
-  pub first : IsFirstRefusalInOrder (types_rule m settings.capabilities settings.resolved layouts) m.types handle source
+  pub first : IsFirstRefusalInOrder (types_rule (global_lists m) settings.capabilities settings.resolved layouts) m.types handle source
   pub named : IsNameOf m.types handle name
 
 -- a refusal of a module: a fault of its handles, else the first of its layouts, else of its types

@@ -4,7 +4,9 @@ ghost use Rattle.std.specs.Prelude.{◌≡◌, ◌<◌, ◌≤◌, ◌⊎◌, �
 ghost use Rattle.naga_arena.specs.Memory.{UnlessOutOfMemory};
 ghost use Rattle.naga_arena.specs.Span.{inner_of};
 ghost use Rattle.naga_flags.specs.Width.{width_rule};
+ghost use Rattle.naga_ir.specs.ItemReferences.{global_lists};
 ghost use Rattle.naga_types.specs.AcceptedTypes.{AreTypesAccepted, IsLaidOut, judged_by, rule_at};
+ghost use Rattle.naga_types.specs.HostLeaves.{AllLeavesAreSeparate};
 ghost use Rattle.naga_types.specs.RuleResults.{IsRuleResult};
 ghost use Rattle.naga_types.specs.declared.error.TypeError.TheVariants as TypeError;
 ghost use Rattle.naga_ir.specs.Handles.{HandlesAccepted};
@@ -160,7 +162,8 @@ impl Validator {
     }
 
     /// Whether a module keeps all rules, and what is known of it then. So far the module has no
-    /// constants, overrides and global expressions, and of functions only the handles are judged.
+    /// constants, overrides and global expressions, and of functions only the handles are judged. If it
+    /// does, hosts may rely on the leaves of its types.
     ///
     /// # Errors
     ///
@@ -174,6 +177,7 @@ impl Validator {
         ensures result { UnlessOutOfMemory (λ e. inner_of e ≡ ValidationError.OutOfMemory) result
             (λ info. Accepts «module».now (settings_of self.old false) self.new.facts info.lists)
             (λ e. Refuses «module».now (settings_of self.old false) (inner_of e)) }
+        ensures leaves { OnOk result (AllLeavesAreSeparate (global_lists «module».now) self.new.facts.infos) }
         ensures cleared { OnErr result (self.new.facts ≡ no_facts) }
         ensures settings { self.new ≡ record self.old { facts = self.new.facts } }
     {
@@ -195,6 +199,7 @@ impl Validator {
             (λ info. Accepts «module».now (settings_of self.old true) self.new.facts info.lists)
             (λ e. Refuses «module».now (settings_of self.old true) (inner_of e)) }
         ensures unresolved { OnOk result (IsAccepted «module».now (settings_of self.old false) self.new.facts) }
+        ensures leaves { OnOk result (AllLeavesAreSeparate (global_lists «module».now) self.new.facts.infos) }
         ensures cleared { OnErr result (self.new.facts ≡ no_facts) }
         ensures settings { self.new ≡ record self.old { facts = self.new.facts } }
     {
@@ -352,7 +357,7 @@ fn type_info_of(
     requires exists { handle < length «module».now.types }
     requires judged { handle ≤ length infos.now.infos }
     requires laid_out { IsLaidOut «module».now layouter.now }
-    ensures { IfSome (rule_at (judged_by «module».now settings.capabilities settings.resolved layouter.now infos.now.infos) handle) (λ rule. IsRuleResult rule result) }
+    ensures { IfSome (rule_at (judged_by (global_lists «module».now) settings.capabilities settings.resolved layouter.now infos.now.infos) handle) (λ rule. IsRuleResult rule result) }
 {
     let ctx = TypeContext {
         capabilities: settings.capabilities,

@@ -5,6 +5,7 @@ use Rattle.naga_arena.proofs.InOrder.{none_follow, one_more_follows}
 use Rattle.naga_arena.specs.InOrder.{given_at}
 use Rattle.naga_exprs.specs.ModuleInfo.{ModuleInfoLists}
 use Rattle.naga_flags.specs.declared.flags.TypeFlags.{TypeFlags}
+use Rattle.naga_ir.specs.ItemReferences.{global_lists}
 use Rattle.naga_types.specs.AcceptedTypes.{types_rule}
 use Rattle.naga_types.specs.declared.error.TypeError.TheVariants.{OutOfMemory as NoMemory}
 use Rattle.naga_types.specs.declared.info.TypeInfo.{TypeInfo}
@@ -27,7 +28,7 @@ loop-handle-init c =
     let made = c.in_ok-make_room.ensures in
     record {
       iterating = subst (λ n. Iterating accepts_all m.types n c.into_iter-handle-iterator.result) (sym (ap length made.infos)) (begin accepts_all m.types _ (c.into_iter-handle-iterator.ensures.into_iter_gives ∙ c.iter-handle-items.ensures));
-      follow = none_follow (types_rule m c.args.settings.capabilities c.args.settings.resolved c.args.layouter.now) m.types _ made.infos;
+      follow = none_follow (types_rule (global_lists m) c.args.settings.capabilities c.args.settings.resolved c.args.layouter.now) m.types _ made.infos;
       lists = made.mod_info ∙ c.new-mod_info.ensures ∙ sym (ap lists made.infos);
     }
 
@@ -49,7 +50,7 @@ loop-handle-preserved c =
     let infos = c.loop-handle.infos.infos in
     let info = c.in-Ok.info in
     let pushed = c.in_ok-push-in-Ok.ensures.pushed in
-    let rule = types_rule m settings.capabilities settings.resolved c.args.layouter.now in
+    let rule = types_rule (global_lists m) settings.capabilities settings.resolved c.args.layouter.now in
     let iterating = c.loop-handle.invariant.iterating in
     let at = next_item accepts_all m.types _ _ _ _ _ iterating c.in-Some.ensures.steps in
     let place = next_index accepts_all m.types _ _ _ _ _ iterating c.in-Some.ensures.steps in

@@ -1,0 +1,170 @@
+-- Types that are judged by the infos of those before them.
+use Rattle.std.proofs.Common.{◌≡◌, ◌<◌, ◌≤◌, ⊎_elim, ℕ, Bool, true, List, [], ◌∷◌, ◌++◌, Some, Ok, length, slice_get, take, refl, sym, ap, subst, ◌∙◌, arith, length-append}
+use Rattle.std.specs.Option.{option_map, unwrap_or}
+use Rattle.std.proofs.lemmas.Bool.{and_parts, cases_lt}
+use Rattle.std.proofs.lemmas.List.{length-take, length-take-le}
+use Rattle.std.proofs.lemmas.Option.{same_Some, slice_get_within}
+use Rattle.naga_arena.proofs.Elements.{all_at}
+use Rattle.naga_arena.proofs.InOrder.{found_at, get_before, get_stays}
+use Rattle.naga_arena.proofs.Progress.{slice_get-seam}
+use Rattle.naga_arena.specs.InOrder.{FollowInOrder}
+use Rattle.naga_flags.proofs.HasLemmas.{has-bit_and, has-trans}
+use Rattle.naga_flags.specs.Bits.{SIZED}
+use Rattle.naga_flags.specs.Flags.{has}
+use Rattle.naga_flags.specs.declared.flags.Capabilities.{Capabilities}
+use Rattle.naga_ir.proofs.ReferredTo.{parts_come_before}
+use Rattle.naga_ir.specs.Handles.{GlobalReferencesOk}
+use Rattle.naga_ir.specs.ItemReferences.{GlobalLists}
+use Rattle.naga_ir_types.proofs.PartLemmas.{base_is, members_are}
+use Rattle.naga_ir_types.specs.declared.types.«Type».{«Type»}
+use Rattle.naga_ir_types.specs.declared.types.ArraySize.{ArraySize}
+use Rattle.naga_ir_types.specs.declared.types.StructMember.{StructMember}
+use Rattle.naga_ir_types.specs.declared.types.TypeInner.{TypeInner}
+use Rattle.naga_ir_types.specs.declared.types.TypeInner.TheVariants.{Array, Struct}
+use Rattle.naga_types.proofs.KeptConditions.{granted_ok, none_stands, unless-kept}
+use Rattle.naga_types.proofs.LeafPlaces.{map_some}
+use Rattle.naga_types.specs.AcceptedTypes.{judged_by, types_rule}
+use Rattle.naga_types.specs.FormFlags.{array_flags, element_flags}
+use Rattle.naga_types.specs.Judging.{first}
+use Rattle.naga_types.specs.Surroundings.{Surroundings, flags_at, info_at, info_in, size_at, size_in}
+use Rattle.naga_types.specs.TypeRule.{array_conditions, array_info, type_rule}
+use Rattle.naga_types.specs.declared.info.TypeInfo.{TypeInfo}
+use Rattle.naga_typing.proofs.Layouts.{layout_by_parts}
+use Rattle.naga_typing.specs.Layout.{AreLayouts, alignment_at, alignment_in, alignment_of, layout_of, size_of}
+use Rattle.naga_typing.specs.Leaves.{inner_at, size_at_index}
+use Rattle.naga_typing.specs.declared.layouter.TypeLayout.{TypeLayout}
+
+-- a type is judged by infos that are, of the types before it, these
+pub record IsJudged (g : GlobalLists) (capabilities : Capabilities) (resolved : Bool) (layouts : List TypeLayout) (infos : List TypeInfo) (t : ℕ) : Type 0 where
+  pub ty : «Type»
+  pub at : slice_get g.types t ≡ Some ty
+  pub known : List TypeInfo
+  pub before : (p : ℕ) → p < t → slice_get known p ≡ slice_get infos p
+  pub by_rule : type_rule (judged_by g capabilities resolved layouts known) t ty.inner ≡ Ok (info_in (slice_get infos t))
+
+-- lists of a module and the layouts of their types, of which some have infos by the rule
+pub record JudgedTypes : Type 0 where
+  pub lists : GlobalLists
+  pub capabilities : Capabilities
+  pub resolved : Bool
+  pub layouts : List TypeLayout
+  pub infos : List TypeInfo
+  pub references : GlobalReferencesOk lists
+  pub laid_out : AreLayouts lists layouts
+  pub judged : (t : ℕ) → t < length infos → IsJudged lists capabilities resolved layouts infos t
+
+-- types are judged that the rule accepts in their order
+pub judged_in_order : (g : GlobalLists) (capabilities : Capabilities) (resolved : Bool) (layouts : List TypeLayout) (count : ℕ) (infos : List TypeInfo)
+    → FollowInOrder (types_rule g capabilities resolved layouts) (take count g.types) infos → (t : ℕ) → t < length infos → IsJudged g capabilities resolved layouts infos t
+judged_in_order g capabilities resolved layouts count infos follow t within =
+    let found = found_at infos t within in
+    let Types = take count g.types in
+    let split = map_some (types_rule g capabilities resolved layouts (take t infos) t) (slice_get Types t) _ (follow t found.0 found.1) in
+    let short : t < count = omega (arith, length-take count g.types, slice_get_within Types t split.0 split.1) in
+    record {
+      ty = split.0;
+      at = sym (get_before g.types count t short) ∙ split.1;
+      known = take t infos;
+      before = λ p earlier. get_before infos t p earlier;
+      by_rule = split.2 ∙ ap (λ o. Ok (info_in o)) (sym found.1);
+    }
+
+-- a type is still judged when there are more infos
+judged_still : (g : GlobalLists) (capabilities : Capabilities) (resolved : Bool) (layouts : List TypeLayout) (infos more : List TypeInfo) (t : ℕ) → t < length infos
+    → IsJudged g capabilities resolved layouts infos t → IsJudged g capabilities resolved layouts (infos ++ more) t
+judged_still g capabilities resolved layouts infos more t within j = record {
+  ty = j.ty;
+  at = j.at;
+  known = j.known;
+  before = λ p earlier. j.before p earlier ∙ sym (get_stays infos more p (omega (arith, within, earlier)));
+  by_rule = j.by_rule ∙ ap (λ o. Ok (info_in o)) (sym (get_stays infos more t within));
+}
+
+-- the next type is judged too, by all infos, if its own info is that of the rule
+pub judged_with_next : (g : GlobalLists) (capabilities : Capabilities) (resolved : Bool) (layouts : List TypeLayout) (infos : List TypeInfo) (t : ℕ) (x : «Type») (info : TypeInfo) → t ≤ length infos
+    → FollowInOrder (types_rule g capabilities resolved layouts) (take t g.types) (take t infos) → slice_get g.types t ≡ Some x
+    → type_rule (judged_by g capabilities resolved layouts infos) t x.inner ≡ Ok info → (p : ℕ) → p < length (take t infos ++ info ∷ []) → IsJudged g capabilities resolved layouts (take t infos ++ info ∷ []) p
+judged_with_next g capabilities resolved layouts infos t x info within follow at rule p below =
+    let so_many : length (take t infos) ≡ t = length-take-le t infos within in
+    let seam : slice_get (take t infos ++ info ∷ []) t ≡ Some info = ap (slice_get (take t infos ++ info ∷ [])) (sym so_many) ∙ slice_get-seam (take t infos) [] info in
+    let next : IsJudged g capabilities resolved layouts (take t infos ++ info ∷ []) t = record {
+      ty = x;
+      at = at;
+      known = infos;
+      before = λ q earlier. sym (get_before infos t q earlier) ∙ sym (get_stays (take t infos) (info ∷ []) q (omega (arith, so_many, earlier)));
+      by_rule = rule ∙ ap (λ o. Ok (info_in o)) (sym seam);
+    } in
+    ⊎_elim
+    (λ (earlier : p < length (take t infos)). judged_still g capabilities resolved layouts (take t infos) (info ∷ []) p earlier (judged_in_order g capabilities resolved layouts t (take t infos) follow p earlier))
+    (λ (here : length (take t infos) ≤ p).
+    let last : t ≡ p = omega (arith, so_many, here, below, length-append (take t infos) (info ∷ [])) in
+    subst (IsJudged g capabilities resolved layouts (take t infos ++ info ∷ [])) last next)
+    (cases_lt p (length (take t infos)))
+
+module _ (w : JudgedTypes) where
+  -- the info of a type
+  abbrev pub info_of : ℕ → TypeInfo
+  info_of t = info_in (slice_get w.infos t)
+
+  -- the alignment of its layout
+  abbrev pub alignment_of_type : ℕ → ℕ
+  alignment_of_type t = alignment_at w.layouts t
+
+  -- the type is judged
+  abbrev pub Judged : ℕ → Type 0
+  Judged t = IsJudged w.lists w.capabilities w.resolved w.layouts w.infos t
+
+  module _ (t : ℕ) (j : Judged t) where
+    -- what it is judged by
+    abbrev pub known : Surroundings
+    known = judged_by w.lists w.capabilities w.resolved w.layouts j.known
+
+    -- the infos that it is judged by are those of the types before it
+    pub known_is : (p : ℕ) → p < t → info_at known p ≡ info_of p
+    known_is p earlier = ap info_in (j.before p earlier)
+
+    -- its form is the one that it is judged by
+    pub form_is : (inner : TypeInner) → inner_at w.lists t ≡ Some inner → j.ty.inner ≡ inner
+    form_is inner form = same_Some j.ty.inner inner (sym (ap (option_map (λ (ty : «Type»). ty.inner)) j.at) ∙ form)
+
+    -- the rule of its form gives its info
+    pub rule_is : (inner : TypeInner) → inner_at w.lists t ≡ Some inner → type_rule known t inner ≡ Ok (info_of t)
+    rule_is inner form = ap (type_rule known t) (sym (form_is inner form)) ∙ j.by_rule
+
+    -- the layout of a type is that of its form
+    laid_out_at : slice_get w.layouts t ≡ Some (layout_of w.lists w.layouts j.ty)
+    laid_out_at = layout_by_parts w.lists w.layouts w.laid_out w.references t j.ty j.at
+
+    -- so its alignment is that of its form
+    pub alignment_is : (inner : TypeInner) → inner_at w.lists t ≡ Some inner → alignment_of_type t ≡ alignment_of w.layouts inner
+    alignment_is inner form = ap alignment_in laid_out_at ∙ ap (alignment_of w.layouts) (form_is inner form)
+
+    -- and so is its size
+    pub size_is : size_at known t ≡ size_at_index w.lists t
+    size_is = ap size_in laid_out_at ∙ ap (λ o. unwrap_or (option_map (size_of w.lists) (option_map (λ (ty : «Type»). ty.inner) o)) 0) (sym j.at)
+
+    -- the base of an array comes before it
+    pub base_before : (base : ℕ) (size : ArraySize) (stride : ℕ) → inner_at w.lists t ≡ Some (Array base size stride) → base < t
+    base_before base size stride form =
+        base_is (λ p. p < t) j.ty.inner base size stride (λ p names. parts_come_before w.lists w.references t j.ty p j.at names) (form_is (Array base size stride) form)
+
+    -- and so does the type of each member of a struct
+    pub member_before : (members : List StructMember) (span k : ℕ) (m : StructMember) → inner_at w.lists t ≡ Some (Struct members span) → slice_get members k ≡ Some m → m.ty < t
+    member_before members span k m form there =
+        all_at (λ (m : StructMember). m.ty < t) members k m
+        (members_are (λ p. p < t) j.ty.inner members span (λ p names. parts_come_before w.lists w.references t j.ty p j.at names) (form_is (Struct members span) form)) there
+
+module _ (s : Surroundings) (t base : ℕ) (size : ArraySize) (stride : ℕ) (i : TypeInfo) (is : type_rule s t (Array base size stride) ≡ Ok i) where
+  -- the info of an array is that by its base
+  pub array_info_is : array_info s t base size stride ≡ i
+  array_info_is = (granted_ok (first (array_conditions s t base size)) _ i is).1
+
+  -- the elements of an array have fixed sizes
+  pub element_sized : has (flags_at s base) SIZED ≡ true
+  element_sized =
+      let conditions = (granted_ok (first (array_conditions s t base size)) _ i is).0 in
+      has-trans (flags_at s base) element_flags SIZED (unless-kept (has (flags_at s base) element_flags) _ (none_stands (array_conditions s t base size) 0 _ conditions refl)) refl
+
+  -- an array has flags that its base has and its size allows
+  pub array_has : (flag : ℕ) → has i.flags.0 flag ≡ true → (has (flags_at s base) flag ≡ true) × (has (array_flags size) flag ≡ true)
+  array_has flag h = and_parts (has (flags_at s base) flag) _ (sym (has-bit_and (flags_at s base) (array_flags size) flag) ∙ ap (λ (x : TypeInfo). has x.flags.0 flag) array_info_is ∙ h)

@@ -1,0 +1,32 @@
+-- What hosts may rely on of the leaves of types whose values they share.
+use Rattle.std.specs.Prelude.{◌≡◌, ◌+◌, ◌*◌, ◌⊎◌, ℕ, true, List, [], ◌∷◌, Some, IsOk, slice_get}
+use Rattle.naga_flags.specs.Bits.{CREATION_RESOLVED, DATA, HOST_SHAREABLE, SIZED, union_of}
+use Rattle.naga_flags.specs.Flags.{has}
+use Rattle.naga_ir.specs.ItemReferences.{GlobalLists}
+use Rattle.naga_types.specs.declared.info.TypeInfo.{TypeInfo}
+use Rattle.naga_typing.specs.Leaves.{AreSeparate, EndsInArray, HasNoShortStride, size_at_index}
+
+-- a type has these flags and a layout in one of the address spaces, and no stride inside it is short
+pub record IsLaidOutForHosts (g : GlobalLists) (infos : List TypeInfo) (t flags : ℕ) : Type 0 where
+  pub info : TypeInfo
+  pub info_is : slice_get infos t ≡ Some info
+  pub has_flags : has info.flags.0 flags ≡ true
+  pub has_layout : IsOk info.uniform_layout ⊎ IsOk info.storage_layout
+  pub strides : HasNoShortStride g t
+
+-- what data of a fixed size is marked with if hosts may share it
+abbrev pub sized_for_hosts : ℕ
+sized_for_hosts = union_of (DATA ∷ SIZED ∷ HOST_SHAREABLE ∷ [])
+
+-- what data is marked with if hosts may share it, and no override decides its size
+abbrev pub resolved_for_hosts : ℕ
+resolved_for_hosts = union_of (DATA ∷ CREATION_RESOLVED ∷ HOST_SHAREABLE ∷ [])
+
+-- the leaves of a type that hosts may share are aligned and share no byte; they end within its size, or where the elements of the runtime-sized array end that it ends in
+pub record LeavesAreSeparate (g : GlobalLists) (infos : List TypeInfo) (t : ℕ) : Type 0 where
+  pub sized : IsLaidOutForHosts g infos t sized_for_hosts → (n : ℕ) → AreSeparate g n t (size_at_index g t)
+  pub runtime_sized : IsLaidOutForHosts g infos t resolved_for_hosts → (first stride : ℕ) → EndsInArray g t first stride → (n : ℕ) → AreSeparate g n t (first + n * stride)
+
+-- the leaves of each type are as hosts may rely on
+abbrev pub AllLeavesAreSeparate : GlobalLists → List TypeInfo → Type 0
+AllLeavesAreSeparate g infos = (t : ℕ) → LeavesAreSeparate g infos t

@@ -1,0 +1,107 @@
+//! Laws of accepted modules, for code that fills or reads buffers which it shares with shaders.
+//!
+//! A law is a function that does nothing: its contract says what holds of the values that it is called
+//! with, and a caller may rely on that from then on. Each requires that the validator has accepted
+//! this module, with overrides resolved or not; `Validator::validate` and
+//! `validate_resolved_overrides` promise that if they return `Ok`. Of a handle to no type of the
+//! module nothing is said. Sizes, offsets, spans, strides and alignments are in bytes.
+//!
+//! The leaves of a value are its scalars, vectors, matrices and atomics, at any depth of arrays and
+//! structs. Each is named by the indices of the elements and members that lead to it.
+
+ghost use Rattle.std.specs.Prelude.{◌+◌, ◌*◌, ℕ, IfSome, slice_get};
+ghost use Rattle.naga_ir.specs.ItemReferences.{global_lists};
+ghost use Rattle.naga_types.specs.HostLayouts.{HasStorageByLeaves, HasUniformByLeaves, HaveLeafAlignments, IsForHosts, MembersHaveFlags};
+ghost use Rattle.naga_types.specs.HostLeaves.{IsLaidOutForHosts, resolved_for_hosts, sized_for_hosts};
+ghost use Rattle.naga_typing.specs.Leaves.{AreSeparate, EndsInArray, size_at_index};
+ghost use Rattle.naga_valid.specs.Accepted.{IsAccepted, settings_of};
+
+use crate::driver::Validator;
+use naga_ir::handle::Handle;
+use naga_ir::ir::Module;
+use naga_ir::tags::TypeTag;
+
+/// The leaves of a type of a fixed size: the first byte of each is a multiple of its alignment, each
+/// ends within the size of the type, and no two share a byte. So a host can fill as many bytes as the
+/// size, leaf by leaf.
+///
+/// It holds of types with the flags `DATA`, `SIZED` and `HOST_SHAREABLE` that have a uniform or a
+/// storage layout, if no array inside has a stride below the size of its elements, which is no rule of
+/// modules so far. Nothing is promised if both layouts are errors. An array whose length is an
+/// override that gives no count has no leaves. `length` is that of runtime-sized arrays alone.
+pub fn leaves(
+    module: &Module,
+    validator: &Validator,
+    resolved: bool,
+    ty: Handle<TypeTag>,
+    length: u32,
+)
+    requires accepted { IsAccepted «module».now (settings_of validator.now resolved) validator.now.facts }
+    ensures { IsLaidOutForHosts (global_lists «module».now) validator.now.facts.infos ty sized_for_hosts
+        → AreSeparate (global_lists «module».now) length ty (size_at_index (global_lists «module».now) ty) }
+{}
+
+/// The leaves of a type that ends in a runtime-sized array of `length` elements, which is the type
+/// itself, or the last member of a struct: the first byte of each is a multiple of its alignment, no
+/// two share a byte, and each ends within the offset of the array, 0 if it is the type itself, plus
+/// `length` times its stride. So a host can fill as many bytes, leaf by leaf.
+///
+/// It holds of types with the flags `DATA`, `CREATION_RESOLVED` and `HOST_SHAREABLE` that have a
+/// uniform or a storage layout, if no array inside has a stride below the size of its elements, which
+/// is no rule of modules so far. Nothing is promised if both layouts are errors, nor that this number
+/// of bytes fits into 32 bits.
+pub fn leaves_at_length(
+    module: &Module,
+    validator: &Validator,
+    resolved: bool,
+    ty: Handle<TypeTag>,
+    length: u32,
+)
+    requires accepted { IsAccepted «module».now (settings_of validator.now resolved) validator.now.facts }
+    ensures { IsLaidOutForHosts (global_lists «module».now) validator.now.facts.infos ty resolved_for_hosts
+        → (first stride : ℕ) → EndsInArray (global_lists «module».now) ty first stride
+        → AreSeparate (global_lists «module».now) length ty (first + length * stride) }
+{}
+
+/// When a type can stand in storage buffers, by its leaves. The leaf alignment of a type is the
+/// greatest alignment that a leaf of it has if each array is read with one element. The type has a
+/// storage layout exactly if, for itself and all types inside it, each offset of a member is a
+/// multiple of the leaf alignment of the member's type, each span of that of the struct, and each
+/// stride of that of the elements; the layout is then its leaf alignment.
+///
+/// It holds of types with the flags `DATA` and `HOST_SHAREABLE`; these and all types inside them have
+/// leaf alignments. Which error stands in the place of a layout isn't said.
+pub fn storage_ok(module: &Module, validator: &Validator, resolved: bool, ty: Handle<TypeTag>)
+    requires accepted { IsAccepted «module».now (settings_of validator.now resolved) validator.now.facts }
+    ensures { IfSome (slice_get validator.now.facts.infos ty) (λ info. IsForHosts info
+        → HaveLeafAlignments (global_lists «module».now) ty × HasStorageByLeaves (global_lists «module».now) ty info) }
+{}
+
+/// When a type can stand in uniform buffers, by its leaves. The uniform alignment of a type is its
+/// leaf alignment, as in `storage_ok`, but at least 16 for structs and arrays. The type has a uniform
+/// layout exactly if these hold of itself and of all types inside it; the layout is then its uniform
+/// alignment.
+///
+/// - Each member has a fixed size, and an offset that is a multiple of the uniform alignment of its
+///   type.
+/// - The member after a struct begins after the room of the struct, its span rounded up to a multiple
+///   of 16.
+/// - Each span is a multiple of the leaf alignment of the struct, and each stride of the uniform
+///   alignment of the array.
+///
+/// It holds of types with the flags `DATA` and `HOST_SHAREABLE`; these and all types inside them have
+/// leaf alignments. Which error stands in the place of a layout isn't said.
+pub fn uniform_ok(module: &Module, validator: &Validator, resolved: bool, ty: Handle<TypeTag>)
+    requires accepted { IsAccepted «module».now (settings_of validator.now resolved) validator.now.facts }
+    ensures { IfSome (slice_get validator.now.facts.infos ty) (λ info. IsForHosts info
+        → HaveLeafAlignments (global_lists «module».now) ty × HasUniformByLeaves (global_lists «module».now) validator.now.facts.infos ty info) }
+{}
+
+/// Members may be used for all that their struct may, but for being passed on between stages: each
+/// flag of a struct, `IO_SHAREABLE` aside, is a flag of the type of each member.
+///
+/// It says nothing of types that aren't structs. A struct may lack flags that all its members have.
+pub fn struct_flags(module: &Module, validator: &Validator, resolved: bool, ty: Handle<TypeTag>)
+    requires accepted { IsAccepted «module».now (settings_of validator.now resolved) validator.now.facts }
+    ensures { IfSome (slice_get validator.now.facts.infos ty) (λ info. MembersHaveFlags (global_lists «module».now) validator.now.facts.infos ty info) }
+{}
