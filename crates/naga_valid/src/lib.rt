@@ -6,6 +6,7 @@
 
 pub mod driver;
 pub mod error;
+pub mod laws;
 
 pub use driver::Validator;
 pub use error::ValidationError;
@@ -101,6 +102,10 @@ pub use naga_ir::types::Type;
 pub use naga_ir::types::TypeInner;
 pub use naga_ir::types::VectorSize;
 pub use naga_ir::unique_arena::UniqueArena;
+pub use naga_leaves::cursor::Leaves;
+pub use naga_leaves::cursor::leaves_of;
+pub use naga_leaves::leaf::Leaf;
+pub use naga_leaves::leaf::leaf_at;
 pub use naga_types::compose::validate_compose;
 pub use naga_types::compose::validate_compose_at;
 pub use naga_types::error::ComposeError;

@@ -1,0 +1,263 @@
+-- Steps from place to place.
+use Rattle.std.proofs.Common.{◌≡◌, ◌+◌, ◌<◌, ◌≤◌, ⊎_elim, ℕ, suc, List, [], ◌∷◌, ◌++◌, Option, Some, None, IfSome, All, length, refl, sym, subst, ap, ◌∙◌, arith}
+use Rattle.std.specs.Option.{option_map}
+use Rattle.std.proofs.lemmas.List.{append-nil}
+use Rattle.std.proofs.lemmas.List.Elements.{All-contains, Contains-append_right}
+use Rattle.std.proofs.lemmas.Option.{none-some}
+use Rattle.naga_arena.specs.Numbers.{largest_u32, largest_u64}
+use Rattle.naga_ir.specs.Handles.{GlobalReferencesOk}
+use Rattle.naga_ir.specs.ItemReferences.{GlobalLists}
+use Rattle.naga_leaves.proofs.Order.{Extends, Past, extends_or_next, extends_or_past, from_below, from_extension, from_itself, from_lesser, past_next, to_extension}
+use Rattle.naga_leaves.proofs.Path.{moved_begins, moved_twice}
+use Rattle.naga_leaves.proofs.Places.{are_indexes, as_many, back, leaf_at_none, leaf_at_part, leaf_in_place, part_precedes, part_there}
+use Rattle.naga_leaves.proofs.Weights.{around_more, entering, leaving, passing}
+use Rattle.naga_leaves.specs.Coming.{HasLeafFrom, HasNoneFrom, HasSameFrom, IsFirstLeaf}
+use Rattle.naga_leaves.specs.Order.{ComesFrom}
+use Rattle.naga_leaves.specs.declared.cursor.Place.{Place}
+use Rattle.naga_leaves.specs.declared.cursor.Step.{Step}
+use Rattle.naga_leaves.specs.declared.cursor.Step.TheVariants.{Leaf, Other, End}
+use Rattle.naga_leaves.specs.steps.Steps.{Leaves, Steps}
+use Rattle.naga_leaves.specs.declared.leaf.Part.{Part}
+use Rattle.naga_leaves.specs.Places.{IsEntered, IsLeft, IsPlace, IsUnmoved, LeadsTo, around_left, further, part_left, part_of_type, place_left, place_start}
+use Rattle.naga_typing.specs.Leaves as spec
+use Rattle.naga_typing.specs.Leaves.{Elements, LeafBytes, leaf_at, moved}
+
+-- an index within a path
+index_within : (P : ℕ → Type 0) (path : List ℕ) (i : ℕ) (rest : List ℕ) → All P (path ++ i ∷ rest) → P i
+index_within P path i rest all = All-contains P (path ++ i ∷ rest) i all (Contains-append_right path (i ∷ rest) i (0, omega arith, refl))
+
+module _ (g : GlobalLists) (elements_of : Elements) (t : ℕ) where
+  abbrev LeafAt : List ℕ → Option LeafBytes
+  LeafAt = leaf_at g elements_of t
+
+  -- if there is no leaf at a path, the leaves from it are those from its extensions on
+  pub past_none : (b : List ℕ) → leaf_at g elements_of t b ≡ None → HasSameFrom g elements_of t b (b ++ 0 ∷ [])
+  past_none b none = record {
+    into = λ q l h. record { has = h.has; after = to_extension b q h.after (λ e. none-some l (sym (ap (leaf_at g elements_of t) e ∙ none) ∙ h.has.there)) };
+    back = λ q l h. record { has = h.has; after = (from_extension b q h.after).0 };
+  }
+
+  -- if there is one, it is the first
+  pub first_is : (b : List ℕ) (l : LeafBytes) → leaf_at g elements_of t b ≡ Some l → l.first ≤ largest_u64 → All (λ i. i ≤ largest_u32) b → IsFirstLeaf g elements_of t b b (b ++ 0 ∷ []) l
+  first_is b l there begins indexes = record {
+    has = record { has = record { there = there; begins = begins; indexes = indexes }; after = from_itself b };
+    first = λ q k h. h.after;
+    others = λ q k h other. record { has = h.has; after = to_extension b q h.after other };
+    no_more = λ q k h. let w = from_extension b q h.after in (record { has = h.has; after = w.0 }, w.1);
+  }
+
+  -- a part whose leaves all begin past all numbers may be passed
+  pub past_far : (p : List ℕ) (n : ℕ) → ((rest : List ℕ) → IfSome (leaf_at g elements_of t (p ++ n ∷ rest)) (λ leaf. largest_u64 < leaf.first))
+      → HasSameFrom g elements_of t (p ++ n ∷ []) (p ++ (n + 1) ∷ [])
+  past_far p n far = record {
+    into = λ q l h. record { has = h.has; after = ⊎_elim (λ (e : (rest : List ℕ) × (q ≡ p ++ n ∷ rest)). absurd (too_far q l h e.0 e.1)) (λ (a : ComesFrom (p ++ (n + 1) ∷ []) q). a) (extends_or_next p q n h.after) };
+    back = λ q l h. record { has = h.has; after = from_lesser p q n (n + 1) (omega arith) h.after };
+  }
+    where
+      too_far : (q : List ℕ) (l : LeafBytes) → HasLeafFrom g elements_of t (p ++ n ∷ []) q l → (rest : List ℕ) → q ≡ p ++ n ∷ rest → ⊥
+      too_far q l h rest e =
+          let there : leaf_at g elements_of t (p ++ n ∷ rest) ≡ Some l = ap (leaf_at g elements_of t) (sym e) ∙ h.has.there in
+          let past : largest_u64 < l.first = subst (λ (o : Option LeafBytes). IfSome o (λ leaf. largest_u64 < leaf.first)) there (far rest) in
+          let begins : l.first ≤ largest_u64 = h.has.begins in omega arith
+
+  module _ (p : List ℕ) (n : ℕ) (none : (m : ℕ) (rest : List ℕ) → n ≤ m → m ≤ largest_u32 → leaf_at g elements_of t (p ++ m ∷ rest) ≡ None) where
+    not_extended : (q : List ℕ) (l : LeafBytes) → HasLeafFrom g elements_of t (p ++ n ∷ []) q l → Extends p q n → ⊥
+    not_extended q l h e =
+        let fits : e.index ≤ largest_u32 = index_within (λ i. i ≤ largest_u32) p e.index e.rest (subst (All (λ i. i ≤ largest_u32)) e.is h.has.indexes) in
+        none-some l (sym (ap (leaf_at g elements_of t) e.is ∙ none e.index e.rest e.from fits) ∙ h.has.there)
+
+    is_past : (q : List ℕ) (l : LeafBytes) → HasLeafFrom g elements_of t (p ++ n ∷ []) q l → Past p q
+    is_past q l h = ⊎_elim (λ (e : Extends p q n). absurd (not_extended q l h e)) (λ (a : Past p q). a) (extends_or_past p q n h.after)
+
+    -- a part that has no more leaves may be left
+    pub past_part : (r : List ℕ) (i : ℕ) → p ≡ r ++ i ∷ [] → HasSameFrom g elements_of t (p ++ n ∷ []) (r ++ (i + 1) ∷ [])
+    past_part r i e = record {
+      into = λ q l h. record { has = h.has; after = past_next r q i (subst (λ p. Past p q) e (is_past q l h)) };
+      back = λ q l h. record { has = h.has; after = subst (λ p. ComesFrom (p ++ n ∷ []) q) (sym e) (from_below r q i n h.after) };
+    }
+
+    -- and at the whole nothing is left
+    pub none_left : p ≡ [] → HasNoneFrom g elements_of t (p ++ n ∷ [])
+    none_left e q l h = subst (λ p. Past p q) e (is_past q l h)
+
+-- two paths of equal parts are equal
+pub same_start : (p q : List ℕ) (m n : ℕ) → p ≡ q → m ≡ n → p ++ m ∷ [] ≡ q ++ n ∷ []
+same_start p q m n e f = ap (λ p. p ++ m ∷ []) e ∙ ap (λ m. q ++ m ∷ []) f
+
+module _ (g : GlobalLists) (elements_of : Elements) (place : Place) (t : ℕ) (around : List Part) (path : List ℕ) (part : Part) (next : ℕ)
+    (ty_is : place.ty ≡ t) (around_is : place.around.items ≡ around) (path_is : place.path.items ≡ path) (part_is : place.part ≡ part) (next_is : place.next ≡ next) where
+  -- a place by its parts
+  pub place_by : t < length g.types → LeadsTo g elements_of t around path part → next ≤ suc largest_u32 → IsPlace g elements_of place
+  place_by there leads within = record {
+    exists = subst (λ t. t < length g.types) (sym ty_is) there;
+    leads =
+        subst (λ t. LeadsTo g elements_of t place.around.items place.path.items place.part) (sym ty_is)
+        (subst (λ a. LeadsTo g elements_of t a place.path.items place.part) (sym around_is)
+        (subst (λ p. LeadsTo g elements_of t around p place.part) (sym path_is)
+        (subst (λ q. LeadsTo g elements_of t around path q) (sym part_is) leads)));
+    next = subst (λ n. n ≤ suc largest_u32) (sym next_is) within;
+  }
+
+  pub start_by : place_start place ≡ path ++ next ∷ []
+  start_by = same_start place.path.items path place.next next path_is next_is
+
+  pub left_by : place_left place ≡ around_left around path + part_left part.ty next
+  left_by =
+      ap (λ a. around_left a place.path.items + part_left place.part.ty place.next) around_is
+      ∙ ap (λ p. around_left around p + part_left place.part.ty place.next) path_is
+      ∙ ap (λ (q : Part). around_left around path + part_left q.ty place.next) part_is
+      ∙ ap (λ n. around_left around path + part_left part.ty n) next_is
+
+module _ (g : GlobalLists) (ok : GlobalReferencesOk g) (elements_of : Elements) (before : Place) (is : IsPlace g elements_of before) where
+  -- the type of the part exists
+  pub type_there : before.part.ty < length g.types
+  type_there = part_there g elements_of before.ty ok is.exists before.around.items before.path.items before.part is.leads
+
+  pub same_lengths : length before.around.items ≡ length before.path.items
+  same_lengths = as_many g elements_of before.ty before.around.items before.path.items before.part is.leads
+
+  -- the leaf at the place is its part, if that is one
+  pub leaf_here : leaf_at g elements_of before.ty before.path.items ≡ option_map (moved before.part.first) (leaf_at g elements_of before.part.ty [])
+  leaf_here =
+      ap (leaf_at g elements_of before.ty) (sym (append-nil before.path.items))
+      ∙ leaf_in_place g elements_of before.ty before.around.items before.path.items before.part is.leads []
+
+  pub indexes_here : All (λ i. i ≤ largest_u32) before.path.items
+  indexes_here = are_indexes g elements_of before.ty before.around.items before.path.items before.part is.leads
+
+  module _ (none : (m : ℕ) → before.next ≤ m → m ≤ largest_u32 → part_of_type g elements_of before.part.ty m ≡ None) where
+    no_leaf : (m : ℕ) (rest : List ℕ) → before.next ≤ m → m ≤ largest_u32 → leaf_at g elements_of before.ty (before.path.items ++ m ∷ rest) ≡ None
+    no_leaf m rest from within =
+        leaf_in_place g elements_of before.ty before.around.items before.path.items before.part is.leads (m ∷ rest)
+        ∙ ap (option_map (moved before.part.first)) (leaf_at_none g elements_of before.part.ty m rest (none m from within))
+
+    pub at_end : before.path.items ≡ [] → HasNoneFrom g elements_of before.ty (place_start before)
+    at_end e = none_left g elements_of before.ty before.path.items before.next no_leaf e
+
+    module _ (now : Place) (i : ℕ) (left : IsLeft before now i) where
+      pub left_same : HasSameFrom g elements_of before.ty (place_start before) (place_start now)
+      left_same =
+          subst (HasSameFrom g elements_of before.ty (place_start before)) (sym (same_start now.path.items now.path.items now.next (i + 1) refl left.next))
+          (past_part g elements_of before.ty before.path.items before.next no_leaf now.path.items i left.path)
+
+      before_around : LeadsTo g elements_of before.ty now.around.items now.path.items now.part × (i ≤ largest_u32)
+      before_around = back g elements_of before.ty before.around.items before.path.items before.part is.leads now.around.items now.path.items now.part i left.around left.path
+
+      pub left_place : IsPlace g elements_of now
+      left_place =
+          place_by g elements_of now before.ty now.around.items now.path.items now.part (i + 1) left.ty refl refl refl left.next is.exists before_around.0
+          (let within : i ≤ largest_u32 = before_around.1 in omega arith)
+
+      pub left_fewer : place_left now < place_left before
+      left_fewer =
+          let many : length now.around.items ≡ length now.path.items = as_many g elements_of before.ty now.around.items now.path.items now.part before_around.0 in
+          let more : around_left (now.around.items ++ now.part ∷ []) (now.path.items ++ i ∷ []) ≡ around_left now.around.items now.path.items + part_left now.part.ty (i + 1) = around_more now.around.items now.path.items now.part i many in
+          let old : place_left before ≡ around_left (now.around.items ++ now.part ∷ []) (now.path.items ++ i ∷ []) + part_left before.part.ty before.next =
+          left_by g elements_of before before.ty (now.around.items ++ now.part ∷ []) (now.path.items ++ i ∷ []) before.part before.next refl left.around left.path refl refl in
+          let new : place_left now ≡ around_left now.around.items now.path.items + part_left now.part.ty (i + 1) =
+          left_by g elements_of now before.ty now.around.items now.path.items now.part (i + 1) left.ty refl refl refl left.next in
+          sums (place_left before) (place_left now) _ _ _ old new more (leaving before.part.ty before.next is.next)
+        where
+          sums : (old new outer all inner : ℕ) → old ≡ outer + inner → new ≡ all → outer ≡ all → 0 < inner → new < old
+          sums old new outer all inner a b e h = omega arith
+
+  module _ (n : ℕ) (child : spec.Part) (next_is : n ≡ before.next) (within : n ≤ largest_u32) (at : part_of_type g elements_of before.part.ty n ≡ Some child) where
+    abbrev leaf_of_child : List ℕ → Option LeafBytes
+    leaf_of_child rest = option_map (moved (before.part.first + child.first)) (leaf_at g elements_of child.ty rest)
+
+    in_child : (rest : List ℕ) → leaf_at g elements_of before.ty (before.path.items ++ n ∷ rest) ≡ leaf_of_child rest
+    in_child rest =
+        leaf_in_place g elements_of before.ty before.around.items before.path.items before.part is.leads (n ∷ rest)
+        ∙ ap (option_map (moved before.part.first)) (leaf_at_part g elements_of before.part.ty n rest child at)
+        ∙ moved_twice before.part.first child.first (leaf_at g elements_of child.ty rest)
+
+    -- a part that begins past all numbers is passed
+    module _ (now : Place) (path_is : now.path.items ≡ before.path.items) (new_is : now.next ≡ before.next + 1) where
+      pub passed_same : largest_u64 < before.part.first + child.first → HasSameFrom g elements_of before.ty (place_start before) (place_start now)
+      passed_same far =
+          subst (λ b. HasSameFrom g elements_of before.ty b (place_start now)) (same_start before.path.items before.path.items n before.next refl next_is)
+          (subst (HasSameFrom g elements_of before.ty (before.path.items ++ n ∷ [])) (sym (same_start now.path.items before.path.items now.next (n + 1) path_is (new_is ∙ ap (λ k. k + 1) (sym next_is))))
+          (past_far g elements_of before.ty before.path.items n (λ rest. subst (λ (o : Option LeafBytes). IfSome o (λ leaf. largest_u64 < leaf.first)) (sym (in_child rest)) (moved_begins (before.part.first + child.first) (leaf_at g elements_of child.ty rest) far))))
+
+      module _ (ty_is : now.ty ≡ before.ty) (around_is : now.around.items ≡ before.around.items) (part_is : now.part ≡ before.part) where
+        pub passed_place : IsPlace g elements_of now
+        passed_place =
+            place_by g elements_of now before.ty before.around.items before.path.items before.part (before.next + 1) ty_is around_is path_is part_is new_is is.exists is.leads (omega arith)
+
+        pub passed_fewer : place_left now < place_left before
+        passed_fewer =
+            let new : place_left now ≡ around_left before.around.items before.path.items + part_left before.part.ty (before.next + 1) =
+            left_by g elements_of now before.ty before.around.items before.path.items before.part (before.next + 1) ty_is around_is path_is part_is new_is in
+            sums (place_left now) _ _ (part_left before.part.ty before.next) new (passing before.part.ty before.next (omega arith))
+          where
+            sums : (new outer a b : ℕ) → new ≡ outer + a → a < b → new < outer + b
+            sums new outer a b e h = omega arith
+
+    module _ (now : Place) (part : Part) (entered : IsEntered before now n part) (part_is : part ≡ record { ty = child.ty; first = before.part.first + child.first }) where
+      leads_on : LeadsTo g elements_of before.ty (before.around.items ++ before.part ∷ []) (before.path.items ++ n ∷ []) (record { ty = child.ty; first = before.part.first + child.first })
+      leads_on = further before.around.items before.path.items before.part n child is.leads at within
+
+      pub entered_place : IsPlace g elements_of now
+      entered_place =
+          place_by g elements_of now before.ty (before.around.items ++ before.part ∷ []) (before.path.items ++ n ∷ []) (record { ty = child.ty; first = before.part.first + child.first }) 0
+          entered.ty entered.around entered.path (entered.part_is ∙ part_is) entered.next is.exists leads_on (omega arith)
+
+      pub entered_fewer : place_left now < place_left before
+      entered_fewer =
+          let new : place_left now ≡ around_left (before.around.items ++ before.part ∷ []) (before.path.items ++ n ∷ []) + part_left child.ty 0 =
+          left_by g elements_of now before.ty (before.around.items ++ before.part ∷ []) (before.path.items ++ n ∷ []) (record { ty = child.ty; first = before.part.first + child.first }) 0
+          entered.ty entered.around entered.path (entered.part_is ∙ part_is) entered.next in
+          let more : around_left (before.around.items ++ before.part ∷ []) (before.path.items ++ n ∷ []) ≡ around_left before.around.items before.path.items + part_left before.part.ty (n + 1) =
+          around_more before.around.items before.path.items before.part n same_lengths in
+          let less : part_left child.ty 0 + part_left before.part.ty (n + 1) < part_left before.part.ty n = entering before.part.ty n within child.ty (part_precedes g elements_of ok before.part.ty n child at).0 in
+          sums (place_left now) _ _ _ _ _ _ new more less (ap (λ k. part_left before.part.ty k) next_is)
+        where
+          sums : (new outer around inner a b c : ℕ) → new ≡ outer + inner → outer ≡ around + a → inner + a < b → b ≡ c → new < around + c
+          sums new outer around inner a b c e f h k = omega arith
+
+      starts_before : place_start before ≡ now.path.items
+      starts_before = same_start before.path.items before.path.items before.next n refl (sym next_is) ∙ sym entered.path
+
+      starts_now : place_start now ≡ now.path.items ++ 0 ∷ []
+      starts_now = same_start now.path.items now.path.items now.next 0 refl entered.next
+
+      leaf_now : leaf_at g elements_of before.ty now.path.items ≡ option_map (moved now.part.first) (leaf_at g elements_of now.part.ty [])
+      leaf_now = ap (λ t. leaf_at g elements_of t now.path.items) (sym entered.ty)
+          ∙ (ap (leaf_at g elements_of now.ty) (sym (append-nil now.path.items)) ∙ leaf_in_place g elements_of now.ty now.around.items now.path.items now.part entered_place.leads [])
+
+      -- at a part that is no leaf no leaf is passed
+      pub entered_same : option_map (moved now.part.first) (leaf_at g elements_of now.part.ty []) ≡ None → HasSameFrom g elements_of before.ty (place_start before) (place_start now)
+      entered_same none =
+          subst (λ b. HasSameFrom g elements_of before.ty b (place_start now)) (sym starts_before)
+          (subst (HasSameFrom g elements_of before.ty now.path.items) (sym starts_now) (past_none g elements_of before.ty now.path.items (leaf_now ∙ none)))
+
+      -- a part that is a leaf is the first
+      pub entered_leaf : (l : LeafBytes) → option_map (moved now.part.first) (leaf_at g elements_of now.part.ty []) ≡ Some l → l.first ≤ largest_u64
+          → IsFirstLeaf g elements_of before.ty (place_start before) now.path.items (place_start now) l
+      entered_leaf l some begins =
+          subst (λ b. IsFirstLeaf g elements_of before.ty b now.path.items (place_start now) l) (sym starts_before)
+          (subst (λ r. IsFirstLeaf g elements_of before.ty now.path.items now.path.items r l) (sym starts_now)
+          (first_is g elements_of before.ty now.path.items l (leaf_now ∙ some) begins
+          (are_indexes g elements_of now.ty now.around.items now.path.items now.part entered_place.leads)))
+
+module _ (g : GlobalLists) (elements_of : Elements) (before now : Place) (same : IsUnmoved before now) where
+  -- a place that did not move is one still
+  pub unmoved_place : IsPlace g elements_of before → IsPlace g elements_of now
+  unmoved_place is =
+      place_by g elements_of now before.ty before.around.items before.path.items before.part before.next same.ty same.around same.path same.part same.next is.exists is.leads is.next
+
+  pub unmoved_start : place_start now ≡ place_start before
+  unmoved_start = same_start now.path.items before.path.items now.next before.next same.path same.next
+
+module _ (g : GlobalLists) (ok : GlobalReferencesOk g) (elements_of : Elements) (before now : Place) (is : IsPlace g elements_of before)
+    (none : (m : ℕ) → before.next ≤ m → m ≤ largest_u32 → part_of_type g elements_of before.part.ty m ≡ None) where
+  -- to leave a part without more parts is a step
+  pub left_is_place : (s : Step) → Leaves before now s → IsPlace g elements_of now
+  left_is_place (Leaf leaf) h = absurd h
+  left_is_place Other h = left_place g ok elements_of before is none now h.0 h.1
+  left_is_place End h = unmoved_place g elements_of before now h.1 is
+
+  pub left_steps : (s : Step) → Leaves before now s → Steps g elements_of before now s
+  left_steps (Leaf leaf) h = absurd h
+  left_steps Other h = (left_same g ok elements_of before is none now h.0 h.1, left_fewer g ok elements_of before is none now h.0 h.1)
+  left_steps End h = (at_end g ok elements_of before is none h.0, h.1)

@@ -1,0 +1,66 @@
+-- Which leaves a cursor has still to come to.
+use Rattle.std.specs.Prelude.{◌≡◌, ◌<◌, ℕ, suc, false, List, [], if◌then◌else◌}
+use Rattle.naga_ir.specs.Handles.{GlobalReferencesOk}
+use Rattle.naga_ir.specs.ItemReferences.{GlobalLists}
+use Rattle.naga_leaves.specs.Coming.{HasLeaf, HasLeafFrom, HasNoneFrom, HasSameFrom, IsFirstLeaf}
+use Rattle.naga_leaves.specs.declared.cursor.Leaves.{Leaves}
+use Rattle.naga_leaves.specs.Places.{IsPlace, place_left, place_start}
+use Rattle.naga_typing.specs.Context.{lists_of}
+use Rattle.naga_typing.specs.Leaves.{Elements, LeafBytes, elements}
+
+-- the lists of the module that a cursor goes over
+abbrev pub lists_under : Leaves → GlobalLists
+lists_under leaves = lists_of leaves.gctx
+
+-- how many elements arrays have for a cursor
+abbrev pub elements_for : Leaves → Elements
+elements_for leaves = elements (lists_under leaves) leaves.length
+
+-- the path to which a cursor has come
+abbrev pub path_of : Leaves → List ℕ
+path_of leaves = leaves.place.path.items
+
+-- the first path that a cursor has still to come to
+abbrev pub start_of : Leaves → List ℕ
+start_of leaves = if leaves.is_begun then place_start leaves.place else []
+
+-- more than the calls that still return a leaf
+abbrev pub left_of : Leaves → ℕ
+left_of leaves = if leaves.is_begun then place_left leaves.place else suc (place_left leaves.place)
+
+-- a cursor has still to come to a leaf at a path
+abbrev pub IsToCome : Leaves → List ℕ → LeafBytes → Type 0
+IsToCome leaves path leaf = HasLeafFrom (lists_under leaves) (elements_for leaves) leaves.place.ty (start_of leaves) path leaf
+
+-- a cursor is at a part of a value, and before its first step at the whole
+pub record IsCursor (leaves : Leaves) : Type 0 where
+  pub references : GlobalReferencesOk (lists_under leaves)
+  pub place : IsPlace (lists_under leaves) (elements_for leaves) leaves.place
+  pub whole : leaves.is_begun ≡ false → (leaves.place.path.items ≡ []) × (leaves.place.next ≡ 0)
+
+-- a cursor has still to come to all leaves of a type
+pub record ComesToAll (g : GlobalLists) (elements_of : Elements) (t : ℕ) (leaves : Leaves) : Type 0 where
+  pub all : (path : List ℕ) (leaf : LeafBytes) → HasLeaf g elements_of t path leaf → IsToCome leaves path leaf
+  pub only : (path : List ℕ) (leaf : LeafBytes) → IsToCome leaves path leaf → HasLeaf g elements_of t path leaf
+
+-- a cursor goes over the same type as before
+pub record IsOverSame (before now : Leaves) : Type 0 where
+  pub lists : lists_under now ≡ lists_under before
+  pub length : now.length ≡ before.length
+  pub ty : now.place.ty ≡ before.place.ty
+
+-- a cursor came to the first leaf that it had still to come to, and has now still to come to all others
+pub record IsNext (before now : Leaves) (leaf : LeafBytes) : Type 0 where
+  pub over : IsOverSame before now
+  pub first : IsFirstLeaf (lists_under before) (elements_for before) before.place.ty (start_of before) (path_of now) (start_of now) leaf
+  pub fewer : left_of now < left_of before
+
+-- a cursor has still to come to the leaves that it had still to come to
+pub record ComesToSame (before now : Leaves) : Type 0 where
+  pub over : IsOverSame before now
+  pub same : HasSameFrom (lists_under before) (elements_for before) before.place.ty (start_of before) (start_of now)
+
+-- a cursor had no leaf to come to, and has none
+pub record IsAtEnd (before now : Leaves) : Type 0 where
+  pub same : ComesToSame before now
+  pub none : HasNoneFrom (lists_under before) (elements_for before) before.place.ty (start_of before)

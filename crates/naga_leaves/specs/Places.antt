@@ -1,0 +1,71 @@
+-- Places among the parts of a value.
+use Rattle.std.specs.Prelude.{◌≡◌, ◌+◌, ◌*◌, ◌-◌, ◌<◌, ◌≤◌, ℕ, zero, suc, List, [], ◌∷◌, ◌++◌, Option, Some, length, option_and_then}
+use Rattle.naga_arena.specs.Numbers.{largest_u32}
+use Rattle.naga_ir.specs.ItemReferences.{GlobalLists}
+use Rattle.naga_leaves.specs.declared.cursor.Place.{Place}
+use Rattle.naga_leaves.specs.declared.leaf.Part.{Part}
+use Rattle.naga_typing.specs.Leaves as spec
+use Rattle.naga_typing.specs.Leaves.{Elements, inner_at}
+
+-- the part at an index of a type
+abbrev pub part_of_type : GlobalLists → Elements → ℕ → ℕ → Option spec.Part
+part_of_type g elements_of t i = option_and_then (λ inner. spec.part_at elements_of inner i) (inner_at g t)
+
+-- from a type a path leads through parts to a part, each with its first byte from the start of the whole
+pub data LeadsTo (g : GlobalLists) (elements_of : Elements) (whole : ℕ) : List Part → List ℕ → Part → Type 0 where
+  itself : LeadsTo g elements_of whole [] [] (record { ty = whole; first = 0 })
+  further : (around : List Part) (path : List ℕ) (part : Part) (i : ℕ) (child : spec.Part)
+      → LeadsTo g elements_of whole around path part → part_of_type g elements_of part.ty i ≡ Some child → i ≤ largest_u32
+      → LeadsTo g elements_of whole (around ++ part ∷ []) (path ++ i ∷ []) (record { ty = child.ty; first = part.first + child.first })
+
+-- the path of a place leads to its part, and the next index is at most one above the greatest of a path
+pub record IsPlace (g : GlobalLists) (elements_of : Elements) (place : Place) : Type 0 where
+  pub exists : place.ty < length g.types
+  pub leads : LeadsTo g elements_of place.ty place.around.items place.path.items place.part
+  pub next : place.next ≤ suc largest_u32
+
+-- the first path that a place has still to come to
+abbrev pub place_start : Place → List ℕ
+place_start place = place.path.items ++ place.next ∷ []
+
+-- more steps than the parts of a type can take, one at each index of 32 bits and one past these
+unfoldable pub weight : ℕ → ℕ
+weight zero = 1
+weight (suc t) = (suc (suc (suc largest_u32))) * weight t
+
+-- the steps that are left in a part from an index on
+abbrev pub part_left : ℕ → ℕ → ℕ
+part_left t next = (suc (suc largest_u32) - next) * weight t
+
+-- the steps that are left in the parts around, each from the index after that of the path
+unfoldable pub around_left : List Part → List ℕ → ℕ
+around_left [] path = 0
+around_left (part ∷ around) [] = 0
+around_left (part ∷ around) (i ∷ path) = part_left part.ty (i + 1) + around_left around path
+
+-- the steps that are left to a place at most
+abbrev pub place_left : Place → ℕ
+place_left place = around_left place.around.items place.path.items + part_left place.part.ty place.next
+
+-- a place went on to a part of its part
+pub record IsEntered (before now : Place) (index : ℕ) (part : Part) : Type 0 where
+  pub ty : now.ty ≡ before.ty
+  pub part_is : now.part ≡ part
+  pub next : now.next ≡ 0
+  pub around : now.around.items ≡ before.around.items ++ before.part ∷ []
+  pub path : now.path.items ≡ before.path.items ++ index ∷ []
+
+-- a place did not move
+pub record IsUnmoved (before now : Place) : Type 0 where
+  pub ty : now.ty ≡ before.ty
+  pub part : now.part ≡ before.part
+  pub next : now.next ≡ before.next
+  pub around : now.around.items ≡ before.around.items
+  pub path : now.path.items ≡ before.path.items
+
+-- a place went back to the part around its part, to the index after that of its path
+pub record IsLeft (before now : Place) (index : ℕ) : Type 0 where
+  pub ty : now.ty ≡ before.ty
+  pub next : now.next ≡ index + 1
+  pub around : before.around.items ≡ now.around.items ++ now.part ∷ []
+  pub path : before.path.items ≡ now.path.items ++ index ∷ []

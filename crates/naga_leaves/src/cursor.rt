@@ -1,0 +1,228 @@
+//! All leaves of a type, one after another.
+
+ghost use Rattle.std.specs.Prelude.{◌≡◌, ◌+◌, ◌<◌, [], ◌≤◌, ℕ, length as length_of, IfErr, IfOk, IfSome, MatchOption, OnErr, OnOk, None, Some, option_map, true};
+ghost use Rattle.naga_arena.specs.Numbers.{largest_u32};
+ghost use Rattle.naga_ir.specs.Handles.{GlobalReferencesOk};
+ghost use Rattle.naga_ir.specs.ItemReferences.{global_lists};
+ghost use Rattle.naga_leaves.specs.Leaf.{bytes_of};
+ghost use Rattle.naga_leaves.specs.Cursor.{ComesToAll, ComesToSame, IsAtEnd, IsCursor, IsNext, path_of};
+ghost use Rattle.naga_leaves.specs.steps.Coming.{ComesOn};
+ghost use Rattle.naga_leaves.specs.steps.Parts.{part_of};
+ghost use Rattle.naga_leaves.specs.Places.{IsEntered, IsPlace, IsUnmoved, part_of_type};
+ghost use Rattle.naga_leaves.specs.steps.Steps.{Leaves as LeavesPart, Steps};
+ghost use Rattle.naga_typing.specs.Context.{lists_of};
+ghost use Rattle.naga_typing.specs.Leaves.{Elements, elements, leaf_at, moved};
+
+use crate::leaf::{Leaf, Part, part_at, whole_leaf};
+use naga_ir::handle::Handle;
+use naga_ir::ir::Module;
+use naga_ir::memory::OutOfMemory;
+use naga_ir::tags::TypeTag;
+use naga_typing::context::{GlobalCtx, to_ctx};
+use std::alloc::Global;
+
+/// What a step comes to.
+#[derive(Clone, Copy)]
+enum Step {
+    /// A leaf.
+    Leaf(Leaf),
+    /// A part that is no leaf, or what follows a part.
+    Other,
+    /// The end of the whole value.
+    End,
+}
+
+/// A place among the parts of a value.
+#[derive(Drop)]
+struct Place {
+    /// The type of the whole value.
+    ty: Handle<TypeTag>,
+    /// The part to which the path leads, with its first byte from the start of the whole value.
+    part: Part,
+    /// The index of the element or member of that part to visit next.
+    next: u64,
+    /// The parts around it, from the whole value on.
+    around: Vec<Part>,
+    /// The indexes that lead from each of these to the next, and from the last to the part.
+    path: Vec<u32>,
+}
+
+impl Place {
+    /// The part to which the path leads, if it is a leaf.
+    fn leaf(&self, gctx: GlobalCtx<'_>) -> Option<Leaf>
+        requires exists { self.now.part.ty < length_of gctx.types.now }
+        requires references { GlobalReferencesOk (lists_of gctx) }
+        ensures leaf { (e : Elements) → option_map bytes_of result ≡ option_map (moved self.now.part.first) (leaf_at (lists_of gctx.entry) e self.now.part.ty []) }
+        ensures begins { IfSome result (λ leaf. leaf.first ≡ self.now.part.first) }
+    {
+        let Part { ty, first } = self.part;
+        let leaf = whole_leaf(&gctx.types[ty].inner, gctx)?;
+        Some(Leaf { first, ..leaf })
+    }
+
+    /// The element or member to visit next, with its index and its first byte from the start of the
+    /// part.
+    fn next_part(&self, length: u32, gctx: GlobalCtx<'_>) -> Option<(u32, Part)>
+        requires exists { self.now.part.ty < length_of gctx.types.now }
+        requires references { GlobalReferencesOk (lists_of gctx) }
+        ensures { MatchOption result
+            ((m : ℕ) → self.now.next ≤ m → m ≤ largest_u32 → part_of_type (lists_of gctx.entry) (elements (lists_of gctx.entry) length) self.now.part.ty m ≡ None)
+            (λ r. (r.0 ≡ self.now.next) × (r.0 ≤ largest_u32) × (part_of_type (lists_of gctx.entry) (elements (lists_of gctx.entry) length) self.now.part.ty r.0 ≡ Some (part_of r.1))) }
+    {
+        let index = u32::try_from(self.next).ok()?;
+        let part = part_at(&gctx.types[self.part.ty].inner, index, length, gctx)?;
+        Some((index, part))
+    }
+
+    /// Goes on to a part of the part.
+    fn enter(&mut self, index: u32, part: Part) -> Result<(), OutOfMemory>
+        ensures ok { OnOk result (IsEntered self.old self.new index part) }
+        ensures err { OnErr result (IsUnmoved self.old self.new) }
+    {
+        self.around.push(self.part)?;
+        if self.path.push(index).is_err() {
+            self.around.pop();
+            return Err(OutOfMemory);
+        }
+        self.part = part;
+        self.next = 0;
+        Ok(())
+    }
+
+    /// Goes back to the part around the part, and to what follows there.
+    fn leave(&mut self) -> Step
+        requires { length_of self.old.around.items ≡ length_of self.old.path.items }
+        ensures { LeavesPart self.old self.new result }
+    {
+        let Some(part) = self.around.pop() else {
+            return Step::End;
+        };
+        if let Some(index) = self.path.pop() {
+            self.part = part;
+            self.next = u64::from(index) + 1;
+        }
+        Step::Other
+    }
+
+    /// Visits the next element or member of the part, or leaves the part if it has no more.
+    fn step(&mut self, length: u32, gctx: GlobalCtx<'_>) -> Result<Step, OutOfMemory>
+        requires place { IsPlace (lists_of gctx) (elements (lists_of gctx) length) self.old }
+        requires references { GlobalReferencesOk (lists_of gctx) }
+        ensures place { IsPlace (lists_of gctx.entry) (elements (lists_of gctx.entry) length) self.new }
+        ensures ty { self.new.ty ≡ self.old.ty }
+        ensures ok { IfOk result (λ step. Steps (lists_of gctx.entry) (elements (lists_of gctx.entry) length) self.old self.new step) }
+        ensures err { OnErr result (IsUnmoved self.old self.new) }
+    {
+        let Some((index, part)) = self.next_part(length, gctx) else {
+            return Ok(self.leave());
+        };
+        let Some(first) = self.part.first.checked_add(part.first) else {
+            self.next += 1;
+            return Ok(Step::Other);
+        };
+        self.enter(index, Part { ty: part.ty, first })?;
+        Ok(match self.leaf(gctx) {
+            Some(leaf) => Step::Leaf(leaf),
+            None => Step::Other,
+        })
+    }
+}
+
+/// The leaves of a type, one after another, in the lexicographic order of their paths.
+///
+/// It requests memory for a path alone, as deep as arrays and structs are nested, and visits an
+/// element when it comes to it: an array may have 4294967295.
+#[derive(Drop)]
+pub struct Leaves<'a> {
+    gctx: GlobalCtx<'a>,
+    /// How many elements a runtime-sized array has.
+    length: u32,
+    /// Whether the whole value was visited.
+    is_begun: bool,
+    place: Place,
+}
+
+/// The leaves of the type `ty`, if runtime-sized arrays have `length` elements. Paths take their
+/// memory from `alloc`.
+///
+/// ```text
+/// let mut leaves = leaves_of(alloc, &module, ty, 1);
+/// while let Some(leaf) = leaves.next()? {
+///     pack(leaves.path(), leaf);
+/// }
+/// ```
+pub fn leaves_of<'a>(
+    alloc: Global,
+    module: &'a Module,
+    ty: Handle<TypeTag>,
+    length: u32,
+) -> Leaves<'a>
+    requires exists { ty < length_of «module».now.types }
+    requires references { GlobalReferencesOk (global_lists «module».now) }
+    ensures cursor { IsCursor result }
+    ensures all { ComesToAll (global_lists «module».now) (elements (global_lists «module».now) length) ty result }
+{
+    Leaves {
+        gctx: to_ctx(module),
+        length,
+        is_begun: false,
+        place: Place {
+            ty,
+            part: Part { ty, first: 0 },
+            next: 0,
+            around: Vec::new(alloc),
+            path: Vec::new(alloc),
+        },
+    }
+}
+
+impl<'a> Leaves<'a> {
+    /// The path of the leaf that `next` returned last: the indexes of elements and members that lead
+    /// to it, from the outermost on.
+    pub fn path(&self) -> &[u32]
+        ensures { result.now ≡ path_of self.now }
+    {
+        self.place.path.as_slice()
+    }
+
+    /// Visits the whole value unless it was visited, and returns it if it is a leaf.
+    fn begin(&mut self) -> Option<Leaf>
+        requires { IsCursor self.old }
+        ensures cursor { IsCursor self.new }
+        ensures begun { self.new.is_begun ≡ true }
+        ensures leaf { MatchOption result (ComesOn self.old self.new) (λ leaf. IsNext self.old self.new (bytes_of leaf)) }
+    {
+        if self.is_begun {
+            return None;
+        }
+        self.is_begun = true;
+        self.place.leaf(self.gctx)
+    }
+
+    /// The next leaf, or `None` after the last.
+    ///
+    /// A leaf that would begin past the byte `u64::MAX` is left out. The cost of all calls together is
+    /// linear in the number of elements and members at any depth.
+    ///
+    /// # Errors
+    ///
+    /// `OutOfMemory` if memory was refused for the path. A later call returns the same leaf if memory
+    /// isn't refused then.
+    pub fn next(&mut self) -> Result<Option<Leaf>, OutOfMemory>
+        requires { IsCursor self.old }
+        ensures cursor { IsCursor self.new }
+        ensures ok { IfOk result (λ found. MatchOption found (IsAtEnd self.old self.new) (λ leaf. IsNext self.old self.new (bytes_of leaf))) }
+        ensures err { OnErr result (ComesToSame self.old self.new) }
+    {
+        if let Some(leaf) = self.begin() {
+            return Ok(Some(leaf));
+        }
+        'steps: loop {
+            match self.place.step(self.length, self.gctx)? {
+                Step::Leaf(leaf) => return Ok(Some(leaf)),
+                Step::Other => {}
+                Step::End => return Ok(None),
+            }
+        }
+    }
+}

@@ -1,0 +1,169 @@
+//! The leaf of a type to which a path of indexes leads.
+
+ghost use Rattle.std.specs.Prelude.{[], ◌≡◌, ◌<◌, if◌then◌else◌, IfSome, MatchOption, None, Some, length, option_map};
+ghost use Rattle.std.specs.Prelude.{length as length_of};
+ghost use Rattle.naga_arena.specs.Numbers.{largest_u64};
+ghost use Rattle.naga_ir.specs.Handles.{GlobalReferencesOk};
+ghost use Rattle.naga_ir.specs.ItemReferences.{global_lists};
+ghost use Rattle.naga_ir_types.specs.Parts.{pending};
+ghost use Rattle.naga_leaves.specs.Leaf.{bytes_of};
+ghost use Rattle.naga_leaves.specs.steps.Parts.{part_of};
+ghost use Rattle.naga_typing.specs.Context.{ReferencesExist, lists_of};
+ghost use Rattle.naga_typing.specs.Layout.{alignment_of};
+ghost use Rattle.naga_typing.specs.Leaves as spec;
+ghost use Rattle.naga_typing.specs.Leaves.{elements, is_leaf};
+
+use naga_ir::alignment::Alignment;
+use naga_ir::handle::Handle;
+use naga_ir::ir::Module;
+use naga_ir::tags::TypeTag;
+use naga_ir::types::{ArraySize, TypeInner};
+use naga_typing::context::{GlobalCtx, to_ctx};
+use naga_typing::type_methods::{override_count, size};
+
+/// Where a leaf is: a scalar, a vector, a matrix or an atomic.
+#[derive(Clone, Copy, Debug, PartialEq, Eq)]
+pub struct Leaf {
+    /// The place of the first byte from the start of the value, in bytes.
+    pub first: u64,
+    /// The number of bytes.
+    pub size: u32,
+    /// The place of the first byte is to be a multiple of this many bytes.
+    pub alignment: u32,
+}
+
+/// An element or a member of a value.
+#[derive(Clone, Copy)]
+pub(crate) struct Part {
+    /// Its type.
+    pub(crate) ty: Handle<TypeTag>,
+    /// The place of its first byte from the start of the value, in bytes.
+    pub(crate) first: u64,
+}
+
+/// How many elements an array has if a runtime-sized one has `dynamic` elements: none if it is sized
+/// by an override that gives no count.
+fn element_count(size: ArraySize, dynamic: u32, gctx: GlobalCtx<'_>) -> u32
+    requires exists { IfSome (pending size) (λ o. o < length gctx.overrides.now) }
+    requires references { GlobalReferencesOk (lists_of gctx) }
+    ensures { result ≡ elements (lists_of gctx.entry) dynamic size }
+{
+    match size {
+        ArraySize::Constant(count) => count.get(),
+        ArraySize::Pending(override_) => override_count(override_, gctx).unwrap_or(0),
+        ArraySize::Dynamic => dynamic,
+    }
+}
+
+/// The element or the member of an index, if a runtime-sized array has `dynamic` elements.
+pub(crate) fn part_at(
+    inner: &TypeInner,
+    index: u32,
+    dynamic: u32,
+    gctx: GlobalCtx<'_>,
+) -> Option<Part>
+    requires exist { ReferencesExist (lists_of gctx) inner.now }
+    requires references { GlobalReferencesOk (lists_of gctx) }
+    ensures { option_map part_of result ≡ spec.part_at (elements (lists_of gctx.entry) dynamic) inner.now index }
+{
+    match inner {
+        TypeInner::Array { base, size, stride } => {
+            if index < element_count(*size, dynamic, gctx) {
+                Some(Part {
+                    ty: *base,
+                    first: u64::from(index) * u64::from(*stride),
+                })
+            } else {
+                None
+            }
+        }
+        TypeInner::Struct { members, .. } => {
+            let member = members.as_slice().get(index as usize)?;
+            Some(Part {
+                ty: member.ty,
+                first: u64::from(member.offset),
+            })
+        }
+        TypeInner::Scalar(_)
+        | TypeInner::Vector { .. }
+        | TypeInner::Matrix { .. }
+        | TypeInner::CooperativeMatrix { .. }
+        | TypeInner::Atomic(_)
+        | TypeInner::Pointer { .. }
+        | TypeInner::ValuePointer { .. }
+        | TypeInner::Image { .. }
+        | TypeInner::Sampler { .. }
+        | TypeInner::AccelerationStructure { .. }
+        | TypeInner::RayQuery { .. }
+        | TypeInner::BindingArray { .. } => None,
+    }
+}
+
+/// The alignment of a leaf, in bytes, or `None` if the form is no leaf.
+fn leaf_alignment(inner: &TypeInner) -> Option<u32>
+    ensures { result ≡ (if is_leaf inner.now then Some (alignment_of [] inner.now) else None) }
+{
+    match inner {
+        TypeInner::Scalar(scalar)
+        | TypeInner::CooperativeMatrix { scalar, .. }
+        | TypeInner::Atomic(scalar) => Some(u32::from(scalar.width)),
+        TypeInner::Vector { size, scalar }
+        | TypeInner::Matrix {
+            rows: size,
+            scalar,
+            ..
+        } => Some(Alignment::from(*size).get() * u32::from(scalar.width)),
+        TypeInner::Pointer { .. }
+        | TypeInner::ValuePointer { .. }
+        | TypeInner::Array { .. }
+        | TypeInner::Struct { .. }
+        | TypeInner::Image { .. }
+        | TypeInner::Sampler { .. }
+        | TypeInner::AccelerationStructure { .. }
+        | TypeInner::RayQuery { .. }
+        | TypeInner::BindingArray { .. } => None,
+    }
+}
+
+/// All bytes of a value that is a leaf, or `None` if its form is no leaf.
+pub(crate) fn whole_leaf(inner: &TypeInner, gctx: GlobalCtx<'_>) -> Option<Leaf>
+    requires exist { ReferencesExist (lists_of gctx) inner.now }
+    requires references { GlobalReferencesOk (lists_of gctx) }
+    ensures { option_map bytes_of result ≡ spec.whole_leaf (lists_of gctx.entry) inner.now }
+{
+    let alignment = leaf_alignment(inner)?;
+    Some(Leaf {
+        first: 0,
+        size: size(inner, gctx),
+        alignment,
+    })
+}
+
+/// The leaf of the type `ty` to which `path` leads, the indexes of elements and members from the
+/// outermost on, if runtime-sized arrays have `length` elements. The path to a type that is a leaf
+/// itself is empty.
+///
+/// It is `None` if there is no such leaf, or if the leaf would begin past the byte `u64::MAX`, which
+/// no leaf of an accepted type does unless a stride is less than the size of its elements. An array
+/// that an override sizes has as many elements as the initialiser of the override says, and none if
+/// that is no index constant above 0.
+///
+/// The cost is linear in the length of the path, and no memory is requested.
+pub fn leaf_at(module: &Module, ty: Handle<TypeTag>, path: &[u32], length: u32) -> Option<Leaf>
+    requires exists { ty < length_of «module».now.types }
+    requires references { GlobalReferencesOk (global_lists «module».now) }
+    ensures { MatchOption result
+        (IfSome (spec.leaf_at (global_lists «module».now) (elements (global_lists «module».now) length) ty path.now) (λ leaf. largest_u64 < leaf.first))
+        (λ leaf. spec.leaf_at (global_lists «module».now) (elements (global_lists «module».now) length) ty path.now ≡ Some (bytes_of leaf)) }
+{
+    let gctx = to_ctx(module);
+    let mut ty = ty;
+    let mut first = 0u64;
+    for index in path {
+        let part = part_at(&gctx.types[ty].inner, *index, length, gctx)?;
+        first = first.checked_add(part.first)?;
+        ty = part.ty;
+    }
+    let leaf = whole_leaf(&gctx.types[ty].inner, gctx)?;
+    Some(Leaf { first, ..leaf })
+}

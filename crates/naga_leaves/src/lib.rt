@@ -1,0 +1,6 @@
+//! Where the leaves of a value are: its scalars, vectors, matrices and atomics, at any depth of arrays
+//! and structs. For code that packs the buffers that a host shares with a device.
+#![tactic(auto)]
+
+pub mod cursor;
+pub mod leaf;
