@@ -6,7 +6,6 @@ ghost use Rattle.naga_ir.specs.ItemReferences.{global_lists};
 
 mod cursor;
 mod leaf;
-mod packing;
 
 use naga_handles::handles::validate_module_handles;
 use naga_ir::handle::Handle;
