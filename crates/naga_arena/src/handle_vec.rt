@@ -1,5 +1,6 @@
 //! Vectors whose values belong to the items of an arena, and are read by their handles.
 
+ghost use Rattle.std.specs.List.{AllZip};
 ghost use Rattle.std.specs.Prelude.{◌≡◌, ◌==◌, ◌+◌, ◌<◌, ◌≤◌, [], ◌∷◌, ◌++◌, length, IfOk, IsOk, OnErr, OnOk};
 
 use crate::handle::Handle;
@@ -67,6 +68,13 @@ impl<V: Drop, K> HandleVec<V, K> {
         self.inner.is_empty()
     }
 
+    /// The values, in order.
+    pub fn as_slice(&self) -> &[V]
+        ensures { result.now ≡ self.now.items }
+    {
+        self.inner.as_slice()
+    }
+
     /// How many values there is room for without more memory.
     pub fn capacity(&self) -> usize
         ensures { result ≡ self.now.room }
@@ -110,6 +118,22 @@ impl<V: Drop, K> HandleVec<V, K> {
         ensures { self.new ≡ record self.old { items = [] } }
     {
         self.inner.clear();
+    }
+}
+
+impl<V: Clone, K> HandleVec<V, K> {
+    /// Clones of the values, in memory of their own.
+    ///
+    /// # Errors
+    ///
+    /// `OutOfMemory` if memory was refused.
+    pub fn try_clone(&self) -> Result<HandleVec<V, K>, OutOfMemory>
+        ensures { IfOk result (λ copy. AllZip V.is_clone self.now.items copy.items) }
+    {
+        Ok(HandleVec {
+            inner: self.inner.clone()?,
+            kind: PhantomData,
+        })
     }
 }
 

@@ -7,7 +7,7 @@ use Rattle.naga_ir.specs.ItemReferences.{global_lists}
 use Rattle.naga_ir.specs.declared.expression.Expression.{Expression}
 use Rattle.naga_ir.specs.declared.ir.Module.{Module}
 use Rattle.naga_typing.proofs.CanResolve.{global_expression_in_sight}
-use Rattle.naga_typing.proofs.Iteration.{Iterating, accepts_all, begin, next_index, next_item, one_more}
+use Rattle.naga_typing.proofs.Iteration.{Iterating, accepts_all, all_counted, begin, next_index, next_item, one_more}
 use Rattle.naga_typing.specs.Resolutions.{IsProperResolution, ResolutionExists}
 use Rattle.naga_typing.specs.Typings.{CanResolve, IsLawful, Resolves}
 use Rattle.naga_typing.specs.declared.typifier.TypeResolution.{TypeResolution}
@@ -16,7 +16,7 @@ module _ (m : Module) where
   -- the expressions so far have types that exist and are proper, and these are left
   pub record Resolved (earlier : List TypeResolution) (left : List (ℕ × Expression)) : Type 0 where
     iterating : Iterating accepts_all m.global_expressions (length earlier) left
-    exist : All (ResolutionExists (global_lists m)) earlier
+    pub exist : All (ResolutionExists (global_lists m)) earlier
     proper : All IsProperResolution earlier
 
   pub none_resolved : (earlier : List TypeResolution) (left : List (ℕ × Expression)) → earlier ≡ [] → left ≡ enumerate_from 0 m.global_expressions → Resolved earlier left
@@ -26,14 +26,21 @@ module _ (m : Module) where
     proper = All-nil IsProperResolution;
   })
 
+  -- no expression is left, so each has a type
+  pub all_resolved : (earlier : List TypeResolution) (left : List (ℕ × Expression)) → Resolved earlier left → left ≡ [] → length earlier ≡ length m.global_expressions
+  all_resolved earlier left r none = all_counted accepts_all m.global_expressions (length earlier) left r.iterating none
+
+  -- of the expressions that are left, the next
   module _ (handles : HandlesAccepted m) (earlier : List TypeResolution) (left : List (ℕ × Expression)) (n : ℕ) (x : Expression) (more : List (ℕ × Expression)) (r : Resolved earlier left) (e : left ≡ (n, x) ∷ more) where
-    there : slice_get m.global_expressions n ≡ Some x
+    -- it is the one of the index that it comes with
+    pub there : slice_get m.global_expressions n ≡ Some x
     there = next_item accepts_all m.global_expressions (length earlier) left n x more r.iterating e
 
-    index : n ≡ length earlier
+    -- which is the number of the expressions so far
+    pub index : n ≡ length earlier
     index = next_index accepts_all m.global_expressions (length earlier) left n x more r.iterating e
 
-    -- the next expression can be resolved
+    -- it can be resolved
     pub can_resolve_next : CanResolve m x earlier
     can_resolve_next = record {
       handles = handles;

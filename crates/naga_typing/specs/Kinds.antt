@@ -1,5 +1,5 @@
 -- When the value of an expression is known.
-use Rattle.std.specs.Prelude.{ℕ, List, [], ◌∷◌, Ok, map, slice_get, unwrap_or, Option, Some, None, ⊤}
+use Rattle.std.specs.Prelude.{ℕ, Bool, true, false, List, [], ◌∷◌, Ok, map, slice_get, unwrap_or, Option, Some, None}
 use Rattle.naga_arena.specs.InOrder.{AllAcceptedInOrder, RuleInOrder}
 use Rattle.naga_ir.specs.References.{operands}
 use Rattle.naga_ir.specs.declared.expression.Expression.{Expression}
@@ -73,16 +73,16 @@ kind_in_order before e x = Ok (kind_of before x)
 abbrev pub AreKinds : List Expression → List ExpressionKind → Type 0
 AreKinds xs kinds = AllAcceptedInOrder kind_in_order xs kinds
 
--- a value is known when the shader is compiled
-abbrev pub IsConst : Option ExpressionKind → Type 0
-IsConst (Some Const) = ⊤
-IsConst (Some Override) = ⊥
-IsConst (Some Runtime) = ⊥
-IsConst None = ⊥
+-- whether a value is known when the shader is compiled
+abbrev pub is_const : Option ExpressionKind → Bool
+is_const (Some Const) = true
+is_const (Some Override) = false
+is_const (Some Runtime) = false
+is_const None = false
 
--- a value is known when a pipeline is created, if not before
-abbrev pub IsConstOrOverride : Option ExpressionKind → Type 0
-IsConstOrOverride (Some Const) = ⊤
-IsConstOrOverride (Some Override) = ⊤
-IsConstOrOverride (Some Runtime) = ⊥
-IsConstOrOverride None = ⊥
+-- whether a value is known when a pipeline is created, if not before
+abbrev pub is_const_or_override : Option ExpressionKind → Bool
+is_const_or_override (Some Const) = true
+is_const_or_override (Some Override) = true
+is_const_or_override (Some Runtime) = false
+is_const_or_override None = false

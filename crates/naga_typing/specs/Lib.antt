@@ -8,6 +8,7 @@
 -- Resolutions.AreSameTypes: which types are the same
 -- Resolutions.ResolutionExists, IsProperResolution: which types an expression may have
 -- Typings.CanResolve, IsLawful: what a typing may rely on, and what it promises
+-- Typings.AreResolved: what the types of a module's global expressions are
 -- PlainTyping.plain_resolves: what `PlainTyping` promises beside
 pub mod Constants
 pub mod Context

@@ -1,5 +1,6 @@
 -- What a typing may rely on, and what it promises.
 use Rattle.std.specs.Prelude.{◌≡◌, ℕ, List, Result, Ok, Err, Some, All, length, slice_get}
+use Rattle.naga_arena.specs.InOrder.{AllAcceptedInOrder, RuleInOrder}
 use Rattle.naga_arena.specs.Memory.{UnlessOutOfMemory}
 use Rattle.naga_ir.specs.Handles.{Counts, Exists, HandlesAccepted, module_counts}
 use Rattle.naga_ir.specs.ItemReferences.{expression_references, global_lists}
@@ -38,6 +39,14 @@ IsResolveResult meant result = UnlessOutOfMemory (λ e. e ≡ OutOfMemory) resul
 -- how the type of an expression follows from a module, the expression, and the types of earlier expressions
 abbrev pub Resolves : Type 0
 Resolves = Module → Expression → List TypeResolution → Result TypeResolution ResolveError
+
+-- this as a rule in order
+abbrev pub resolve_in_order : Resolves → Module → RuleInOrder Expression TypeResolution ResolveError
+resolve_in_order resolves m before e x = resolves m x before
+
+-- each global expression of a module has its type, by the types of those before it
+abbrev pub AreResolved : Resolves → Module → List TypeResolution → Type 0
+AreResolved resolves m resolutions = AllAcceptedInOrder (resolve_in_order resolves m) m.global_expressions resolutions
 
 -- the laws of typings: an expression with a declared type has that type, a literal its scalar type and a splat of a scalar the vector type; everything that a type refers to exists, and the type is proper; and out of memory is never meant
 pub record IsLawful (resolves : Resolves) : Type 0 where

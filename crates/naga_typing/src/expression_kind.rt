@@ -1,10 +1,10 @@
 //! When the values of expressions are known.
 
-ghost use Rattle.std.specs.Prelude.{◌≡◌, ◌↔◌, ◌<◌, [], Contains, IfOk, IsOk, IsTrue, length, slice_get, ℕ};
+ghost use Rattle.std.specs.Prelude.{◌≡◌, ◌<◌, [], Contains, IfOk, IsOk, length, slice_get, ℕ};
 ghost use Rattle.naga_ir.specs.Handles.{GoBack, OrderedOperands};
 ghost use Rattle.naga_ir.specs.References as references;
 ghost use Rattle.naga_typing.specs.Kinds as spec;
-ghost use Rattle.naga_typing.specs.Kinds.{AreKinds, IsConst, IsConstOrOverride};
+ghost use Rattle.naga_typing.specs.Kinds.{AreKinds, is_const, is_const_or_override};
 
 use naga_ir::arena::Arena;
 use naga_ir::expression::Expression;
@@ -75,7 +75,7 @@ impl ExpressionKindTracker {
     /// Whether the value of an expression is known when the shader is compiled.
     pub fn is_const(&self, value: Handle<ExpressionTag>) -> bool
         requires { value < length self.now }
-        ensures { IsTrue result ↔ IsConst (slice_get self.now value) }
+        ensures { result ≡ is_const (slice_get self.now value) }
     {
         matches!(self.inner[value], ExpressionKind::Const)
     }
@@ -83,7 +83,7 @@ impl ExpressionKindTracker {
     /// Whether the value of an expression is known when a pipeline is created, if not before.
     pub fn is_const_or_override(&self, value: Handle<ExpressionTag>) -> bool
         requires { value < length self.now }
-        ensures { IsTrue result ↔ IsConstOrOverride (slice_get self.now value) }
+        ensures { result ≡ is_const_or_override (slice_get self.now value) }
     {
         matches!(
             self.inner[value],

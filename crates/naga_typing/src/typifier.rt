@@ -11,10 +11,11 @@ use naga_ir::memory::OutOfMemory;
 use naga_ir::tags::TypeTag;
 use naga_ir::types::TypeInner;
 use naga_ir::unique_arena::UniqueArena;
+use std::alloc::AllocError;
 use thiserror::Error;
 
 /// The type of an expression: naga's `TypeResolution`.
-#[derive(Clone, Debug, PartialEq, Drop)]
+#[derive(Debug, PartialEq, Drop)]
 pub enum TypeResolution {
     /// A type of the module.
     Handle(Handle<TypeTag>),
@@ -58,6 +59,19 @@ impl TypeResolution {
             TypeResolution::Handle(handle) => TypeResolution::Handle(*handle),
             TypeResolution::Value(inner) => TypeResolution::Value(inner.try_clone()?),
         })
+    }
+}
+
+impl Clone for TypeResolution {
+    ghost use Rattle.std.specs.Prelude.{◌≡◌};
+
+    ghost is_clone = { λ resolution copy. copy ≡ resolution };
+
+    fn clone(&self) -> Result<TypeResolution, AllocError> {
+        match self {
+            TypeResolution::Handle(handle) => Ok(TypeResolution::Handle(*handle)),
+            TypeResolution::Value(inner) => Ok(TypeResolution::Value(inner.clone()?)),
+        }
     }
 }
 
