@@ -1,0 +1,2 @@
+mod Operands
+pub mod OverrideValues

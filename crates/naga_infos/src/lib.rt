@@ -1,0 +1,6 @@
+//! What validation learns of a module, what expressions are judged by, and why they are refused.
+#![tactic(auto)]
+
+pub mod context;
+pub mod error;
+pub mod module_info;
