@@ -6,6 +6,8 @@ ghost use Rattle.naga_ir.specs.ItemReferences.{global_lists};
 
 mod cursor;
 mod leaf;
+mod packing;
+mod refused_memory;
 
 use naga_handles::handles::validate_module_handles;
 use naga_ir::handle::Handle;

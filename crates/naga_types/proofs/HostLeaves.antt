@@ -1,27 +1,28 @@
 -- The leaves of types that hosts may share are aligned, contained and disjoint.
-use Rattle.std.proofs.Common.{◌≡◌, ◌<◌, ◌≤◌, ◌+◌, ◌*◌, ⊎_elim, ℕ, Bool, true, List, [], ◌∷◌, ◌++◌, Option, Some, Result, Ok, Err, IfOk, IfSome, IsOk, length, slice_get, take, refl, sym, ap, subst, ◌∙◌, arith}
+use Rattle.std.proofs.Common.{◌≡◌, ◌<◌, ◌≤◌, ◌+◌, ◌*◌, ⊎_elim, ℕ, Bool, true, List, [], ◌∷◌, ◌++◌, Option, Some, Result, Ok, Err, IfOk, IfSome, IsOk, length, slice_get, take, refl, sym, ap, subst, ◌∙◌}
 use Rattle.std.specs.Option.{option_map}
-use Rattle.std.proofs.lemmas.List.{take_all}
-use Rattle.std.proofs.lemmas.Nat.Gcd.{mod-eq-zero_of_dvd}
+use Rattle.std.proofs.lemmas.Nat.Gcd.{dvd_refl, dvd_trans, mod-eq-zero_of_dvd}
+use Prim.Native.Nat.{◌∣◌}
 use Rattle.std.proofs.lemmas.Option.{slice_get_within}
 use Rattle.naga_arena.proofs.InOrder.{found_at}
 use Rattle.naga_arena.specs.InOrder.{AllAcceptedInOrder}
 use Rattle.naga_flags.proofs.HasLemmas.{has-trans}
-use Rattle.naga_flags.specs.Bits.{HOST_SHAREABLE, SIZED}
+use Rattle.naga_flags.specs.Bits.{SIZED}
 use Rattle.naga_flags.specs.Flags.{has}
 use Rattle.naga_flags.specs.declared.flags.Capabilities.{Capabilities}
-use Rattle.naga_ir.proofs.Handles.{global_references_ok}
 use Rattle.naga_ir.specs.Handles.{GlobalReferencesOk}
 use Rattle.naga_ir.specs.ItemReferences.{GlobalLists, global_lists}
 use Rattle.naga_ir.specs.declared.ir.Module.{Module}
 use Rattle.naga_ir_types.specs.declared.types.«Type».{«Type»}
-use Rattle.naga_types.proofs.JudgedTypes.{JudgedTypes, judged_in_order, judged_with_next}
+use Rattle.naga_types.proofs.HostInside.{IsHostType}
+use Rattle.naga_types.proofs.JudgedTypes.{JudgedTypes, accepted_types, info_of, judged_with_next}
 use Rattle.naga_types.proofs.LeafPlaces.{leaves_aligned, leaves_contained, leaves_disjoint}
 use Rattle.naga_types.proofs.SharedParts.{HasLimit, IsShared, all_placed, at_end, at_size}
-use Rattle.naga_types.proofs.StorageOfUniform.{storage_alignment, storage_of_uniform}
+use Rattle.naga_types.proofs.StorageOfUniform.{storage_alignment, storage_of_uniform, uniform_multiple}
 use Rattle.naga_types.specs.AcceptedTypes.{AreJudgedBefore, AreTypesAccepted, judged_by, rule_at, types_rule}
-use Rattle.naga_types.specs.HostLeaves.{AllLeavesAreSeparate, IsLaidOutForHosts, LeavesAreSeparate, resolved_for_hosts, sized_for_hosts}
-use Rattle.naga_types.specs.Layouts.{Layout}
+use Rattle.naga_types.specs.HostLayouts.{data_for_hosts}
+use Rattle.naga_types.specs.HostLeaves.{AlignsLeaves, AllLeavesAreSeparate, IsLaidOutForHosts, LeavesAreSeparate, resolved_for_hosts, sized_for_hosts}
+use Rattle.naga_types.specs.Layouts.{Layout, in_storage, in_uniform}
 use Rattle.naga_types.specs.RuleResults.{CarriesText, IsRuleResult}
 use Rattle.naga_types.specs.Surroundings.{form_in, info_in, surroundings}
 use Rattle.naga_types.specs.TypeRule.{type_rule}
@@ -40,6 +41,11 @@ some_alignment : (l : Layout) → IsOk l → (a : ℕ) × (l ≡ Ok a)
 some_alignment (Ok a) ok = (a, refl)
 some_alignment (Err e) ok = cc ok
 
+-- what holds of the alignment of a layout holds if there is one
+if_alignment : (l : Layout) (P : ℕ → Type 0) → ((a : ℕ) → l ≡ Ok a → P a) → IfOk l P
+if_alignment (Ok a) P h = h a refl
+if_alignment (Err e) P h = tt
+
 module _ (w : JudgedTypes) (t : ℕ) where
   -- hosts may share a type
   abbrev Shared : ℕ → ℕ → Type 0
@@ -49,24 +55,24 @@ module _ (w : JudgedTypes) (t : ℕ) where
   abbrev Limit : ℕ → ℕ → ℕ → Type 0
   Limit n = HasLimit w n
 
-  -- what is laid out for hosts is shared with them
-  shared : (n flags : ℕ) → has flags HOST_SHAREABLE ≡ true → IsLaidOutForHosts w.lists w.infos t flags → Shared n t
+  -- what is laid out for hosts is data that they may share
+  is_host : (flags : ℕ) → has flags data_for_hosts ≡ true → IsLaidOutForHosts w.lists w.infos t flags → IsHostType w t
+  is_host flags hosts h =
+      (slice_get_within w.infos t h.info h.info_is, ap (λ o. has (info_in o).flags.0 data_for_hosts) h.info_is ∙ has-trans h.info.flags.0 flags data_for_hosts h.has_flags hosts)
+
+  -- and is shared with them
+  shared : (n flags : ℕ) → has flags data_for_hosts ≡ true → IsLaidOutForHosts w.lists w.infos t flags → Shared n t
   shared n flags hosts h =
-      let within = slice_get_within w.infos t h.info h.info_is in
-      let info : info_in (slice_get w.infos t) ≡ h.info = ap info_in h.info_is in
-      let layout : h.info.storage_layout ≡ Ok (alignment_at w.layouts t) =
-      ⊎_elim
-      (λ (ok : IsOk h.info.uniform_layout).
-      let uniform = some_alignment h.info.uniform_layout ok in
-      ap (λ (i : TypeInfo). i.storage_layout) (sym info) ∙ storage_of_uniform w t uniform.0 within (ap (λ (i : TypeInfo). i.uniform_layout) info ∙ uniform.1))
-      (λ (ok : IsOk h.info.storage_layout).
-      let storage = some_alignment h.info.storage_layout ok in
-      storage.1 ∙ ap Ok (storage_alignment w t storage.0 within (ap (λ (i : TypeInfo). i.storage_layout) info ∙ storage.1)))
-      h.has_layout in
+      let host = is_host flags hosts h in
+      let uniform_in : in_uniform (info_of w t) ≡ h.info.uniform_layout = ap (λ o. in_uniform (info_in o)) h.info_is in
+      let storage_in : in_storage (info_of w t) ≡ h.info.storage_layout = ap (λ o. in_storage (info_in o)) h.info_is in
       record {
-        within = within;
-        shareable = ap (λ (i : TypeInfo). has i.flags.0 HOST_SHAREABLE) info ∙ has-trans h.info.flags.0 flags HOST_SHAREABLE h.has_flags hosts;
-        layout = ap (λ (i : TypeInfo). i.storage_layout) info ∙ layout;
+        host = host;
+        layout =
+            ⊎_elim
+            (λ (ok : IsOk h.info.uniform_layout). let u = some_alignment h.info.uniform_layout ok in storage_of_uniform w t host u.0 (uniform_in ∙ u.1))
+            (λ (ok : IsOk h.info.storage_layout). let a = some_alignment h.info.storage_layout ok in storage_in ∙ a.1 ∙ ap Ok (storage_alignment w t host a.0 (storage_in ∙ a.1)))
+            h.has_layout;
         strides = h.strides;
       }
 
@@ -80,6 +86,21 @@ module _ (w : JudgedTypes) (t : ℕ) where
         disjoint = λ path path′ leaf leaf′ differ at at′. leaves_disjoint w.lists (elements w.lists n) (Shared n) (Limit n) (alignment_at w.layouts) placed path path′ t leaf leaf′ differ good at at′;
       }
 
+  -- multiples of the alignment of its layout align the leaves of what is laid out for hosts
+  aligns_leaves : (number : ℕ) → alignment_at w.layouts t ∣ number → IsLaidOutForHosts w.lists w.infos t data_for_hosts → AlignsLeaves w.lists t number
+  aligns_leaves number multiple h n path leaf at =
+      let divides = leaves_aligned w.lists (elements w.lists n) (Shared n) (Limit n) (alignment_at w.layouts) (all_placed w n) path t leaf (shared n data_for_hosts refl h) at in
+      mod-eq-zero_of_dvd leaf.alignment (dvd_trans leaf.alignment divides.0 multiple)
+
+  -- so do its layouts
+  layouts_align : (h : IsLaidOutForHosts w.lists w.infos t data_for_hosts) → IfOk h.info.uniform_layout (AlignsLeaves w.lists t) × IfOk h.info.storage_layout (AlignsLeaves w.lists t)
+  layouts_align h =
+      let host = is_host data_for_hosts refl h in (
+        if_alignment h.info.uniform_layout (AlignsLeaves w.lists t) (λ u is. aligns_leaves u (uniform_multiple w t host u (ap (λ o. in_uniform (info_in o)) h.info_is ∙ is)) h),
+        if_alignment h.info.storage_layout (AlignsLeaves w.lists t) (λ a is.
+            aligns_leaves a (subst (λ b. alignment_at w.layouts t ∣ b) (sym (storage_alignment w t host a (ap (λ o. in_storage (info_in o)) h.info_is ∙ is))) (dvd_refl (alignment_at w.layouts t))) h),
+      )
+
   -- what is laid out as sized is
   sized_info : (h : IsLaidOutForHosts w.lists w.infos t sized_for_hosts) → has (info_in (slice_get w.infos t)).flags.0 SIZED ≡ true
   sized_info h = ap (λ (o : Option TypeInfo). has (info_in o).flags.0 SIZED) h.info_is ∙ has-trans h.info.flags.0 sized_for_hosts SIZED h.has_flags refl
@@ -87,26 +108,12 @@ module _ (w : JudgedTypes) (t : ℕ) where
   -- so are those of each type that is judged
   pub leaves_of_judged : LeavesAreSeparate w.lists w.infos t
   leaves_of_judged = record {
+    layouts = layouts_align;
     sized = λ h n. separate n (size_at_index w.lists t) (shared n sized_for_hosts refl h) (at_size (sized_info h) refl);
     runtime_sized = λ h first stride ends n. separate n (first + n * stride) (shared n resolved_for_hosts refl h) (at_end first stride ends refl);
   }
 
--- the leaves of each type are separate if the infos are those of the rule, in the order of their types
-pub leaves_separate : (g : GlobalLists) (capabilities : Capabilities) (resolved : Bool) (layouts : List TypeLayout) (count : ℕ) (infos : List TypeInfo) → GlobalReferencesOk g → AreLayouts g layouts
-    → AllAcceptedInOrder (types_rule g capabilities resolved layouts) (take count g.types) infos → AllLeavesAreSeparate g infos
-leaves_separate g capabilities resolved layouts count infos references laid_out accepted =
-    leaves_of_judged (record {
-      lists = g;
-      capabilities = capabilities;
-      resolved = resolved;
-      layouts = layouts;
-      infos = infos;
-      references = references;
-      laid_out = laid_out;
-      judged = judged_in_order g capabilities resolved layouts count infos accepted.follow;
-    })
-
--- those of the next type are, if the infos before it are those of the rule
+-- the leaves of the next type are separate, if the infos before it are those of the rule
 pub leaves_of_next : (g : GlobalLists) (capabilities : Capabilities) (resolved : Bool) (layouts : List TypeLayout) (infos : List TypeInfo) (t : ℕ) (x : «Type») (info : TypeInfo) → GlobalReferencesOk g → AreLayouts g layouts
     → t ≤ length infos → AllAcceptedInOrder (types_rule g capabilities resolved layouts) (take t g.types) (take t infos) → slice_get g.types t ≡ Some x
     → type_rule (judged_by g capabilities resolved layouts infos) t x.inner ≡ Ok info → LeavesAreSeparate g (take t infos ++ info ∷ []) t
@@ -137,7 +144,4 @@ leaves_of_result ctx g t (Ok info) references laid_out judged exists said before
 -- and so are those of each type of a module whose types are accepted
 pub leaves_of_accepted : (m : Module) (capabilities : Capabilities) (resolved : Bool) (layouts : List TypeLayout) (infos : List TypeInfo) → AreTypesAccepted m capabilities resolved layouts infos
     → AllLeavesAreSeparate (global_lists m) infos
-leaves_of_accepted m capabilities resolved layouts infos accepted =
-    let Accepted : List «Type» → Type 0 = λ types. AllAcceptedInOrder (types_rule (global_lists m) capabilities resolved layouts) types infos in
-    let all : take (length m.types) m.types ≡ m.types = take_all (length m.types) m.types (omega arith) in
-    leaves_separate (global_lists m) capabilities resolved layouts (length m.types) infos (global_references_ok m accepted.laid_out.handles) accepted.laid_out.each_type (subst Accepted (sym all) accepted.each_type)
+leaves_of_accepted m capabilities resolved layouts infos accepted = leaves_of_judged (accepted_types m capabilities resolved layouts infos accepted)

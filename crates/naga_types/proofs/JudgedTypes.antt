@@ -1,8 +1,8 @@
 -- Types that are judged by the infos of those before them.
-use Rattle.std.proofs.Common.{◌≡◌, ◌<◌, ◌≤◌, ⊎_elim, ℕ, Bool, true, List, [], ◌∷◌, ◌++◌, Some, Ok, length, slice_get, take, refl, sym, ap, subst, ◌∙◌, arith, length-append}
+use Rattle.std.proofs.Common.{◌≡◌, ◌<◌, ◌≤◌, ⊎_elim, ℕ, Bool, true, List, [], ◌∷◌, ◌++◌, Some, Ok, Contains, length, slice_get, take, refl, sym, ap, subst, ◌∙◌, arith, length-append}
 use Rattle.std.specs.Option.{option_map, unwrap_or}
 use Rattle.std.proofs.lemmas.Bool.{and_parts, cases_lt}
-use Rattle.std.proofs.lemmas.List.{length-take, length-take-le}
+use Rattle.std.proofs.lemmas.List.{length-take, length-take-le, take_all}
 use Rattle.std.proofs.lemmas.Option.{same_Some, slice_get_within}
 use Rattle.naga_arena.proofs.Elements.{all_at}
 use Rattle.naga_arena.proofs.InOrder.{found_at, get_before, get_stays}
@@ -12,10 +12,13 @@ use Rattle.naga_flags.proofs.HasLemmas.{has-bit_and, has-trans}
 use Rattle.naga_flags.specs.Bits.{SIZED}
 use Rattle.naga_flags.specs.Flags.{has}
 use Rattle.naga_flags.specs.declared.flags.Capabilities.{Capabilities}
+use Rattle.naga_ir.proofs.Handles.{global_references_ok}
 use Rattle.naga_ir.proofs.ReferredTo.{parts_come_before}
 use Rattle.naga_ir.specs.Handles.{GlobalReferencesOk}
-use Rattle.naga_ir.specs.ItemReferences.{GlobalLists}
+use Rattle.naga_ir.specs.ItemReferences.{GlobalLists, global_lists}
+use Rattle.naga_ir.specs.declared.ir.Module.{Module}
 use Rattle.naga_ir_types.proofs.PartLemmas.{base_is, members_are}
+use Rattle.naga_ir_types.specs.Parts.{parts}
 use Rattle.naga_ir_types.specs.declared.types.«Type».{«Type»}
 use Rattle.naga_ir_types.specs.declared.types.ArraySize.{ArraySize}
 use Rattle.naga_ir_types.specs.declared.types.StructMember.{StructMember}
@@ -23,7 +26,7 @@ use Rattle.naga_ir_types.specs.declared.types.TypeInner.{TypeInner}
 use Rattle.naga_ir_types.specs.declared.types.TypeInner.TheVariants.{Array, Struct}
 use Rattle.naga_types.proofs.KeptConditions.{granted_ok, none_stands, unless-kept}
 use Rattle.naga_types.proofs.LeafPlaces.{map_some}
-use Rattle.naga_types.specs.AcceptedTypes.{judged_by, types_rule}
+use Rattle.naga_types.specs.AcceptedTypes.{AreTypesAccepted, judged_by, types_rule}
 use Rattle.naga_types.specs.FormFlags.{array_flags, element_flags}
 use Rattle.naga_types.specs.Judging.{first}
 use Rattle.naga_types.specs.Surroundings.{Surroundings, flags_at, info_at, info_in, size_at, size_in}
@@ -101,6 +104,22 @@ judged_with_next g capabilities resolved layouts infos t x info within follow at
     subst (IsJudged g capabilities resolved layouts (take t infos ++ info ∷ [])) last next)
     (cases_lt p (length (take t infos)))
 
+-- all types of a module are judged whose types are accepted
+abbrev pub accepted_types : (m : Module) (capabilities : Capabilities) (resolved : Bool) (layouts : List TypeLayout) (infos : List TypeInfo) → AreTypesAccepted m capabilities resolved layouts infos → JudgedTypes
+accepted_types m capabilities resolved layouts infos accepted =
+    let all : take (length m.types) m.types ≡ m.types = take_all (length m.types) m.types (omega arith) in
+    record {
+      lists = global_lists m;
+      capabilities = capabilities;
+      resolved = resolved;
+      layouts = layouts;
+      infos = infos;
+      references = global_references_ok m accepted.laid_out.handles;
+      laid_out = accepted.laid_out.each_type;
+      judged = judged_in_order (global_lists m) capabilities resolved layouts (length m.types) infos
+          (subst (λ types. FollowInOrder (types_rule (global_lists m) capabilities resolved layouts) types infos) (sym all) accepted.each_type.follow);
+    }
+
 module _ (w : JudgedTypes) where
   -- the info of a type
   abbrev pub info_of : ℕ → TypeInfo
@@ -123,9 +142,13 @@ module _ (w : JudgedTypes) where
     pub known_is : (p : ℕ) → p < t → info_at known p ≡ info_of p
     known_is p earlier = ap info_in (j.before p earlier)
 
-    -- its form is the one that it is judged by
+    -- the form that it is judged by is its own
+    pub own_form : inner_at w.lists t ≡ Some j.ty.inner
+    own_form = ap (option_map (λ (ty : «Type»). ty.inner)) j.at
+
+    -- and no other is
     pub form_is : (inner : TypeInner) → inner_at w.lists t ≡ Some inner → j.ty.inner ≡ inner
-    form_is inner form = same_Some j.ty.inner inner (sym (ap (option_map (λ (ty : «Type»). ty.inner)) j.at) ∙ form)
+    form_is inner form = same_Some j.ty.inner inner (sym own_form ∙ form)
 
     -- the rule of its form gives its info
     pub rule_is : (inner : TypeInner) → inner_at w.lists t ≡ Some inner → type_rule known t inner ≡ Ok (info_of t)
@@ -143,16 +166,20 @@ module _ (w : JudgedTypes) where
     pub size_is : size_at known t ≡ size_at_index w.lists t
     size_is = ap size_in laid_out_at ∙ ap (λ o. unwrap_or (option_map (size_of w.lists) (option_map (λ (ty : «Type»). ty.inner) o)) 0) (sym j.at)
 
-    -- the base of an array comes before it
+    -- the types that its form names come before it
+    pub parts_before : (p : ℕ) → Contains (parts j.ty.inner) p → p < t
+    parts_before p names = parts_come_before w.lists w.references t j.ty p j.at names
+
+    -- so does the base of an array
     pub base_before : (base : ℕ) (size : ArraySize) (stride : ℕ) → inner_at w.lists t ≡ Some (Array base size stride) → base < t
     base_before base size stride form =
-        base_is (λ p. p < t) j.ty.inner base size stride (λ p names. parts_come_before w.lists w.references t j.ty p j.at names) (form_is (Array base size stride) form)
+        base_is (λ p. p < t) j.ty.inner base size stride parts_before (form_is (Array base size stride) form)
 
     -- and so does the type of each member of a struct
     pub member_before : (members : List StructMember) (span k : ℕ) (m : StructMember) → inner_at w.lists t ≡ Some (Struct members span) → slice_get members k ≡ Some m → m.ty < t
     member_before members span k m form there =
         all_at (λ (m : StructMember). m.ty < t) members k m
-        (members_are (λ p. p < t) j.ty.inner members span (λ p names. parts_come_before w.lists w.references t j.ty p j.at names) (form_is (Struct members span) form)) there
+        (members_are (λ p. p < t) j.ty.inner members span parts_before (form_is (Struct members span) form)) there
 
 module _ (s : Surroundings) (t base : ℕ) (size : ArraySize) (stride : ℕ) (i : TypeInfo) (is : type_rule s t (Array base size stride) ≡ Ok i) where
   -- the info of an array is that by its base

@@ -21,10 +21,6 @@ granted-none (Some e) a b h = cc h
 pub granted_ok : {A E : Type 0} (o : Option E) (a b : A) → granted o a ≡ Ok b → (o ≡ None) × (a ≡ b)
 granted_ok o a b h = (granted-none o a b h, granted-value o a b h)
 
--- what no error stands against is granted
-pub granted_if_none : {A E : Type 0} (o : Option E) (a : A) → o ≡ None → granted o a ≡ Ok a
-granted_if_none o a none = ap (λ o. granted o a) none
-
 -- a condition that is kept holds
 pub unless-kept : {E : Type 0} (b : Bool) (e : E) → unless b e ≡ None → b ≡ true
 unless-kept true e h = refl
@@ -40,11 +36,6 @@ pub none_stands : {A : Type 0} (xs : List (Option A)) (k : ℕ) (o : Option A) �
 none_stands [] k o none at = cc at
 none_stands (x ∷ xs) zero o none at = sym (same_Some x o at) ∙ (neither x (first xs) none).0
 none_stands (x ∷ xs) (suc k) o none at = none_stands xs k o (neither x (first xs) none).1 at
-
--- there is no first if no entry stands
-pub no_first : {A : Type 0} (xs : List (Option A)) → ((k : ℕ) (o : Option A) → slice_get xs k ≡ Some o → o ≡ None) → first xs ≡ None
-no_first [] each = refl
-no_first (x ∷ xs) each = ap (λ o. option_or o (first xs)) (each 0 x refl) ∙ no_first xs (λ k o at. each (suc k) o at)
 
 -- each item of a list passes
 pub all-pass : {X : Type 0} (p : X → Bool) (xs : List X) → list_all p xs ≡ true → All (λ x. p x ≡ true) xs

@@ -1,5 +1,5 @@
 -- When arrays and structs have layouts, by the layouts of their parts.
-use Rattle.std.proofs.Common.{◌≡◌, ◌==◌, ◌%◌, ℕ, suc, true, max, List, [], ◌∷◌, Contains, Option, Some, None, Ok, Err, map, slice_get, refl, ap, ◌∙◌}
+use Rattle.std.proofs.Common.{◌≡◌, ◌==◌, ◌%◌, ℕ, true, max, List, [], ◌∷◌, Contains, Option, Some, None, Ok, Err, map, slice_get, refl, ap, ◌∙◌}
 use Rattle.std.specs.Option.{option_or}
 use Rattle.std.specs.Result.{result_unwrap_or}
 use Rattle.std.proofs.lemmas.Bool.{eq-eqb, eqb-true}
@@ -7,7 +7,8 @@ use Rattle.std.proofs.lemmas.Option.{get_or_from_slice_get, slice_get_within}
 use Rattle.naga_flags.specs.Bits.{HOST_SHAREABLE}
 use Rattle.naga_flags.specs.Flags.{has}
 use Rattle.naga_ir_types.specs.declared.types.StructMember.{StructMember}
-use Rattle.naga_types.proofs.KeptConditions.{first-none, granted-none, granted-value, neither, none-first, unless-kept}
+use Rattle.naga_types.proofs.GreatestLemmas.{same_greatest}
+use Rattle.naga_types.proofs.KeptConditions.{first-none, granted-none, granted-value, granted_ok, neither, none-first, unless-kept}
 use Rattle.naga_types.specs.Judging.{first, granted, unless}
 use Rattle.naga_types.specs.Layouts.{Layout, greatest_alignment, in_storage, member_failure, member_failures, offset_failure, saturated, span_failure, storage_layout_of}
 use Rattle.naga_types.specs.Surroundings.{Surroundings, flags_at, info_at}
@@ -21,67 +22,60 @@ use Rattle.naga_typing.specs.Layout.{alignment_at, greatest}
 pub contains-place : {X : Type 0} (xs : List X) (i : ℕ) (x : X) → slice_get xs i ≡ Some x → Contains xs x
 contains-place xs i x at = (i, slice_get_within xs i x at, get_or_from_slice_get xs i x x at)
 
--- functions that agree on all items give one list
-pub map-agree : {X Y : Type 0} (f h : X → Y) (xs : List X) → ((i : ℕ) (x : X) → slice_get xs i ≡ Some x → f x ≡ h x) → map f xs ≡ map h xs
-map-agree f h [] all = refl
-map-agree f h (x ∷ xs) all = ap (λ y. y ∷ map f xs) (all 0 x refl) ∙ ap (λ l. h x ∷ l) (map-agree f h xs (λ i y at. all (suc i) y at))
-
--- no error is a layout
-error-no_layout : {P : Type 0} (e : ℕ × Disalignment) (a : ℕ) → (let left : Layout = Err e in left ≡ Ok a) → P
-error-no_layout e a h = absurd (impossible h)
-  where
-    impossible : (let left : Layout = Err e in left ≡ Ok a) → ⊥
-    impossible h = cc h
+-- the base of an array has an alignment, and the stride is a multiple of that and of the least
+pub record ArrayIsAligned (least stride : ℕ) (l : Layout) (a : ℕ) : Type 0 where
+  pub base : ℕ
+  pub base_is : l ≡ Ok base
+  pub is : max base least ≡ a
+  pub aligned : stride % max base least ≡ 0
 
 module _ (handle least stride : ℕ) where
-  -- what the layout of an array says
-  pub array-laid_out : (l : Layout) (a : ℕ) → array_layout handle least stride l ≡ Ok a → (b : ℕ) × (l ≡ Ok b) × (max b least ≡ a) × (stride % max b least ≡ 0)
-  array-laid_out (Err e) a h = error-no_layout e a h
+  -- an array with an alignment has such a base and stride
+  pub array-laid_out : (l : Layout) (a : ℕ) → array_layout handle least stride l ≡ Ok a → ArrayIsAligned least stride l a
+  array-laid_out (Err e) a h = cc h
   array-laid_out (Ok b) a h =
-      let failure : Option (ℕ × Disalignment) = unless (stride % max b least == 0) (handle, ArrayStride stride (max b least)) in
-      (b, refl, granted-value failure (max b least) a h, eqb-true (stride % max b least) 0 (unless-kept (stride % max b least == 0) (handle, ArrayStride stride (max b least)) (granted-none failure (max b least) a h)))
+      let kept = granted_ok (unless (stride % max b least == 0) _) (max b least) a h in
+      record { base = b; base_is = refl; is = kept.1; aligned = eqb-true (stride % max b least) 0 (unless-kept (stride % max b least == 0) _ kept.0) }
 
-  -- and when there is one
+  -- and one with such a base and stride has this
   pub array-layout_is : (l : Layout) (b : ℕ) → l ≡ Ok b → stride % max b least ≡ 0 → array_layout handle least stride l ≡ Ok (max b least)
   array-layout_is l b is multiple =
       ap (array_layout handle least stride) is
       ∙ ap (λ c. granted (unless c (handle, ArrayStride stride (max b least))) (max b least)) (eq-eqb (stride % max b least) 0 multiple)
 
--- a member has a layout in an address space, and its offset is a multiple of the alignment there
-abbrev pub IsPlaced : Surroundings → (TypeInfo → Layout) → StructMember → ℕ → Type 0
-IsPlaced s layout m a = (layout (info_at s m.ty) ≡ Ok a) × (m.offset % a ≡ 0)
+-- a type that hosts may share stands at a multiple of the alignment that it has in an address space
+pub record MemberIsAligned (s : Surroundings) (layout : TypeInfo → Layout) (m : StructMember) : Type 0 where
+  pub shareable : has (flags_at s m.ty) HOST_SHAREABLE ≡ true
+  pub alignment : ℕ
+  pub is_alignment : layout (info_at s m.ty) ≡ Ok alignment
+  pub aligned : m.offset % alignment ≡ 0
 
 module _ (s : Surroundings) (layout : TypeInfo → Layout) (t : ℕ) where
-  member_placed : (i : ℕ) (m : StructMember) → member_failure s layout t (i, m) ≡ None → (a : ℕ) × IsPlaced s layout m a
-  member_placed i m h = by (layout (info_at s m.ty)) refl (neither (unless (has (flags_at s m.ty) HOST_SHAREABLE) (m.ty, NonHostShareable)) (offset_failure t i m.offset (layout (info_at s m.ty))) h).1
-    where
-      by : (l : Layout) → layout (info_at s m.ty) ≡ l → offset_failure t i m.offset l ≡ None → (a : ℕ) × IsPlaced s layout m a
-      by (Err e) is none = absurd (impossible none)
-        where
-          impossible : Some e ≡ None → ⊥
-          impossible h = cc h
-      by (Ok a) is none = (a, (is, eqb-true (m.offset % a) 0 (unless-kept (m.offset % a == 0) (t, MemberOffset (saturated i) m.offset a) none)))
+  -- what doesn't fail for its offset has an alignment and stands at a multiple of it
+  at_multiple : (k offset : ℕ) (l : Layout) → offset_failure t k offset l ≡ None → (a : ℕ) × (l ≡ Ok a) × (offset % a ≡ 0)
+  at_multiple k offset (Err e) h = cc h
+  at_multiple k offset (Ok a) h = (a, refl, eqb-true (offset % a) 0 (unless-kept (offset % a == 0) _ h))
 
-  member_kept : (i : ℕ) (m : StructMember) (a : ℕ) → has (flags_at s m.ty) HOST_SHAREABLE ≡ true → IsPlaced s layout m a → member_failure s layout t (i, m) ≡ None
-  member_kept i m a host placed =
-      ap (λ b. option_or (unless b (m.ty, NonHostShareable)) (offset_failure t i m.offset (layout (info_at s m.ty)))) host
-      ∙ ap (offset_failure t i m.offset) placed.0
-      ∙ ap (λ b. unless b (t, MemberOffset (saturated i) m.offset a)) (eq-eqb (m.offset % a) 0 placed.1)
+  -- members are aligned if none fails
+  pub aligned_if_none_fails : (members : List StructMember) (k : ℕ) (m : StructMember) → first (member_failures s layout t members) ≡ None → slice_get members k ≡ Some m → MemberIsAligned s layout m
+  aligned_if_none_fails members k m none at =
+      let both = neither (unless (has (flags_at s m.ty) HOST_SHAREABLE) (m.ty, NonHostShareable)) (offset_failure t k m.offset (layout (info_at s m.ty))) (none-first (member_failure s layout t) members none k m at) in
+      let multiple = at_multiple k m.offset (layout (info_at s m.ty)) both.1 in
+      record { shareable = unless-kept (has (flags_at s m.ty) HOST_SHAREABLE) _ both.0; alignment = multiple.0; is_alignment = multiple.1; aligned = multiple.2 }
 
-  -- no member fails: each is placed
-  pub members-placed : (members : List StructMember) → first (member_failures s layout t members) ≡ None → (i : ℕ) (m : StructMember) → slice_get members i ≡ Some m → (a : ℕ) × IsPlaced s layout m a
-  members-placed members none i m at = member_placed i m (none-first (member_failure s layout t) members none i m at)
-
-  -- and if hosts may share each, that is all that it needs
-  pub members-kept : (members : List StructMember) (of : ℕ → ℕ) → ((i : ℕ) (m : StructMember) → slice_get members i ≡ Some m → (has (flags_at s m.ty) HOST_SHAREABLE ≡ true) × IsPlaced s layout m (of m.ty))
-      → first (member_failures s layout t members) ≡ None
-  members-kept members of all = first-none (member_failure s layout t) members (λ i m at. let h = all i m at in member_kept i m (of m.ty) h.0 h.1)
+  -- and none fails if they are
+  pub none_fails_if_aligned : (members : List StructMember) → ((k : ℕ) (m : StructMember) → slice_get members k ≡ Some m → MemberIsAligned s layout m) → first (member_failures s layout t members) ≡ None
+  none_fails_if_aligned members each = first-none (member_failure s layout t) members (λ k m at.
+      let one = each k m at in
+      let kept = ap (λ b. unless b (m.ty, NonHostShareable)) one.shareable in
+      let multiple = ap (λ b. unless b (t, MemberOffset (saturated k) m.offset one.alignment)) (eq-eqb (m.offset % one.alignment) 0 one.aligned) in
+      ap (λ o. option_or o (offset_failure t k m.offset (layout (info_at s m.ty)))) kept ∙ ap (offset_failure t k m.offset) one.is_alignment ∙ multiple)
 
   -- their greatest alignment is that of the numbers in their layouts
   pub greatest-placed : (members : List StructMember) (of : ℕ → ℕ) → ((i : ℕ) (m : StructMember) → slice_get members i ≡ Some m → layout (info_at s m.ty) ≡ Ok (of m.ty))
       → greatest_alignment s layout members ≡ greatest (map (λ (m : StructMember). of m.ty) members)
   greatest-placed members of all =
-      ap greatest (map-agree (λ (m : StructMember). result_unwrap_or (layout (info_at s m.ty)) 1) (λ (m : StructMember). of m.ty) members (λ i m at. ap (λ l. result_unwrap_or l 1) (all i m at)))
+      same_greatest (λ (m : StructMember). result_unwrap_or (layout (info_at s m.ty)) 1) (λ (m : StructMember). of m.ty) members (λ i m at. ap (λ l. result_unwrap_or l 1) (all i m at))
 
 module _ (s : Surroundings) (t : ℕ) (members : List StructMember) (span : ℕ) where
   -- the span of a struct is a multiple of its alignment

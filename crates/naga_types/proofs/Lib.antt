@@ -1,4 +1,3 @@
-pub mod AcceptedInfos
 pub mod ByLeaves
 pub mod CommonFlags
 mod ComposeLemmas

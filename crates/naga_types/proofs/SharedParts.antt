@@ -1,5 +1,5 @@
 -- Parts of types that hosts may share: they are shared too, placed, and follow each other.
-use Rattle.std.proofs.Common.{◌≡◌, ◌<◌, ◌≤◌, ◌+◌, ◌*◌, ◌%◌, ⊎_elim, ℕ, suc, max, true, List, [], ◌∷◌, ◌++◌, Option, Some, Ok, Contains, length, slice_get, refl, sym, ap, subst, ◌∙◌, arith, length-append}
+use Rattle.std.proofs.Common.{◌≡◌, ◌<◌, ◌≤◌, ◌+◌, ◌*◌, ⊎_elim, ℕ, suc, true, List, [], ◌∷◌, ◌++◌, Option, Some, Ok, length, slice_get, refl, sym, ap, subst, ◌∙◌, arith, length-append}
 use Rattle.std.specs.Prelude.{◌-◌, ltb}
 use Rattle.std.specs.Option.{option_map, unwrap_or}
 use Rattle.std.proofs.lemmas.Bool.{cases_lt, ltb-true}
@@ -7,8 +7,9 @@ use Rattle.std.proofs.lemmas.Nat.{rows}
 use Rattle.std.proofs.lemmas.Nat.Gcd.{dvd_of_mod-eq-zero, dvd_refl}
 use Rattle.std.proofs.Math.Nat.{dvd-mul_left_of_dvd}
 use Prim.Native.Nat.{◌∣◌}
-use Rattle.std.proofs.lemmas.Option.{cond_some, get_or_from_slice_get, same_Some, slice_get_within}
+use Rattle.std.proofs.lemmas.Option.{cond_some, same_Some, slice_get_within}
 use Rattle.naga_arena.proofs.Progress.{slice_get-seam}
+use Rattle.naga_flags.proofs.HasLemmas.{has-trans}
 use Rattle.naga_flags.specs.Bits.{HOST_SHAREABLE, SIZED}
 use Rattle.naga_flags.specs.Flags.{has}
 use Rattle.naga_ir.specs.ItemReferences.{GlobalLists}
@@ -18,20 +19,26 @@ use Rattle.naga_ir_types.specs.declared.types.StructMember.{StructMember}
 use Rattle.naga_ir_types.specs.declared.types.TypeInner.{TypeInner}
 use Rattle.naga_ir_types.specs.declared.types.TypeInner.TheVariants.{Array, Struct}
 use Rattle.naga_types.proofs.GreatestLemmas.{at_most_greatest}
+use Rattle.naga_types.proofs.HostAlignments.{leaf-alignment}
+use Rattle.naga_types.proofs.HostInside.{IsHostType, inside}
 use Rattle.naga_types.proofs.JudgedTypes.{Judged, JudgedTypes, alignment_is, alignment_of_type, array_has, base_before, element_sized, info_of, known, known_is, member_before, rule_is, size_is}
+use Rattle.naga_types.proofs.LayoutParts.{contains-place}
 use Rattle.naga_types.proofs.LeafPlaces.{AllArePlaced, EndsBy, IsPlaced, map_some}
 use Rattle.naga_types.proofs.PowersDivide.{powers_divide}
-use Rattle.naga_types.proofs.StorageOfUniform.{ArrayIsAligned, array_storage, powers, storage_alignment, struct_storage}
-use Rattle.naga_types.proofs.StructPlaces.{MemberIsAligned, aligned_if_none_fails, earlier_sized, ends_within, flags_are, members_follow, members_sized}
+use Rattle.naga_types.proofs.StorageLayouts.{storage-exactly}
+use Rattle.naga_types.proofs.StorageOfUniform.{powers}
+use Rattle.naga_types.proofs.StructPlaces.{earlier_sized, ends_within, flags_are, members_follow, members_sized}
 use Rattle.naga_types.specs.FormFlags.{array_flags}
+use Rattle.naga_types.specs.HostLayouts.{IsStorageAligned, data_for_hosts}
 use Rattle.naga_types.specs.Judging.{first}
 use Rattle.naga_types.specs.Layouts.{in_storage}
 use Rattle.naga_types.specs.StructRule.{struct_rule}
 use Rattle.naga_types.specs.Surroundings.{Surroundings, info_at, size_at}
 use Rattle.naga_types.specs.TypeRule.{type_rule}
 use Rattle.naga_types.specs.declared.info.TypeInfo.{TypeInfo}
+use Rattle.naga_typing.proofs.Inside.{AllInside, all-further_inside}
 use Rattle.naga_typing.specs.Layout.{alignment_of, element_count, size_of}
-use Rattle.naga_typing.specs.Leaves.{EndsInArray, HasNoShortStride, IsInside, Part, array, element, elements, inner_at, is_leaf, itself, last_member, member, part_at, size_at_index}
+use Rattle.naga_typing.specs.Leaves.{EndsInArray, HasNoShortStride, IsInside, IsLeafAlignment, Part, array, element, elements, inner_at, is_leaf, itself, last_member, member, part_at, size_at_index}
 use Rattle.naga_typing.specs.declared.layouter.TypeLayout.{TypeLayout}
 
 -- what is inside a type that is inside another is inside that
@@ -62,10 +69,6 @@ same_array g n b base size s stride e =
 same_members : (members others : List StructMember) (span own : ℕ) → Some (Struct members span) ≡ Some (Struct others own) → members ≡ others
 same_members members others span own e = cc
 
--- the item of an index is in the list
-contained : {X : Type 0} (xs : List X) (k : ℕ) (x : X) → slice_get xs k ≡ Some x → Contains xs x
-contained xs k x at = (k, slice_get_within xs k x at, get_or_from_slice_get xs k x x at)
-
 -- the alignment of a leaf needs no layouts
 leaf_alignment : (layouts : List TypeLayout) (inner : TypeInner) → is_leaf inner ≡ true → alignment_of layouts inner ≡ alignment_of [] inner
 leaf_alignment layouts (Array base size stride) leaf = cc leaf
@@ -90,8 +93,7 @@ module _ (w : JudgedTypes) (n : ℕ) where
 
   -- hosts may share a type, it is aligned in storage buffers, and no stride inside it is short
   pub record IsShared (t : ℕ) : Type 0 where
-    pub within : t < length w.infos
-    pub shareable : has (info_of w t).flags.0 HOST_SHAREABLE ≡ true
+    pub host : IsHostType w t
     pub layout : in_storage (info_of w t) ≡ Ok (al t)
     pub strides : HasNoShortStride w.lists t
 
@@ -106,13 +108,34 @@ module _ (w : JudgedTypes) (n : ℕ) where
   module _ (t : ℕ) (shared : IsShared t) where
     -- the type is judged
     abbrev j : Judged w t
-    j = w.judged t shared.within
+    j = w.judged t shared.host.0
 
     -- by this
     abbrev s : Surroundings
     s = known w t j
 
+    -- all types inside it are aligned by leaves
+    all_aligned : AllInside w.lists (IsStorageAligned w.lists) t
+    all_aligned = ((storage-exactly w t shared.host.0 shared.host.1).if_there (al t) shared.layout).1
+
+    -- and are shared with hosts
+    part_shared : (p : ℕ) → IsInside w.lists t p → IsShared p
+    part_shared p i =
+        let host = inside w t p i shared.host in
+        record {
+          host = host;
+          layout = (storage-exactly w p host.0 host.1).is_there (all-further_inside w.lists (IsStorageAligned w.lists) t p i all_aligned);
+          strides = strides_inside w.lists t p i shared.strides;
+        }
+
+    -- at their leaf alignments
+    leaf_alignment_of : (p : ℕ) → IsInside w.lists t p → IsLeafAlignment w.lists p (al p)
+    leaf_alignment_of p i = let host = inside w t p i shared.host in leaf-alignment w p host.0 host.1
+
     module _ (base : ℕ) (size : ArraySize) (stride : ℕ) (form : inner_at w.lists t ≡ Some (Array base size stride)) where
+      base_inside : IsInside w.lists t base
+      base_inside = element t base size stride itself form
+
       before : base < t
       before = base_before w t j base size stride form
 
@@ -122,30 +145,13 @@ module _ (w : JudgedTypes) (n : ℕ) where
       base_sized : has (info_of w base).flags.0 SIZED ≡ true
       base_sized = ap (λ (i : TypeInfo). has i.flags.0 SIZED) (sym (known_is w t j base before)) ∙ element_sized s t base size stride (info_of w t) array_rule
 
-      base_layout : ArrayIsAligned (al base) stride (in_storage (info_of w base)) (al t)
-      base_layout = array_storage w t j base size stride (al t) form shared.layout
-
-      base_own : base_layout.base ≡ al base
-      base_own = storage_alignment w base base_layout.base (omega (arith, before, shared.within)) base_layout.base_is
-
-      base_shared : IsShared base
-      base_shared = record {
-        within = omega (arith, before, shared.within);
-        shareable = ap (λ (i : TypeInfo). has i.flags.0 HOST_SHAREABLE) (sym (known_is w t j base before)) ∙ (array_has s t base size stride (info_of w t) array_rule HOST_SHAREABLE shared.shareable).0;
-        layout = base_layout.base_is ∙ ap Ok base_own;
-        strides = strides_inside w.lists t base (element t base size stride itself form) shared.strides;
-      }
-
       stride_multiple : al base ∣ stride
-      stride_multiple =
-          let own = base_own in
-          let one : max base_layout.base (al base) ≡ al base = omega (arith, own) in
-          dvd_of_mod-eq-zero (al base) (ap (λ a. stride % a) (sym one) ∙ base_layout.aligned)
+      stride_multiple = dvd_of_mod-eq-zero (al base) ((all_aligned t itself).of_stride base size stride form (al base) (leaf_alignment_of base base_inside))
 
       array_place : (i : ℕ) (part : Part) → parts_of (Array base size stride) i ≡ Some part → IsPlaced IsShared al t part
       array_place i part at =
           subst (λ (p : Part). IsPlaced IsShared al t p) (cond_some (ltb i (elements w.lists n size)) _ part at).1 (record {
-            good = base_shared;
+            good = part_shared base base_inside;
             divides = subst (λ a. al base ∣ a) (sym (alignment_is w t j (Array base size stride) form)) (dvd_refl (al base));
             aligned = dvd-mul_left_of_dvd (al base) stride_multiple i;
           })
@@ -177,39 +183,28 @@ module _ (w : JudgedTypes) (n : ℕ) where
       struct_is : struct_rule s t members span ≡ Ok (info_of w t)
       struct_is = rule_is w t j (Struct members span) form
 
-      member_aligned : (k : ℕ) (m : StructMember) → slice_get members k ≡ Some m → MemberIsAligned s in_storage m
-      member_aligned k m at = aligned_if_none_fails s in_storage t members k m (struct_storage w t j members span (al t) form shared.layout).0 at
+      for_hosts : has (info_of w t).flags.0 HOST_SHAREABLE ≡ true
+      for_hosts = has-trans (info_of w t).flags.0 data_for_hosts HOST_SHAREABLE shared.host.1 refl
 
       module _ (k : ℕ) (m : StructMember) (at : slice_get members k ≡ Some m) where
         -- the member as a part
         abbrev part : Part
         part = record { ty = m.ty; first = m.offset }
 
+        member_inside : IsInside w.lists t m.ty
+        member_inside = member t members span m itself form (contains-place members k m at)
+
         first_before : m.ty < t
         first_before = member_before w t j members span k m form at
 
         member_within : m.ty < length w.infos
-        member_within = let before = first_before in omega (arith, before, shared.within)
+        member_within = let before = first_before in omega (arith, before, shared.host.0)
 
         member_is : info_at s m.ty ≡ info_of w m.ty
         member_is = known_is w t j m.ty first_before
 
         member_size : size_at s m.ty ≡ size_at_index w.lists m.ty
         member_size = size_is w m.ty (w.judged m.ty member_within)
-
-        member_layout : in_storage (info_of w m.ty) ≡ Ok (member_aligned k m at).alignment
-        member_layout = ap in_storage (sym member_is) ∙ (member_aligned k m at).is_alignment
-
-        member_own : (member_aligned k m at).alignment ≡ al m.ty
-        member_own = storage_alignment w m.ty (member_aligned k m at).alignment member_within member_layout
-
-        member_shared : IsShared m.ty
-        member_shared = record {
-          within = member_within;
-          shareable = ap (λ (i : TypeInfo). has i.flags.0 HOST_SHAREABLE) (sym member_is) ∙ (member_aligned k m at).shareable;
-          layout = member_layout ∙ ap Ok member_own;
-          strides = strides_inside w.lists t m.ty (member t members span m itself form (contained members k m at)) shared.strides;
-        }
 
         member_divides : al m.ty ∣ al t
         member_divides =
@@ -219,9 +214,9 @@ module _ (w : JudgedTypes) (n : ℕ) where
 
         member_place : IsPlaced IsShared al t part
         member_place = record {
-          good = member_shared;
+          good = part_shared m.ty member_inside;
           divides = member_divides;
-          aligned = subst (λ a. a ∣ m.offset) member_own (dvd_of_mod-eq-zero (member_aligned k m at).alignment (member_aligned k m at).aligned);
+          aligned = dvd_of_mod-eq-zero (al m.ty) ((all_aligned t itself).of_offset members span m form (contains-place members k m at) (al m.ty) (leaf_alignment_of m.ty member_inside));
         }
 
         -- a member of a fixed size ends by a byte that its size does not pass
@@ -237,7 +232,7 @@ module _ (w : JudgedTypes) (n : ℕ) where
         member_ends_before i q there behind =
             let within = slice_get_within members i q there in
             let sized = earlier_sized s t members span (info_of w t) struct_is k m at (omega (arith, behind, within)) in
-            sized_ends q.offset sized (members_follow s t members span (info_of w t) struct_is shared.shareable (i - suc k) k i m q (omega (arith, behind)) at there)
+            sized_ends q.offset sized (members_follow s t members span (info_of w t) struct_is for_hosts (i - suc k) k i m q (omega (arith, behind)) at there)
 
         -- and ends where a struct ends that ends in an array
         member_ends_at_last : (front : List StructMember) (q : StructMember) (b stride : ℕ) → members ≡ front ++ q ∷ [] → inner_at w.lists q.ty ≡ Some (Array b Dynamic stride) → EndsBy HasLimit part (q.offset + n * stride)
@@ -316,6 +311,6 @@ module _ (w : JudgedTypes) (n : ℕ) where
     placed = placed_by_form;
     ends = ends_by_form;
     follow = follow_by_form;
-    leaf_divides = λ t inner shared form leaf. subst (λ a. alignment_of [] inner ∣ a) (sym (alignment_is w t (w.judged t shared.within) inner form ∙ leaf_alignment w.layouts inner leaf)) (dvd_refl (alignment_of [] inner));
+    leaf_divides = λ t inner shared form leaf. subst (λ a. alignment_of [] inner ∣ a) (sym (alignment_is w t (w.judged t shared.host.0) inner form ∙ leaf_alignment w.layouts inner leaf)) (dvd_refl (alignment_of [] inner));
     leaf_ends = λ t inner limit shared ends form leaf. leaf_limit t inner limit ends form leaf;
   }

@@ -1,26 +1,23 @@
 -- Data that hosts may share has a uniform layout exactly if all inside it is laid out so by leaves.
-use Rattle.std.proofs.Common.{◌≡◌, ◌%◌, ◌<◌, ℕ, zero, suc, Bool, true, false, max, List, Option, Some, None, Ok, Err, IsOk, if◌then◌else◌, map, slice_get, refl, sym, subst, ap, ◌∙◌, arith}
-use Rattle.std.specs.Option.{option_map}
+use Rattle.std.proofs.Common.{◌≡◌, ◌%◌, ◌<◌, ℕ, zero, suc, Bool, true, false, max, List, Option, Some, None, Ok, Err, IsOk, if◌then◌else◌, length, map, slice_get, refl, sym, subst, ap, ◌∙◌, arith}
 use Rattle.naga_arena.proofs.Elements.{all_at}
-use Rattle.naga_arena.specs.InOrder.{FollowInOrder}
 use Rattle.naga_flags.proofs.HasLemmas.{has-trans}
 use Rattle.naga_flags.specs.Bits.{HOST_SHAREABLE, SIZED}
 use Rattle.naga_flags.specs.Flags.{has}
-use Rattle.naga_ir.proofs.ReferredTo.{parts_come_before}
-use Rattle.naga_ir.specs.Handles.{GlobalReferencesOk}
+use Rattle.naga_flags.specs.declared.flags.Capabilities.{Capabilities}
 use Rattle.naga_ir.specs.ItemReferences.{GlobalLists}
 use Rattle.naga_ir_types.proofs.PartLemmas.{base_is, members_are}
-use Rattle.naga_ir_types.specs.declared.types.«Type».{«Type»}
 use Rattle.naga_ir_types.specs.declared.types.ArraySize.{ArraySize}
 use Rattle.naga_ir_types.specs.declared.types.StructMember.{StructMember}
 use Rattle.naga_ir_types.specs.declared.types.TypeInner.{TypeInner}
 use Rattle.naga_ir_types.specs.declared.types.TypeInner.TheVariants as form
-use Rattle.naga_types.proofs.AcceptedInfos.{info-of_part, judged_after, judged_at, rule_in_order, type-of}
 use Rattle.naga_types.proofs.ByLeaves.{IsExactly, of-leaf_alignment, same-layout, uniform-array, uniform-leaf, uniform-struct}
-use Rattle.naga_types.proofs.HostAlignments.{PartsBefore, alignment-of_form, leaf-alignment}
+use Rattle.naga_types.proofs.HostAlignments.{PartsBefore, leaf-alignment}
 use Rattle.naga_types.proofs.HostForms.{HostForm, host-form, leaf, array, struct, struct_info}
-use Rattle.naga_types.proofs.LayoutParts.{array-laid_out, array-layout_is, contains-place, greatest-placed, members-kept, members-placed}
+use Rattle.naga_types.proofs.JudgedTypes.{JudgedTypes, alignment_is, alignment_of_type, info_of, known, known_is, own_form, parts_before}
+use Rattle.naga_types.proofs.LayoutParts.{aligned_if_none_fails, array-laid_out, array-layout_is, contains-place, greatest-placed, none_fails_if_aligned}
 use Rattle.naga_types.proofs.UniformParts.{UniformKept, greatest-above, rooms-kept, rooms-left, sizes-fixed, sizes-kept, uniform-laid_out, uniform-layout_is}
+use Rattle.naga_types.specs.AcceptedTypes.{judged_by}
 use Rattle.naga_types.specs.HostLayouts.{IsForHosts, IsUniformAligned, HasUniformByLeaves, data_for_hosts, uniform_alignment, uniform_alignment_in}
 use Rattle.naga_types.specs.Layouts.{Layout, greatest_alignment, in_uniform, min_uniform}
 use Rattle.naga_types.specs.Surroundings.{Surroundings, flags_at, info_at, info_in}
@@ -28,7 +25,7 @@ use Rattle.naga_types.specs.TypeRule.{array_info}
 use Rattle.naga_types.specs.declared.info.TypeInfo.{TypeInfo}
 use Rattle.naga_typing.proofs.Inside.{AllInside, all-further_inside, all-in_array, all-in_leaf, all-in_struct}
 use Rattle.naga_typing.proofs.LeafAlignments.{place-in}
-use Rattle.naga_typing.specs.Layout.{AreLayouts, alignment_at, alignment_of, greatest}
+use Rattle.naga_typing.specs.Layout.{alignment_at, alignment_of, greatest}
 use Rattle.naga_typing.specs.Leaves.{IsLeafAlignment, inner_at, is_leaf, element, itself, member}
 use Rattle.naga_typing.specs.declared.layouter.TypeLayout.{TypeLayout}
 
@@ -49,7 +46,7 @@ uniform_above (Some inner) a = by (is_leaf inner)
     by true = refl
     by false = omega arith
 
-module _ (g : GlobalLists) (capabilities : ℕ) (resolved : Bool) (layouts : List TypeLayout) (infos : List TypeInfo) where
+module _ (g : GlobalLists) (capabilities : Capabilities) (resolved : Bool) (layouts : List TypeLayout) (infos : List TypeInfo) where
   -- the uniform alignment of a type by the layouter's
   abbrev pub uniform_at : ℕ → ℕ
   uniform_at t = uniform_alignment g t (alignment_at layouts t)
@@ -61,12 +58,12 @@ module _ (g : GlobalLists) (capabilities : ℕ) (resolved : Bool) (layouts : Lis
   -- what is known of a part of a type
   pub record KnownUniform (before : List TypeInfo) (p : ℕ) : Type 0 where
     pub alignment : IsLeafAlignment g p (alignment_at layouts p)
-    pub same_info : info_at (judged_after g capabilities resolved layouts before) p ≡ info_in (slice_get infos p)
-    pub uniform : UniformIsExactly p (info_at (judged_after g capabilities resolved layouts before) p).uniform_layout
+    pub same_info : info_at (judged_by g capabilities resolved layouts before) p ≡ info_in (slice_get infos p)
+    pub uniform : UniformIsExactly p (info_at (judged_by g capabilities resolved layouts before) p).uniform_layout
 
   module _ (before : List TypeInfo) (t : ℕ) (info : TypeInfo) (own : IsLeafAlignment g t (alignment_at layouts t)) where
     abbrev s : Surroundings
-    s = judged_after g capabilities resolved layouts before
+    s = judged_by g capabilities resolved layouts before
 
     as_layout : (a b : ℕ) → a ≡ b → (let l : Layout = Ok a in l ≡ Ok b)
     as_layout a b e = ap (λ n. let l : Layout = Ok n in l) e
@@ -87,10 +84,10 @@ module _ (g : GlobalLists) (capabilities : ℕ) (resolved : Bool) (layouts : Lis
         if_there : (a : ℕ) → info.uniform_layout ≡ Ok a → (uniform_at t ≡ a) × AllInside g (IsUniformAligned g infos) t
         if_there a e =
             let r = array-laid_out t (max (alignment_at layouts base) min_uniform) stride (info_at s base).uniform_layout a (uniform ∙ e) in
-            let further = known.uniform.if_there r.0 r.1 in
-            let total : max r.0 (max (alignment_at layouts base) min_uniform) ≡ uniform_at t = omega (arith, further.0, above, number) in
-            let multiple : stride % uniform_at t ≡ 0 = subst (λ n. stride % n ≡ 0) total r.3 in (
-              sym total ∙ r.2,
+            let further = known.uniform.if_there r.base r.base_is in
+            let total : max r.base (max (alignment_at layouts base) min_uniform) ≡ uniform_at t = omega (arith, further.0, above, number) in
+            let multiple : stride % uniform_at t ≡ 0 = subst (λ n. stride % n ≡ 0) total r.aligned in (
+              sym total ∙ r.is,
               all-in_array g (IsUniformAligned g infos) t base size stride is
                   (uniform-array g t infos base size stride is (of-leaf_alignment g (λ a. stride % uniform_alignment g t a ≡ 0) t (alignment_at layouts t) own multiple)) further.1,
             )
@@ -125,15 +122,15 @@ module _ (g : GlobalLists) (capabilities : ℕ) (resolved : Bool) (layouts : Lis
         if_there : (a : ℕ) → info.uniform_layout ≡ Ok a → (uniform_at t ≡ a) × AllInside g (IsUniformAligned g infos) t
         if_there a e =
             let r = uniform-laid_out s t members span a (uniform ∙ e) in
-            let placed = members-placed s in_uniform t members r.0.placed in
-            let further = λ (i : ℕ) (m : StructMember) (at : slice_get members i ≡ Some m). (each i m at).1.uniform.if_there (placed i m at).0 (placed i m at).1.0 in
-            let number = greatest-placed s in_uniform t members uniform_at (λ i m at. (placed i m at).1.0 ∙ as_layout _ _ (sym (further i m at).0)) in (
+            let placed = λ (i : ℕ) (m : StructMember) (at : slice_get members i ≡ Some m). aligned_if_none_fails s in_uniform t members i m r.0.placed at in
+            let further = λ (i : ℕ) (m : StructMember) (at : slice_get members i ≡ Some m). (each i m at).1.uniform.if_there (placed i m at).alignment (placed i m at).is_alignment in
+            let number = greatest-placed s in_uniform t members uniform_at (λ i m at. (placed i m at).is_alignment ∙ as_layout _ _ (sym (further i m at).0)) in (
               sym (total number) ∙ r.1,
               all-in_struct g (IsUniformAligned g infos) t members span is
                   (uniform-struct g t infos members span is (of-leaf_alignment g (λ a. span % a ≡ 0) t (alignment_at layouts t) own r.0.whole)
                   (λ m c. let at = place-in members m c in
                   of-leaf_alignment g (λ a. m.offset % uniform_alignment g m.ty a ≡ 0) m.ty (alignment_at layouts m.ty) (each at.0 m at.1).1.alignment
-                  (subst (λ n. m.offset % n ≡ 0) (sym (further at.0 m at.1).0) (placed at.0 m at.1).1.1))
+                  (subst (λ n. m.offset % n ≡ 0) (sym (further at.0 m at.1).0) (placed at.0 m at.1).aligned))
                   (λ m c. let at = place-in members m c in subst (λ n. has n SIZED ≡ true) (same_flags at.0 m at.1) (sizes-fixed s t members span r.0.sized at.0 m at.1))
                   (rooms-left s t members span r.0.rooms))
                   (λ m c. let at = place-in members m c in (further at.0 m at.1).1),
@@ -147,8 +144,12 @@ module _ (g : GlobalLists) (capabilities : ℕ) (resolved : Bool) (layouts : Lis
             let kept : UniformKept s t members span = record {
               whole = here.of_span members span is (alignment_at layouts t) own;
               rooms = rooms-kept s t members span (λ i m next inside room. here.of_room members span i m next inside room is);
-              placed = members-kept s in_uniform t members uniform_at
-                  (λ i m at. ((each i m at).0, (there i m at, here.of_offset members span m is (contains-place members i m at) (alignment_at layouts m.ty) (each i m at).1.alignment)));
+              placed = none_fails_if_aligned s in_uniform t members (λ i m at. record {
+                shareable = (each i m at).0;
+                alignment = uniform_at m.ty;
+                is_alignment = there i m at;
+                aligned = here.of_offset members span m is (contains-place members i m at) (alignment_at layouts m.ty) (each i m at).1.alignment;
+              });
               sized = sizes-kept s t members span (λ i m at. subst (λ n. has n SIZED ≡ true) (sym (same_flags i m at)) (here.of_size members span m is (contains-place members i m at)));
             } in
             sym uniform ∙ uniform-layout_is s t members span kept ∙ as_layout _ _ (total (greatest-placed s in_uniform t members uniform_at there))
@@ -170,38 +171,44 @@ module _ (g : GlobalLists) (capabilities : ℕ) (resolved : Bool) (layouts : Lis
         let its = all_at (λ (m : StructMember). has (flags_at s m.ty) data_for_hosts ≡ true) members i m flags at in
         (has-trans (flags_at s m.ty) data_for_hosts HOST_SHAREABLE its refl, part m.ty (all_at (λ (m : StructMember). m.ty < t) members i m named at) its)) given
 
-module _ (g : GlobalLists) (ok : GlobalReferencesOk g) (layouts : List TypeLayout) (are : AreLayouts g layouts) (capabilities : ℕ) (resolved : Bool) (infos : List TypeInfo)
-    (follow : FollowInOrder (rule_in_order g capabilities resolved layouts) g.types infos) where
-  below : (n t : ℕ) (info : TypeInfo) → t < n → slice_get infos t ≡ Some info → IsForHosts info → UniformIsExactly g capabilities resolved layouts infos t info.uniform_layout
-  below zero t info within at for_hosts = absurd (omega (arith, within))
-  below (suc n) t info within at for_hosts =
-      let ty = type-of g capabilities resolved layouts infos follow t info at in
-      let s : Surroundings = judged_at g capabilities resolved layouts infos follow t info at in
-      by_parts g capabilities resolved layouts infos s.infos t info (leaf-alignment g ok layouts are capabilities resolved infos follow t info at for_hosts) ty.0.inner
-      (ap (option_map (λ (ty : «Type»). ty.inner)) ty.1) (λ p names. parts_come_before g ok t ty.0 p ty.1 names) (alignment-of_form g ok layouts are t ty.0 ty.1)
+module _ (w : JudgedTypes) where
+  -- the uniform layout of a type, exactly
+  abbrev IsExact : ℕ → TypeInfo → Type 0
+  IsExact t info = UniformIsExactly w.lists w.capabilities w.resolved w.layouts w.infos t info.uniform_layout
+
+  below : (n t : ℕ) → t < n → t < length w.infos → IsForHosts (info_of w t) → IsExact t (info_of w t)
+  below zero t under within for_hosts = absurd (omega (arith, under))
+  below (suc n) t under within for_hosts =
+      let j = w.judged t within in
+      by_parts w.lists w.capabilities w.resolved w.layouts w.infos j.known t (info_of w t) (leaf-alignment w t within for_hosts) j.ty.inner (own_form w t j) (parts_before w t j)
+      (alignment_is w t j j.ty.inner (own_form w t j))
       (λ p before flags.
-      let i = info-of_part g capabilities resolved layouts infos follow t info at p before in
-      let its : IsForHosts i.0 = ap (λ (x : TypeInfo). has x.flags.0 data_for_hosts) (sym i.2) ∙ flags in
+      let earlier : p < length w.infos = omega (arith, before, within) in
+      let its : IsForHosts (info_of w p) = ap (λ (x : TypeInfo). has x.flags.0 data_for_hosts) (sym (known_is w t j p before)) ∙ flags in
       record {
-        alignment = leaf-alignment g ok layouts are capabilities resolved infos follow p i.0 i.1 its;
-        same_info = i.2 ∙ sym (ap info_in i.1);
-        uniform = subst (λ (x : TypeInfo). UniformIsExactly g capabilities resolved layouts infos p x.uniform_layout) (sym i.2) (below n p i.0 (omega (arith, before, within)) i.1 its);
+        alignment = leaf-alignment w p earlier its;
+        same_info = known_is w t j p before;
+        uniform = subst (IsExact p) (sym (known_is w t j p before)) (below n p (omega (arith, before, under)) earlier its);
       })
-      (host-form s t info for_hosts ty.0.inner ty.2)
+      (host-form (known w t j) t (info_of w t) for_hosts j.ty.inner j.by_rule)
+
+  -- so it is of all data that hosts may share
+  pub uniform-exactly : (t : ℕ) → t < length w.infos → IsForHosts (info_of w t) → UniformIsExactly w.lists w.capabilities w.resolved w.layouts w.infos t (in_uniform (info_of w t))
+  uniform-exactly t within for_hosts = below (suc t) t (omega arith) within for_hosts
 
   -- data that hosts may share has a uniform layout exactly if all types inside it are laid out so, and then at its uniform alignment
-  pub uniform-by_leaves : (t : ℕ) (info : TypeInfo) → slice_get infos t ≡ Some info → IsForHosts info → HasUniformByLeaves g infos t info
-  uniform-by_leaves t info at for_hosts =
-      let exact = below (suc t) t info (omega arith) at for_hosts in
+  pub uniform-by_leaves : (t : ℕ) → t < length w.infos → IsForHosts (info_of w t) → HasUniformByLeaves w.lists w.infos t (info_of w t)
+  uniform-by_leaves t within for_hosts =
+      let exact = uniform-exactly t within for_hosts in
       record {
-        exactly = (λ there. all_inside exact info.uniform_layout refl there, λ all. is_ok (exact.is_there all));
-        alignment = λ there. of-leaf_alignment g (λ a. info.uniform_layout ≡ Ok (uniform_alignment g t a)) t (alignment_at layouts t)
-            (leaf-alignment g ok layouts are capabilities resolved infos follow t info at for_hosts) (exact.is_there (all_inside exact info.uniform_layout refl there));
+        exactly = (λ there. all_inside exact (in_uniform (info_of w t)) refl there, λ all. is_ok (exact.is_there all));
+        alignment = λ there. of-leaf_alignment w.lists (λ a. in_uniform (info_of w t) ≡ Ok (uniform_alignment w.lists t a)) t (alignment_of_type w t)
+            (leaf-alignment w t within for_hosts) (exact.is_there (all_inside exact (in_uniform (info_of w t)) refl there));
       }
     where
-      all_inside : UniformIsExactly g capabilities resolved layouts infos t info.uniform_layout → (l : Layout) → info.uniform_layout ≡ l → IsOk l → AllInside g (IsUniformAligned g infos) t
+      all_inside : IsExact t (info_of w t) → (l : Layout) → in_uniform (info_of w t) ≡ l → IsOk l → AllInside w.lists (IsUniformAligned w.lists w.infos) t
       all_inside exact (Ok a) e there = (exact.if_there a e).1
       all_inside exact (Err x) e there = absurd (cc there)
 
-      is_ok : info.uniform_layout ≡ Ok (uniform_alignment g t (alignment_at layouts t)) → IsOk info.uniform_layout
+      is_ok : in_uniform (info_of w t) ≡ Ok (uniform_alignment w.lists t (alignment_of_type w t)) → IsOk (in_uniform (info_of w t))
       is_ok e = subst IsOk (sym e) refl

@@ -1,5 +1,5 @@
 -- Leaves of small types, and types whose leaves share bytes.
-use Rattle.std.proofs.Common.{◌≡◌, ◌≤◌, ◌+◌, ⊎_elim, ℕ, [], ◌∷◌, Some, None, refl, arith}
+use Rattle.std.proofs.Common.{◌≡◌, ◌≤◌, ◌+◌, ◌%◌, ⊎_elim, ℕ, [], ◌∷◌, Some, None, refl, arith}
 use Rattle.naga_ir.specs.ItemReferences.{GlobalLists}
 use Rattle.naga_ir_types.specs.declared.types.«Type».{«Type»}
 use Rattle.naga_ir_types.specs.declared.types.ArraySize.TheVariants.{Dynamic}
@@ -8,6 +8,7 @@ use Rattle.naga_ir_types.specs.declared.types.StructMember.{StructMember}
 use Rattle.naga_ir_types.specs.declared.types.TypeInner.{TypeInner}
 use Rattle.naga_ir_types.specs.declared.types.TypeInner.TheVariants.{Array, Scalar, Struct, Vector}
 use Rattle.naga_ir_types.specs.declared.types.VectorSize.TheVariants.{Quad}
+use Rattle.naga_types.specs.HostLeaves.{AlignsLeaves}
 use Rattle.naga_typing.specs.Leaves.{AreSeparate, EndsInArray, ShareNoByte, array, elements, leaf_at}
 
 -- a type without a name
@@ -18,7 +19,7 @@ unnamed inner = record { name = None; inner = inner }
 abbrev member_at : ℕ → ℕ → StructMember
 member_at ty offset = record { name = None; ty = ty; binding = None; offset = offset }
 
--- a number, a vector of four, a struct of both, and as many of that as there is room for; then numbers at a stride of 0, and two members at 0
+-- a number, a vector of four, a struct of both, and as many of that as there is room for; then numbers at a stride of 0, two members at 0, a number behind a vector, and one in a vector
 abbrev lists : GlobalLists
 lists = record {
   types =
@@ -28,6 +29,8 @@ lists = record {
       unnamed (Array 2 Dynamic 32) ∷
       unnamed (Array 0 Dynamic 0) ∷
       unnamed (Struct (member_at 0 0 ∷ member_at 0 0 ∷ []) 4) ∷
+      unnamed (Struct (member_at 1 0 ∷ member_at 0 16 ∷ []) 32) ∷
+      unnamed (Struct (member_at 0 0 ∷ member_at 1 16 ∷ member_at 0 20 ∷ []) 32) ∷
       [];
   constants = [];
   overrides = [];
@@ -80,3 +83,14 @@ no-stride limit h = shared_bytes 4 (h.disjoint (0 ∷ []) (1 ∷ []) _ _ (other_
 pub members-at-0 : (n limit : ℕ) → ¬ (AreSeparate lists n 5 limit)
 unfolding leaf_at
 members-at-0 n limit h = shared_bytes 4 (h.disjoint (0 ∷ []) (1 ∷ []) _ _ (other_index 0 1 (λ e. omega (arith, e))) refl refl)
+
+-- a member in the one before it shares bytes with it, though it stands behind the first
+pub third-in-second : (n limit : ℕ) → ¬ (AreSeparate lists n 7 limit)
+unfolding leaf_at
+third-in-second n limit h =
+    ⊎_elim (λ (e : 16 + 16 ≤ 20). omega (arith, e)) (λ (e : 20 + 4 ≤ 16). omega (arith, e)) (h.disjoint (1 ∷ []) (2 ∷ []) _ _ (other_index 1 2 (λ e. omega (arith, e))) refl refl)
+
+-- the alignment of the last member is too little for the vector before it
+pub last-member : ¬ (AlignsLeaves lists 6 4)
+unfolding leaf_at
+last-member aligns = let multiple : 4 % 16 ≡ 0 = aligns 0 (0 ∷ []) _ refl in omega (arith, multiple)
