@@ -1,6 +1,8 @@
 pub mod EachLaws
+pub mod ExpressionLaws
 pub mod LineLaws
 pub mod ListLaws
+pub mod LiteralLaws
 pub mod MemberLaws
 pub mod ModuleLaws
 pub mod PartLaws

@@ -2,15 +2,18 @@
 use Rattle.std.proofs.Common.{◌≡◌, ℕ, List, [], ◌∷◌, Some, refl, subst, codes}
 use Rattle.std.proofs.lemmas.Option.{option_and_then_some, same_Some}
 use Rattle.naga_flags.specs.Bits.{all_capabilities, all_validation_flags}
-use Rattle.naga_text.specs.Words.{number_up_to}
+use Rattle.naga_text.specs.Words.{handle_of, largest_u16, number_up_to}
 use Rattle.naga_text.specs.Forms.{IsForm, form}
 use Rattle.naga_text.specs.Tables.{chosen}
-use Rattle.naga_text.specs.steps.LineForms.{Reader, capabilities_of, flags_of, line_of, line_readers, resolved_of, type_line_of, type_of}
+use Rattle.naga_text.specs.steps.LineForms.{Reader, capabilities_of, constant_of, doc_of, expression_line_of, expression_of, flags_of, line_of, line_readers, override_of, resolved_of, type_line_of, type_of}
+use Rattle.naga_text.specs.steps.WordForms.{optional_of}
 use Rattle.naga_text.specs.declared.line.Line.{Line}
-use Rattle.naga_text.specs.declared.line.Line.TheVariants.{Flags, Capabilities, Resolved, Type_}
+use Rattle.naga_text.specs.declared.line.Line.TheVariants.{Flags, Capabilities, Resolved, Type_, Expression, Constant, Override, Doc}
+use Rattle.naga_text.proofs.ExpressionLaws.{expression_again, expression_found}
 use Rattle.naga_text.proofs.PartLaws.{by_parts}
 use Rattle.naga_text.proofs.TableLaws.{chosen_holds}
 use Rattle.naga_text.proofs.TypeLaws.{type_again, type_found}
+use Rattle.naga_text.proofs.WordLaws.{optional_handle_again, optional_handle_found, optional_number_again, optional_number_found}
 
 -- what a reader reads of the words after a keyword has its line's form
 abbrev HasForm : List ℕ → Reader Line → Type 0
@@ -37,12 +40,39 @@ type_line_found ws line h =
     option_and_then_some _ (type_of ws) line h λ inner e h.
     subst (IsForm (codes "type" ∷ ws)) (same_Some (Type_ inner) line h) (refl, type_found ws inner e)
 
+expression_line_found : HasForm (codes "expr") expression_line_of
+expression_line_found ws line h =
+    option_and_then_some _ (expression_of ws) line h λ expression e h.
+    subst (IsForm (codes "expr" ∷ ws)) (same_Some (Expression expression) line h) (refl, expression_found ws expression e)
+
+constant_found : HasForm (codes "const") constant_of
+constant_found (t ∷ x ∷ []) line h =
+    option_and_then_some _ (handle_of t) line h λ ty e h.
+    option_and_then_some _ (handle_of x) line h λ init f h.
+    subst (IsForm (codes "const" ∷ t ∷ x ∷ [])) (same_Some (Constant ty init) line h) (refl, (e, (f, tt)))
+constant_found _ line h = cc
+
+override_found : HasForm (codes "override") override_of
+override_found (t ∷ x ∷ i ∷ []) line h =
+    option_and_then_some _ (handle_of t) line h λ ty e h.
+    option_and_then_some _ (optional_of handle_of x) line h λ init f h.
+    option_and_then_some _ (optional_of (number_up_to largest_u16) i) line h λ id g h.
+    subst (IsForm (codes "override" ∷ t ∷ x ∷ i ∷ [])) (same_Some (Override ty init id) line h) (refl, (e, (optional_handle_found x init f, (optional_number_found i id g, tt))))
+override_found _ line h = cc
+
+doc_found : HasForm (codes "doc") doc_of
+doc_found (t ∷ m ∷ []) line h =
+    option_and_then_some _ (handle_of t) line h λ ty e h.
+    option_and_then_some _ (handle_of m) line h λ member f h.
+    subst (IsForm (codes "doc" ∷ t ∷ m ∷ [])) (same_Some (Doc ty member) line h) (refl, (e, (f, tt)))
+doc_found _ line h = cc
+
 -- what is read of words is a line of this form
 pub line_found : (ws : List (List ℕ)) (line : Line) → line_of ws ≡ Some line → IsForm ws line
 line_found [] line h = cc
 line_found (keyword ∷ ws) line h =
     option_and_then_some _ (chosen line_readers keyword) line h λ reader e h.
-    chosen_holds HasForm line_readers keyword reader (type_line_found, (flags_found, (capabilities_found, (resolved_found, tt)))) e ws line h
+    chosen_holds HasForm line_readers keyword reader (type_line_found, (expression_line_found, (flags_found, (capabilities_found, (resolved_found, (constant_found, (override_found, (doc_found, tt)))))))) e ws line h
 
 -- words of a line's form are read as that line
 pub line_again : (ws : List (List ℕ)) (line : Line) → IsForm ws line → line_of ws ≡ Some line
@@ -53,3 +83,11 @@ line_again ws (Capabilities capabilities) h = by_parts (form (Capabilities capab
 line_again ws Resolved h = by_parts (form Resolved) ws (λ ws. line_of ws ≡ Some Resolved) h (λ a e. rw e refl)
 line_again [] (Type_ t) h = absurd h
 line_again (a ∷ ws) (Type_ t) h = rw (h.0, type_again ws t h.1) refl
+line_again [] (Expression x) h = absurd h
+line_again (a ∷ ws) (Expression x) h = rw (h.0, expression_again ws x h.1) refl
+line_again ws (Constant ty init) h = by_parts (form (Constant ty init)) ws (λ ws. line_of ws ≡ Some (Constant ty init)) h
+    (λ a e t f x g. rw (e, f, g) refl)
+line_again ws (Override ty init id) h = by_parts (form (Override ty init id)) ws (λ ws. line_of ws ≡ Some (Override ty init id)) h
+    (λ a e t f x g i k. rw (e, f, optional_handle_again x init g, optional_number_again i id k) refl)
+line_again ws (Doc ty member) h = by_parts (form (Doc ty member)) ws (λ ws. line_of ws ≡ Some (Doc ty member)) h
+    (λ a e t f m g. rw (e, f, g) refl)

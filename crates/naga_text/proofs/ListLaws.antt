@@ -1,5 +1,5 @@
 -- Lists that grow at their end.
-use Rattle.std.proofs.Common.{◌≡◌, ℕ, ◌<◌, ◌⊎◌, inl, inr, suc, zero, List, [], ◌∷◌, ◌++◌, Option, None, Some, Contains, filter_map, length, slice_get, refl, sym, ap, ◌∙◌, subst, arith, append_assoc, append-nil}
+use Rattle.std.proofs.Common.{◌≡◌, ℕ, ◌<◌, ◌≤◌, ◌⊎◌, inl, inr, suc, zero, List, [], ◌∷◌, ◌++◌, Option, None, Some, Contains, filter_map, length, length-append, slice_get, refl, sym, ap, ◌∙◌, subst, arith, append_assoc, append-nil}
 use Rattle.std.proofs.lemmas.List.Elements.{filter_map-append}
 use Rattle.std.proofs.lemmas.Option.{get_or_from_slice_get, slice_get-get_or, slice_get_within}
 use Rattle.std.specs.List.{cons_option}
@@ -38,15 +38,26 @@ distinct_once xs ys x present distinct =
     let within : present.0 < length xs = present.1 in
     omega arith
 
--- an item from which a is picked adds a to what is picked
-pub pick_one : {X A : Type 0} (pick : X → Option A) (xs : List X) (x : X) (a : A) → pick x ≡ Some a → filter_map pick (xs ++ x ∷ []) ≡ filter_map pick xs ++ a ∷ []
-pick_one pick xs x a h = filter_map-append pick xs (x ∷ []) ∙ ap (λ o. filter_map pick xs ++ cons_option o []) h
+-- items, and one more if there is one
+abbrev pub with_option : {A : Type 0} → List A → Option A → List A
+with_option items None = items
+with_option items (Some a) = items ++ a ∷ []
 
--- an item from which nothing is picked adds nothing to what is picked
-pub pick_none : {X A : Type 0} (pick : X → Option A) (xs : List X) (x : X) → pick x ≡ None → filter_map pick (xs ++ x ∷ []) ≡ filter_map pick xs
-pick_none pick xs x h = filter_map-append pick xs (x ∷ []) ∙ ap (λ o. filter_map pick xs ++ cons_option o []) h ∙ append-nil (filter_map pick xs)
+-- an item adds what is picked of it to what is picked
+pub pick_more : {X A : Type 0} (pick : X → Option A) (xs : List X) (x : X) → filter_map pick (xs ++ x ∷ []) ≡ with_option (filter_map pick xs) (pick x)
+pick_more {X} {A} pick xs x = filter_map-append pick xs (x ∷ []) ∙ go (pick x)
+  where
+    go : (o : Option A) → filter_map pick xs ++ cons_option o [] ≡ with_option (filter_map pick xs) o
+    go None = append-nil (filter_map pick xs)
+    go (Some a) = refl
 
 -- what is picked of a list begins with what is picked of its front
 pub pick_front : {X A : Type 0} (pick : X → Option A) (xs : List X) (x : X) (ys : List X) (a : A) → pick x ≡ Some a → filter_map pick (xs ++ x ∷ [] ++ ys) ≡ filter_map pick xs ++ a ∷ filter_map pick ys
 pick_front pick xs x ys a h =
-    filter_map-append pick (xs ++ x ∷ []) ys ∙ ap (λ l. l ++ filter_map pick ys) (pick_one pick xs x a h) ∙ append_assoc (filter_map pick xs) (a ∷ []) (filter_map pick ys)
+    filter_map-append pick (xs ++ x ∷ []) ys ∙ ap (λ l. l ++ filter_map pick ys) (pick_more pick xs x ∙ ap (with_option (filter_map pick xs)) h) ∙ append_assoc (filter_map pick xs) (a ∷ []) (filter_map pick ys)
+
+-- if as much is picked of the front as may be, nothing more is
+pub pick_too_many : {X A : Type 0} (pick : X → Option A) (most : ℕ) (xs : List X) (x : X) (ys : List X) (a : A) → pick x ≡ Some a → most ≤ length (filter_map pick xs) → ¬ (length (filter_map pick (xs ++ x ∷ [] ++ ys)) ≤ most)
+pick_too_many {X} {A} pick most xs x ys a h full few =
+    let long : length (filter_map pick xs ++ a ∷ filter_map pick ys) ≤ most = subst (λ (l : List A). length l ≤ most) (pick_front pick xs x ys a h) few in
+    omega (arith, simp length-append at long)

@@ -1,4 +1,4 @@
--- A module that holds nothing but types is the one of these types.
+-- An empty module is what no lines describe.
 use Rattle.std.proofs.Common.{◌≡◌, []}
 use Rattle.naga_ir.specs.OnlyTypes.{HasNoComments, HasNoSpecialTypes, HasOnlyTypes}
 use Rattle.naga_ir.specs.declared.ir.DocComments.{DocComments}
@@ -25,9 +25,9 @@ comments_are d h = λ j. record {
   global_variables = h.global_variables j;
 }
 
-pub module_is : (m : Module) → HasOnlyTypes m → m ≡ module_of m.types
-module_is m h = λ j. record {
-  types = m.types;
+pub module_is : (m : Module) → m.types ≡ [] → HasOnlyTypes m → m ≡ module_of []
+module_is m none h = λ j. record {
+  types = none j;
   special_types = special_types_are m.special_types h.special_types j;
   constants = h.constants j;
   overrides = h.overrides j;

@@ -1,6 +1,6 @@
 -- The reader of a word returns the one value with that word.
-use Rattle.std.proofs.Common.{◌≡◌, ◌==◌, ℕ, ◌<◌, zero, suc, true, false, List, [], ◌∷◌, Option, None, Some, refl, sym, ap, ◌∙◌, subst, codes, bytes_eq, inl, inr, arith, length, nat_lt, nat_le, ◌&&◌}
-use Rattle.std.proofs.lemmas.Bool.{and_parts, cases_Bool, ne_eqb, true≢false}
+use Rattle.std.proofs.Common.{◌≡◌, ◌==◌, ℕ, ◌<◌, ◌≤◌, zero, suc, true, false, List, [], ◌∷◌, Option, None, Some, refl, sym, ap, ◌∙◌, subst, codes, bytes_eq, inl, inr, arith, length, nat_lt, nat_le, ◌&&◌}
+use Rattle.std.proofs.lemmas.Bool.{and_parts, cases_Bool, leb-true, ne_eqb, true≢false}
 use Rattle.std.proofs.lemmas.Option.{option_and_then_some, same_Some}
 use Rattle.std.proofs.lemmas.Slice.Eq.{bytes_eq-Decides}
 use Rattle.std.specs.Char.{is_ascii_digit}
@@ -9,7 +9,7 @@ use Rattle.std.specs.Option.{MatchOption}
 use Rattle.std.specs.Str.{all_ascii_digits}
 use Rattle.std.specs.declared.num.NonZeroU32.{NonZeroU32}
 use borrow.Author.Tests.{eqb-true}
-use Rattle.naga_arena.specs.Numbers.{largest_u32}
+use Rattle.naga_arena.specs.Numbers.{largest_handle, largest_u32}
 use Rattle.naga_ir_types.proofs.SameInner.{non_zero_same}
 use Rattle.naga_ir_types.specs.Sizes.{components, cooperative_components}
 use Rattle.naga_ir_types.specs.declared.types.ArraySize.{ArraySize}
@@ -18,9 +18,9 @@ use Rattle.naga_ir_types.specs.declared.types.CooperativeSize.{CooperativeSize}
 use Rattle.naga_ir_types.specs.declared.types.CooperativeSize.TheVariants.{Eight, Sixteen}
 use Rattle.naga_ir_types.specs.declared.types.VectorSize.{VectorSize}
 use Rattle.naga_ir_types.specs.declared.types.VectorSize.TheVariants.{Bi, Tri, Quad}
-use Rattle.naga_text.specs.Words.{handle_of, number_of, number_up_to, value_after}
-use Rattle.naga_text.specs.Forms.{array_size_part, pointed_components}
-use Rattle.naga_text.specs.steps.WordForms.{◌>>=◌, array_size_of, bounded_size_of, cooperative_size_at, cooperative_size_of, count_at, count_of, pointed_size_at, pointed_size_of, size_at, size_of}
+use Rattle.naga_text.specs.Words.{handle_of, largest_u16, number_of, number_up_to, value_after}
+use Rattle.naga_text.specs.Forms.{array_size_part, handle, number, optional, pointed_components}
+use Rattle.naga_text.specs.steps.WordForms.{◌>>=◌, array_size_of, bounded_size_of, cooperative_size_at, cooperative_size_of, count_at, count_of, optional_of, pointed_size_at, pointed_size_of, size_at, size_of}
 use Rattle.naga_text.proofs.TableLaws.{by_number, by_test, passed_by}
 
 -- a size has its own number alone, and each size's number is that of it
@@ -95,18 +95,23 @@ pub counted : (count : Option NonZeroU32) (n : ℕ) → MatchOption count (n ≡
 counted None n h = sym (ap count_at h)
 counted (Some count) n h = sym (ap count_at (sym h) ∙ count_at_again count)
 
--- a word that writes a number is digits
-digits_of : (most : ℕ) (w : List ℕ) (n : ℕ) → number_up_to most w ≡ Some n → all_ascii_digits w ≡ true
+-- a word that writes a number is digits, and the number is no greater than its limit
+digits_of : (most : ℕ) (w : List ℕ) (n : ℕ) → number_up_to most w ≡ Some n → (all_ascii_digits w ≡ true) × (n ≤ most)
 digits_of most w n h =
     by_test (nat_lt 0 (length w) && nat_le (length w) 20 && all_ascii_digits w && nat_le (value_after 0 w) most) (Some (value_after 0 w)) None n h
     (λ e p.
-    let tests = and_parts (nat_lt 0 (length w) && nat_le (length w) 20 && all_ascii_digits w) (nat_le (value_after 0 w) most) e in
-    (and_parts (nat_lt 0 (length w) && nat_le (length w) 20) (all_ascii_digits w) tests.0).1)
+    let tests = and_parts (nat_lt 0 (length w) && nat_le (length w) 20 && all_ascii_digits w) (nat_le (value_after 0 w) most) e in (
+      (and_parts (nat_lt 0 (length w) && nat_le (length w) 20) (all_ascii_digits w) tests.0).1,
+      subst (λ n. n ≤ most) (same_Some (value_after 0 w) n p) (leb-true (value_after 0 w) most tests.1),
+    ))
     (λ h. cc)
+
+pub within : (most : ℕ) (w : List ℕ) (n : ℕ) → number_up_to most w ≡ Some n → n ≤ most
+within most w n h = (digits_of most w n h).1
 
 -- a word that begins with this byte, which is no digit, writes no number
 no_digit : (most byte : ℕ) (cs : List ℕ) (n : ℕ) → is_ascii_digit byte ≡ false → number_up_to most (byte ∷ cs) ≡ Some n → ⊥
-no_digit most byte cs n none h = true≢false (sym (and_parts (is_ascii_digit byte) (all_ascii_digits cs) (digits_of most (byte ∷ cs) n h)).0 ∙ none)
+no_digit most byte cs n none h = true≢false (sym (and_parts (is_ascii_digit byte) (all_ascii_digits cs) (digits_of most (byte ∷ cs) n h).0).0 ∙ none)
 
 -- a size of an array is read of a word that writes it, and of each such word
 bounded_size_found : (w : List ℕ) (size : ArraySize) → bounded_size_of w ≡ Some size → array_size_part size w
@@ -140,3 +145,37 @@ pub array_size_again : (w : List ℕ) (size : ArraySize) → array_size_part siz
 array_size_again w (Constant count) h = count_again w count h
 array_size_again w (Pending size) h = ap array_size_of h.1 ∙ ap (λ n. n >>= (λ size. Some (Pending size))) h.2
 array_size_again w Dynamic h = ap array_size_of h
+
+-- a value is read of a word that writes it or of a minus if there is none, and of each such word, if no value is read of a minus
+module _ {A : Type 0} (reader : List ℕ → Option A) where
+  abbrev Writes : A → List ℕ → Type 0
+  Writes a w = reader w ≡ Some a
+
+  optional_found : (w : List ℕ) (a : Option A) → optional_of reader w ≡ Some a → optional Writes a w
+  optional_found w a h =
+      by_test (bytes_eq w (codes "-")) (Some None) _ a h
+      (λ same h. subst (λ (a : Option A). optional Writes a w) (same_Some None a h) ((bytes_eq-Decides w (codes "-")).0 same))
+      (λ h. option_and_then_some _ (reader w) a h λ value e h. subst (λ (a : Option A). optional Writes a w) (same_Some (Some value) a h) e)
+
+  optional_again : ((a : A) → ¬ (reader (codes "-") ≡ Some a)) → (w : List ℕ) (a : Option A) → optional Writes a w → optional_of reader w ≡ Some a
+  optional_again none w None h = ap (optional_of reader) h
+  optional_again none w (Some a) h =
+      let no_minus : bytes_eq w (codes "-") ≡ false = elim (cases_Bool (bytes_eq w (codes "-"))) [
+        | inl e ↦ absurd (none a (ap reader (sym ((bytes_eq-Decides w (codes "-")).0 e)) ∙ h))
+        | inr e ↦ e
+      ] in
+      passed_by _ _ _ no_minus ∙ ap (λ read. read >>= (λ a. Some (Some a))) h
+
+-- so is a handle that may be absent
+pub optional_handle_found : (w : List ℕ) (index : Option ℕ) → optional_of handle_of w ≡ Some index → optional handle index w
+optional_handle_found w index h = optional_found handle_of w index h
+
+pub optional_handle_again : (w : List ℕ) (index : Option ℕ) → optional handle index w → optional_of handle_of w ≡ Some index
+optional_handle_again w index h = optional_again handle_of (λ n e. no_digit largest_handle 45 [] n refl e) w index h
+
+-- and a number that may be
+pub optional_number_found : (w : List ℕ) (n : Option ℕ) → optional_of (number_up_to largest_u16) w ≡ Some n → optional (number largest_u16) n w
+optional_number_found w n h = optional_found (number_up_to largest_u16) w n h
+
+pub optional_number_again : (w : List ℕ) (n : Option ℕ) → optional (number largest_u16) n w → optional_of (number_up_to largest_u16) w ≡ Some n
+optional_number_again w n h = optional_again (number_up_to largest_u16) (λ n e. no_digit largest_u16 45 [] n refl e) w n h

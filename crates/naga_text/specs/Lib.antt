@@ -1,8 +1,8 @@
 -- To read first:
--- Words.lines_of, words_of, pieces_of, number_up_to: how bytes part into lines, words and pieces, and the numbers that words write
+-- Words.lines_of, words_of, pieces_of, number_up_to, integer_up_to: how bytes part into lines, words and pieces, and the numbers that words write
 -- Tables.chosen, kinds, spaces, classes: the words that stand for values
--- Forms.type_form, form, IsForm: how each type and each line is written
--- Text.has_content, contents_of: which lines say something, and what lines say together
+-- Forms.type_form, expression_form, form, IsForm: how each type, each expression and each line is written
+-- Text.has_content, module_of, contents_of: which lines say something, and what lines say together
 -- Text.AreConsistent: which lines can make one text
 -- Text.IsText, IsFirstUnreadable: what a text says, or its first line that can't be read
 pub mod Forms

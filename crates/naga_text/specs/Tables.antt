@@ -1,5 +1,9 @@
 -- The words that stand for values: a row is a word and its value.
 use Rattle.std.specs.Prelude.{ℕ, Bool as Truth, true, false, List, [], ◌∷◌, Option, Some, None, codes, bytes_eq, if◌then◌else◌}
+use Rattle.naga_ir.specs.declared.expression.BinaryOperator.{BinaryOperator}
+use Rattle.naga_ir.specs.declared.expression.BinaryOperator.TheVariants as binary
+use Rattle.naga_ir.specs.declared.expression.UnaryOperator.{UnaryOperator}
+use Rattle.naga_ir.specs.declared.expression.UnaryOperator.TheVariants as unary
 use Rattle.naga_ir_types.specs.declared.types.AddressSpace.{AddressSpace}
 use Rattle.naga_ir_types.specs.declared.types.AddressSpace.TheVariants as space
 use Rattle.naga_ir_types.specs.declared.types.CooperativeRole.{CooperativeRole}
@@ -65,4 +69,31 @@ classes =
     (codes "depthms", class.Depth true) ∷
     (codes "storage", class.Storage (record { 0 = 0 }) (record { load = true; store = true; atomic = true })) ∷
     (codes "external", class.External) ∷
+    []
+
+-- the operators on one value
+abbrev pub unary_operators : List (List ℕ × UnaryOperator)
+unary_operators = (codes "negate", unary.Negate) ∷ (codes "not", unary.LogicalNot) ∷ (codes "bitnot", unary.BitwiseNot) ∷ []
+
+-- the operators on two values
+abbrev pub binary_operators : List (List ℕ × BinaryOperator)
+binary_operators =
+    (codes "add", binary.Add) ∷
+    (codes "sub", binary.Subtract) ∷
+    (codes "mul", binary.Multiply) ∷
+    (codes "div", binary.Divide) ∷
+    (codes "mod", binary.Modulo) ∷
+    (codes "eq", binary.Equal) ∷
+    (codes "ne", binary.NotEqual) ∷
+    (codes "lt", binary.Less) ∷
+    (codes "le", binary.LessEqual) ∷
+    (codes "gt", binary.Greater) ∷
+    (codes "ge", binary.GreaterEqual) ∷
+    (codes "and", binary.And) ∷
+    (codes "or", binary.InclusiveOr) ∷
+    (codes "xor", binary.ExclusiveOr) ∷
+    (codes "land", binary.LogicalAnd) ∷
+    (codes "lor", binary.LogicalOr) ∷
+    (codes "shl", binary.ShiftLeft) ∷
+    (codes "shr", binary.ShiftRight) ∷
     []

@@ -5,13 +5,16 @@ use Rattle.naga_arena.specs.Numbers.{largest_u32}
 use Rattle.naga_flags.specs.Bits.{all_validation_flags, default_capabilities}
 use Rattle.naga_flags.specs.declared.flags.Capabilities.{Capabilities as CapabilitySet}
 use Rattle.naga_flags.specs.declared.flags.ValidationFlags.{ValidationFlags}
+use Rattle.naga_ir.specs.declared.expression.Expression.{Expression as ExpressionType}
+use Rattle.naga_ir.specs.declared.ir.Constant.{Constant as ConstantType}
 use Rattle.naga_ir.specs.declared.ir.Module.{Module}
+use Rattle.naga_ir.specs.declared.ir.Override.{Override as OverrideType}
 use Rattle.naga_ir_types.specs.Distinct.{AllDistinct}
 use Rattle.naga_ir_types.specs.declared.types.«Type».{«Type»}
 use Rattle.naga_text.specs.Forms.{IsForm}
 use Rattle.naga_text.specs.Words.{words_of}
 use Rattle.naga_text.specs.declared.line.Line.{Line}
-use Rattle.naga_text.specs.declared.line.Line.TheVariants.{Flags, Capabilities, Resolved, Type_}
+use Rattle.naga_text.specs.declared.line.Line.TheVariants.{Flags, Capabilities, Resolved, Type_, Expression, Constant, Override, Doc}
 use Rattle.naga_text.specs.declared.text.Contents.{Contents}
 use Rattle.naga_text.specs.declared.text.TextError.{TextError}
 use Rattle.naga_text.specs.declared.text.TextError.TheVariants as error
@@ -27,6 +30,10 @@ flags_in (Flags flags) = Some flags
 flags_in (Capabilities capabilities) = None
 flags_in Resolved = None
 flags_in (Type_ inner) = None
+flags_in (Expression expression) = None
+flags_in (Constant ty init) = None
+flags_in (Override ty init id) = None
+flags_in (Doc ty member) = None
 
 -- the capabilities that a line sets
 abbrev pub capabilities_in : Line → Option CapabilitySet
@@ -34,6 +41,10 @@ capabilities_in (Flags flags) = None
 capabilities_in (Capabilities capabilities) = Some capabilities
 capabilities_in Resolved = None
 capabilities_in (Type_ inner) = None
+capabilities_in (Expression expression) = None
+capabilities_in (Constant ty init) = None
+capabilities_in (Override ty init id) = None
+capabilities_in (Doc ty member) = None
 
 -- that overrides are resolved, if a line says so
 abbrev pub resolved_in : Line → Option Bool
@@ -41,6 +52,10 @@ resolved_in (Flags flags) = None
 resolved_in (Capabilities capabilities) = None
 resolved_in Resolved = Some true
 resolved_in (Type_ inner) = None
+resolved_in (Expression expression) = None
+resolved_in (Constant ty init) = None
+resolved_in (Override ty init id) = None
+resolved_in (Doc ty member) = None
 
 -- the type that a line describes, which has no name
 abbrev pub type_in : Line → Option «Type»
@@ -48,43 +63,94 @@ type_in (Flags flags) = None
 type_in (Capabilities capabilities) = None
 type_in Resolved = None
 type_in (Type_ inner) = Some (record { name = None; inner = inner })
+type_in (Expression expression) = None
+type_in (Constant ty init) = None
+type_in (Override ty init id) = None
+type_in (Doc ty member) = None
+
+-- the expression that a line describes
+abbrev pub expression_in : Line → Option ExpressionType
+expression_in (Flags flags) = None
+expression_in (Capabilities capabilities) = None
+expression_in Resolved = None
+expression_in (Type_ inner) = None
+expression_in (Expression expression) = Some expression
+expression_in (Constant ty init) = None
+expression_in (Override ty init id) = None
+expression_in (Doc ty member) = None
+
+-- the constant that a line describes, which has no name
+abbrev pub constant_in : Line → Option ConstantType
+constant_in (Flags flags) = None
+constant_in (Capabilities capabilities) = None
+constant_in Resolved = None
+constant_in (Type_ inner) = None
+constant_in (Expression expression) = None
+constant_in (Constant ty init) = Some (record { name = None; ty = ty; init = init })
+constant_in (Override ty init id) = None
+constant_in (Doc ty member) = None
+
+-- the override that a line describes, which has no name
+abbrev pub override_in : Line → Option OverrideType
+override_in (Flags flags) = None
+override_in (Capabilities capabilities) = None
+override_in Resolved = None
+override_in (Type_ inner) = None
+override_in (Expression expression) = None
+override_in (Constant ty init) = None
+override_in (Override ty init id) = Some (record { name = None; id = id; ty = ty; init = init })
+override_in (Doc ty member) = None
+
+-- the comment that a line describes: the type and the member that it is on, and no texts
+abbrev pub comment_in : Line → Option ((ℕ × ℕ) × List (List ℕ))
+comment_in (Flags flags) = None
+comment_in (Capabilities capabilities) = None
+comment_in Resolved = None
+comment_in (Type_ inner) = None
+comment_in (Expression expression) = None
+comment_in (Constant ty init) = None
+comment_in (Override ty init id) = None
+comment_in (Doc ty member) = Some ((ty, member), [])
 
 -- the first value to which lines set a setting
 abbrev pub first_in : {A : Type 0} → (Line → Option A) → List Line → Option A
 first_in setting lines = slice_get (filter_map setting lines) 0
 
--- the module of these types and nothing else
-abbrev pub module_of : List «Type» → Module
-module_of types = record {
-  types = types;
+-- the module of what lines describe, in their order, and nothing else
+abbrev pub module_of : List Line → Module
+module_of lines = record {
+  types = filter_map type_in lines;
   special_types = record { ray_desc = None; ray_intersection = None; ray_vertex_return = None; others = [] };
-  constants = [];
-  overrides = [];
+  constants = filter_map constant_in lines;
+  overrides = filter_map override_in lines;
   global_variables = [];
-  global_expressions = [];
+  global_expressions = filter_map expression_in lines;
   functions = [];
   entry_points = [];
   diagnostic_filters = [];
   diagnostic_filter_leaf = None;
-  doc_comments = record { «module» = []; types = []; struct_members = []; entry_points = []; functions = []; constants = []; global_variables = [] };
+  doc_comments = record { «module» = []; types = []; struct_members = filter_map comment_in lines; entry_points = []; functions = []; constants = []; global_variables = [] };
 }
 
--- what lines say together: the module of their types in order, and each setting, or its default
+-- what lines say together: the module that they describe, and each setting, or its default
 abbrev pub contents_of : List Line → Contents
 contents_of lines = record {
-  «module» = module_of (filter_map type_in lines);
+  «module» = module_of lines;
   flags = unwrap_or (first_in flags_in lines) (record { 0 = all_validation_flags });
   capabilities = unwrap_or (first_in capabilities_in lines) (record { 0 = default_capabilities });
   resolved = unwrap_or (first_in resolved_in lines) false;
 }
 
--- lines can make one text: each setting once at most, each type once, and as many types as an arena has room for
+-- lines can make one text: each setting once at most, each type once, and as many items of a kind as an arena has room for
 pub record AreConsistent (lines : List Line) : Type 0 where
   pub flags : length (filter_map flags_in lines) ≤ 1
   pub capabilities : length (filter_map capabilities_in lines) ≤ 1
   pub resolved : length (filter_map resolved_in lines) ≤ 1
   pub types : AllDistinct (filter_map type_in lines)
-  pub room : length (filter_map type_in lines) ≤ largest_u32
+  pub room_for_types : length (filter_map type_in lines) ≤ largest_u32
+  pub room_for_expressions : length (filter_map expression_in lines) ≤ largest_u32
+  pub room_for_constants : length (filter_map constant_in lines) ≤ largest_u32
+  pub room_for_overrides : length (filter_map override_in lines) ≤ largest_u32
 
 -- the words of the lines with content have the forms of these lines
 abbrev pub AreForms : List (List ℕ) → List Line → Type 0

@@ -1,7 +1,9 @@
 //! The reader of the text that describes a module and how it is validated.
 #![tactic(auto)]
 
+mod expressions;
 mod line;
+mod literals;
 mod members;
 mod number;
 mod pieces;

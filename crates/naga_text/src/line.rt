@@ -1,21 +1,25 @@
 //! What one line says.
 
 ghost use Rattle.naga_text.specs.Forms.{IsForm};
-ghost use Rattle.naga_text.specs.steps.LineForms.{capabilities_of, flags_of, line_of, read_by, resolved_of, setting_readers, type_line_of};
+ghost use Rattle.naga_text.specs.steps.LineForms.{capabilities_of, constant_of, doc_of, expression_line_of, fixed_readers, flags_of, line_of, override_of, read_by, resolved_of, type_line_of};
 ghost use Rattle.naga_text.specs.declared.line.Line.{Line};
 ghost use Rattle.std.specs.Prelude.{◌≡◌, IfOk, IfSome, Some, map};
 
-use crate::number::number_up_to;
+use crate::expressions::expression;
+use crate::number::{handle, index, number_up_to, optional_handle, optional_number};
 use crate::types::type_inner;
 use crate::words::equals;
 use bitflags::Flags;
 use naga_flags::flags::{Capabilities, ValidationFlags};
 use naga_ir::OutOfMemory;
+use naga_ir::expression::Expression;
+use naga_ir::handle::Handle;
+use naga_ir::tags::{ExpressionTag, TypeTag};
 use naga_ir::types::TypeInner;
 use std::alloc::Global;
 
 /// A line that is neither empty nor a comment.
-#[derive(Debug, PartialEq, Drop)]
+#[derive(Debug, Drop)]
 pub enum Line {
     /// `flags N`: which parts of the module are validated.
     Flags(ValidationFlags),
@@ -25,6 +29,24 @@ pub enum Line {
     Resolved,
     /// `type ..`: a type, which has no name.
     Type_(TypeInner),
+    /// `expr ..`: a global expression.
+    Expression(Expression),
+    /// `const T E`: a constant, which has no name.
+    Constant {
+        ty: Handle<TypeTag>,
+        init: Handle<ExpressionTag>,
+    },
+    /// `override T E ID`: an override, which has no name.
+    Override {
+        ty: Handle<TypeTag>,
+        init: Option<Handle<ExpressionTag>>,
+        id: Option<u16>,
+    },
+    /// `doc T M`: a comment on a member of a type, which has no texts.
+    Doc {
+        ty: Handle<TypeTag>,
+        member: usize,
+    },
 }
 
 fn flags(words: &[&[u8]]) -> Option<Line>
@@ -53,6 +75,37 @@ fn resolved(words: &[&[u8]]) -> Option<Line>
     }
 }
 
+fn constant(words: &[&[u8]]) -> Option<Line>
+    ensures { result ≡ constant_of (map (λ w. w.now) words.now) }
+{
+    let [ty, init] = words else { return None };
+    Some(Line::Constant {
+        ty: handle(ty)?,
+        init: handle(init)?,
+    })
+}
+
+fn override_line(words: &[&[u8]]) -> Option<Line>
+    ensures { result ≡ override_of (map (λ w. w.now) words.now) }
+{
+    let [ty, init, id] = words else { return None };
+    Some(Line::Override {
+        ty: handle(ty)?,
+        init: optional_handle(init)?,
+        id: optional_number(id)?,
+    })
+}
+
+fn doc(words: &[&[u8]]) -> Option<Line>
+    ensures { result ≡ doc_of (map (λ w. w.now) words.now) }
+{
+    let [ty, member] = words else { return None };
+    Some(Line::Doc {
+        ty: handle(ty)?,
+        member: index(member)?,
+    })
+}
+
 fn type_line(alloc: Global, words: &[&[u8]]) -> Result<Option<Line>, OutOfMemory>
     ensures { IfOk result (λ read. read ≡ type_line_of (map (λ w. w.now) words.now)) }
 {
@@ -62,14 +115,26 @@ fn type_line(alloc: Global, words: &[&[u8]]) -> Result<Option<Line>, OutOfMemory
     }
 }
 
-/// The setting of a keyword and of the words after it.
-fn setting(keyword: &[u8], words: &[&[u8]]) -> Option<Line>
-    ensures { result ≡ read_by setting_readers keyword.now (map (λ w. w.now) words.now) }
+fn expression_line(alloc: Global, words: &[&[u8]]) -> Result<Option<Line>, OutOfMemory>
+    ensures { IfOk result (λ read. read ≡ expression_line_of (map (λ w. w.now) words.now)) }
+{
+    match expression(alloc, words)? {
+        Some(expression) => Ok(Some(Line::Expression(expression))),
+        None => Ok(None),
+    }
+}
+
+/// The line of a keyword other than `type` and `expr`, and of the words after it.
+fn fixed_line(keyword: &[u8], words: &[&[u8]]) -> Option<Line>
+    ensures { result ≡ read_by fixed_readers keyword.now (map (λ w. w.now) words.now) }
 {
     match keyword {
         _ if equals(keyword, b"flags") => flags(words),
         _ if equals(keyword, b"caps") => capabilities(words),
         _ if equals(keyword, b"resolved") => resolved(words),
+        _ if equals(keyword, b"const") => constant(words),
+        _ if equals(keyword, b"override") => override_line(words),
+        _ if equals(keyword, b"doc") => doc(words),
         _ => None,
     }
 }
@@ -81,10 +146,10 @@ fn keyword(alloc: Global, words: &[&[u8]]) -> Result<Option<Line>, OutOfMemory>
     let Some((keyword, rest)) = words.split_first() else {
         return Ok(None);
     };
-    if equals(keyword, b"type") {
-        type_line(alloc, rest)
-    } else {
-        Ok(setting(keyword, rest))
+    match keyword {
+        _ if equals(keyword, b"type") => type_line(alloc, rest),
+        _ if equals(keyword, b"expr") => expression_line(alloc, rest),
+        _ => Ok(fixed_line(keyword, rest)),
     }
 }
 

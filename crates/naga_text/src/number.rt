@@ -1,8 +1,10 @@
-//! Numbers in decimal digits.
+//! Numbers in decimal digits, and the minus that stands for none.
 
-ghost use Rattle.naga_text.specs.Words.{handle_of, number_of, number_up_to};
-ghost use Rattle.std.specs.Prelude.{◌≡◌};
+ghost use Rattle.naga_text.specs.Words.{handle_of, integer_up_to, largest_u16, number_of, number_up_to};
+ghost use Rattle.naga_text.specs.steps.WordForms.{optional_of};
+ghost use Rattle.std.specs.Prelude.{◌≡◌, ◌+◌, ◌^◌, ◌<◌, ◌≤ℤ◌, IfSome, neg_ℤ, pos};
 
+use crate::words::equals;
 use naga_ir::handle::Handle;
 
 /// The number that a word writes in 1 to 20 digits, if it is at most `most`.
@@ -26,6 +28,20 @@ pub fn number_up_to(word: &[u8], most: u64) -> Option<u64>
     }
 }
 
+/// The integer that a word writes: a number up to `most`, or after a minus the negative of one up to
+/// `most + 1`.
+pub fn integer_up_to(word: &[u8], most: u64) -> Option<i128>
+    requires { most < 2 ^ 63 }
+    ensures value { result ≡ integer_up_to most word.now }
+    ensures least { IfSome result (λ n. neg_ℤ (pos (most + 1)) ≤ℤ n) }
+    ensures greatest { IfSome result (λ n. n ≤ℤ pos most) }
+{
+    match word {
+        [b'-', digits @ ..] => Some(-i128::from(number_up_to(digits, most + 1)?)),
+        _ => Some(i128::from(number_up_to(word, most)?)),
+    }
+}
+
 /// A number of 32 bits.
 pub fn number(word: &[u8]) -> Option<u32>
     ensures { result ≡ number_of word.now }
@@ -33,9 +49,38 @@ pub fn number(word: &[u8]) -> Option<u32>
     Some(number_up_to(word, 4_294_967_295)? as u32)
 }
 
+/// The index of a handle.
+pub fn index(word: &[u8]) -> Option<usize>
+    ensures { result ≡ handle_of word.now }
+{
+    Some(number_up_to(word, 4_294_967_294)? as usize)
+}
+
 /// The handle of an index.
 pub fn handle<K>(word: &[u8]) -> Option<Handle<K>>
     ensures { result ≡ handle_of word.now }
 {
-    Some(Handle::new(number_up_to(word, 4_294_967_294)? as u32))
+    Some(Handle::new(index(word)? as u32))
+}
+
+/// The handle of an index, or none for `-`.
+pub fn optional_handle<K>(word: &[u8]) -> Option<Option<Handle<K>>>
+    ensures { result ≡ optional_of handle_of word.now }
+{
+    if equals(word, b"-") {
+        Some(None)
+    } else {
+        Some(Some(handle(word)?))
+    }
+}
+
+/// A number of 16 bits, or none for `-`.
+pub fn optional_number(word: &[u8]) -> Option<Option<u16>>
+    ensures { result ≡ optional_of (number_up_to largest_u16) word.now }
+{
+    if equals(word, b"-") {
+        Some(None)
+    } else {
+        Some(Some(number_up_to(word, u16::MAX as u64)? as u16))
+    }
 }

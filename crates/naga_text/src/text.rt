@@ -5,24 +5,32 @@ ghost use Rattle.naga_text.specs.Text.{IsFirstUnreadable, IsText, NamesLine, has
 ghost use Rattle.naga_text.specs.Words.{lines_of};
 ghost use Rattle.naga_text.specs.declared.text.Contents.{Contents};
 ghost use Rattle.naga_text.specs.declared.text.TextError.TheVariants as error;
-ghost use Rattle.naga_text.specs.steps.SoFar.{AreRead, IsAdded, IsNewType, IsReadNext, IsSetOnce, ReadSoFar, finished};
-ghost use Rattle.std.specs.Prelude.{◌≡◌, IfErr, IfOk, None, Ok, [], map};
+ghost use Rattle.naga_text.specs.steps.SoFar.{AreRead, IsAdded, IsNewItem, IsNewType, IsReadNext, IsSetOnce, ReadSoFar, finished};
+ghost use Rattle.std.specs.Prelude.{◌≡◌, ◌∷◌, ◌++◌, IfErr, IfOk, None, Ok, [], map};
 
 use crate::line::{Line, read_line};
 use crate::pieces::pieces;
 use naga_flags::flags::{Capabilities, ValidationFlags};
 use naga_ir::OutOfMemory;
-use naga_ir::ir::Module;
+use naga_ir::arena::Arena;
+use naga_ir::handle::Handle;
+use naga_ir::ir::{Constant, Module, Override};
+use naga_ir::list::List;
 use naga_ir::span::Span;
+use naga_ir::tags::TypeTag;
+use naga_ir::text::Text;
 use naga_ir::types::{Type, TypeInner};
 use naga_ir::unique_arena::UniqueArena;
 use std::alloc::{AllocError, Global};
 
+/// The number of items for which an arena has room.
+const MOST_ITEMS: usize = u32::MAX as usize;
+
 /// What a text says: a module, and how it is validated.
 #[derive(Drop)]
 pub struct Contents {
-    /// The types that the text describes, in its order, without names and with the undefined span. It
-    /// has nothing else.
+    /// The types, global expressions, constants and overrides that the text describes, each in its order,
+    /// without names and with the undefined span, and its comments on members. It has nothing else.
     pub module: Module,
     /// Which parts of the module are validated: all, unless a line says otherwise.
     pub flags: ValidationFlags,
@@ -107,22 +115,59 @@ fn add_type(types: &mut UniqueArena, inner: TypeInner) -> Result<bool, OutOfMemo
     ensures { IfOk result (IsNewType types.old inner types.new) }
 {
     let count = types.len();
-    if count == 4_294_967_295 {
+    if count == MOST_ITEMS {
         return Ok(false);
     }
     let handle = types.insert(Type { name: None, inner }, Span::default())?;
     Ok(handle.index() == count)
 }
 
+/// Adds an item, and returns whether the arena had room for it.
+fn add_item<T: Drop, K>(items: &mut Arena<T, K>, item: T) -> Result<bool, OutOfMemory>
+    ensures { IfOk result (IsNewItem items.old item items.new) }
+{
+    if items.len() == MOST_ITEMS {
+        return Ok(false);
+    }
+    items.append(item, Span::default())?;
+    Ok(true)
+}
+
+/// Adds a comment without texts.
+fn add_comment(
+    alloc: Global,
+    comments: &mut List<((Handle<TypeTag>, usize), List<Text>)>,
+    ty: Handle<TypeTag>,
+    member: usize,
+) -> Result<(), OutOfMemory>
+    ensures { IfOk result (λ _. comments.new ≡ comments.old ++ ((ty, member), []) ∷ []) }
+{
+    comments.push(((ty, member), List::new(alloc)))
+}
+
 /// Adds what a line says, and returns whether it can stand after the lines before it.
-fn add(so_far: &mut ContentsSoFar, line: Line) -> Result<bool, OutOfMemory>
+fn add(alloc: Global, so_far: &mut ContentsSoFar, line: Line) -> Result<bool, OutOfMemory>
     ensures { IfOk result (IsAdded so_far.old line so_far.new) }
 {
+    let module = &mut so_far.module;
     match line {
         Line::Flags(flags) => Ok(set_once(&mut so_far.flags, flags)),
         Line::Capabilities(capabilities) => Ok(set_once(&mut so_far.capabilities, capabilities)),
         Line::Resolved => Ok(set_once(&mut so_far.resolved, true)),
-        Line::Type_(inner) => add_type(&mut so_far.module.types, inner),
+        Line::Type_(inner) => add_type(&mut module.types, inner),
+        Line::Expression(expression) => add_item(&mut module.global_expressions, expression),
+        Line::Constant { ty, init } => {
+            let name = None;
+            add_item(&mut module.constants, Constant { name, ty, init })
+        }
+        Line::Override { ty, init, id } => {
+            let name = None;
+            add_item(&mut module.overrides, Override { name, id, ty, init })
+        }
+        Line::Doc { ty, member } => {
+            add_comment(alloc, &mut module.doc_comments.struct_members, ty, member)?;
+            Ok(true)
+        }
     }
 }
 
@@ -145,7 +190,7 @@ fn read_next(alloc: Global, so_far: &mut ContentsSoFar, line: &[u8]) -> Result<b
     }
     let words = pieces(alloc, line, b' ')?;
     match read_line(alloc, &words)? {
-        Some(line) => add(so_far, line),
+        Some(line) => add(alloc, so_far, line),
         None => Ok(false),
     }
 }
@@ -166,12 +211,13 @@ fn read_lines(alloc: Global, lines: &[&[u8]]) -> Result<Contents, TextError>
 /// Reads what a text says.
 ///
 /// A line is empty, or a comment that begins with `#`, or has one of the forms of [`Line`], its words
-/// parted by single spaces. Each setting is set once at most, and each type described once.
+/// parted by single spaces. Each setting is set once at most, and each type described once. What an index
+/// names need not exist.
 ///
 /// # Errors
 ///
-/// - `Line` of the first line that has no form, sets a setting again, or describes a type that the lines
-///   before it describe already, or for which the arena has no room.
+/// - `Line` of the first line that has no form, sets a setting again, describes a type that the lines
+///   before it describe already, or describes an item for which the arena has no room.
 /// - `OutOfMemory` if a request for memory was refused.
 pub fn read_text(alloc: Global, text: &[u8]) -> Result<Contents, TextError>
     // What is read is what the text says, and a line that is named is the first that can't be read.

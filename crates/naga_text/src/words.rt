@@ -1,10 +1,11 @@
 //! Words that stand for a few values.
 
-ghost use Rattle.naga_text.specs.Tables.{chosen, classes, dimensions, kinds, roles, spaces, truths};
+ghost use Rattle.naga_text.specs.Tables.{binary_operators, chosen, classes, dimensions, kinds, roles, spaces, truths, unary_operators};
 ghost use Rattle.naga_text.specs.steps.WordForms.{array_size_of, cooperative_size_of, count_at, count_of, pointed_size_of, size_at, size_of};
 ghost use Rattle.std.specs.Prelude.{◌≡◌, bytes_eq, map};
 
 use crate::number::{handle, number, number_up_to};
+use naga_ir::expression::{BinaryOperator, UnaryOperator};
 use naga_ir::types::{
     AddressSpace, ArraySize, CooperativeRole, CooperativeSize, ImageClass, ImageDimension,
     ScalarKind, StorageAccess, StorageFormat, VectorSize,
@@ -203,4 +204,47 @@ pub fn array_size(word: &[u8]) -> Option<ArraySize>
         [b'o', digits @ ..] => Some(ArraySize::Pending(handle(digits)?)),
         _ => Some(ArraySize::Constant(count(word)?)),
     }
+}
+
+/// An operator on one value.
+pub fn unary_operator(word: &[u8]) -> Option<UnaryOperator>
+    ensures { result ≡ chosen unary_operators word.now }
+{
+    chosen(
+        &[
+            ("negate", UnaryOperator::Negate),
+            ("not", UnaryOperator::LogicalNot),
+            ("bitnot", UnaryOperator::BitwiseNot),
+        ],
+        word,
+    )
+}
+
+/// An operator on two values.
+pub fn binary_operator(word: &[u8]) -> Option<BinaryOperator>
+    ensures { result ≡ chosen binary_operators word.now }
+{
+    chosen(
+        &[
+            ("add", BinaryOperator::Add),
+            ("sub", BinaryOperator::Subtract),
+            ("mul", BinaryOperator::Multiply),
+            ("div", BinaryOperator::Divide),
+            ("mod", BinaryOperator::Modulo),
+            ("eq", BinaryOperator::Equal),
+            ("ne", BinaryOperator::NotEqual),
+            ("lt", BinaryOperator::Less),
+            ("le", BinaryOperator::LessEqual),
+            ("gt", BinaryOperator::Greater),
+            ("ge", BinaryOperator::GreaterEqual),
+            ("and", BinaryOperator::And),
+            ("or", BinaryOperator::InclusiveOr),
+            ("xor", BinaryOperator::ExclusiveOr),
+            ("land", BinaryOperator::LogicalAnd),
+            ("lor", BinaryOperator::LogicalOr),
+            ("shl", BinaryOperator::ShiftLeft),
+            ("shr", BinaryOperator::ShiftRight),
+        ],
+        word,
+    )
 }

@@ -1,5 +1,5 @@
-//! The tests of `naga_flags`, `naga_text`, `naga_typing`, `naga_types` and `naga_exprs`: rows of texts
-//! where a text can describe the module, else modules built by hand.
+//! The tests of `naga_flags`, `naga_text`, `naga_typing` and `naga_types`: rows of texts where a text can
+//! describe the module, else modules built by hand.
 
 ghost use Rattle.naga_ir.specs.Handles.{GlobalReferencesOk};
 ghost use Rattle.naga_ir.specs.ItemReferences.{global_lists};
@@ -8,7 +8,6 @@ mod arguments;
 mod compose;
 mod constants;
 mod errors;
-mod exprs;
 mod flags;
 mod forms;
 mod infos;

@@ -1,10 +1,10 @@
 -- What the reader of a text has read so far, one line more at a time.
-use Rattle.std.specs.Prelude.{◌≡◌, ℕ, ◌<◌, Bool, true, false, List, [], ◌∷◌, ◌++◌, Option, Some, None, Result, Ok, Err, length, filter_map, unwrap_or, Contains, MatchBool, MatchOption, ⊤}
+use Rattle.std.specs.Prelude.{◌≡◌, ℕ, ◌<◌, ◌≤◌, Bool, true, false, List, [], ◌∷◌, ◌++◌, Option, Some, None, Result, Ok, Err, length, unwrap_or, Contains, MatchBool, MatchOption, ⊤}
 use Rattle.naga_arena.specs.Numbers.{largest_u32}
 use Rattle.naga_flags.specs.Bits.{all_validation_flags, default_capabilities}
 use Rattle.naga_ir_types.specs.declared.types.«Type».{«Type»}
 use Rattle.naga_ir_types.specs.declared.types.TypeInner.{TypeInner}
-use Rattle.naga_text.specs.Text.{AreConsistent, AreForms, IsFirstUnreadable, IsReadable, IsText, capabilities_in, first_in, flags_in, module_of, resolved_in, type_in}
+use Rattle.naga_text.specs.Text.{AreConsistent, AreForms, IsFirstUnreadable, IsReadable, IsText, capabilities_in, first_in, flags_in, module_of, resolved_in}
 use Rattle.naga_text.specs.declared.line.Line.{Line as Line_}
 use Rattle.naga_text.specs.declared.text.Contents.{Contents}
 use Rattle.naga_text.specs.declared.text.ContentsSoFar.{ContentsSoFar}
@@ -25,10 +25,14 @@ IsNewType old inner new added =
     let t : «Type» = record { name = None; inner = inner } in
     MatchBool added ((new ≡ old ++ t ∷ []) × CanAdd old t) (¬ (CanAdd old t))
 
+-- an item was added to an arena that had room, or the arena has none
+abbrev pub IsNewItem : {A : Type 0} → List A → A → List A → Bool → Type 0
+IsNewItem old item new added = MatchBool added ((new ≡ old ++ item ∷ []) × (length old < largest_u32)) (largest_u32 ≤ length old)
+
 -- what lines say together, with each setting that they set
 abbrev pub so_far : List Line_ → ContentsSoFar
 so_far said = record {
-  «module» = module_of (filter_map type_in said);
+  «module» = module_of said;
   flags = first_in flags_in said;
   capabilities = first_in capabilities_in said;
   resolved = first_in resolved_in said;

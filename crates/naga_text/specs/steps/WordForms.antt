@@ -68,6 +68,10 @@ bounded_size_of (c ∷ cs) = if c == 111 then handle_of cs >>= (λ size. Some (P
 abbrev pub array_size_of : List ℕ → Option ArraySize
 array_size_of w = if bytes_eq w (codes "dyn") then Some Dynamic else bounded_size_of w
 
+-- the value of a word, or none for a minus
+abbrev pub optional_of : {A : Type 0} → (List ℕ → Option A) → List ℕ → Option (Option A)
+optional_of reader w = if bytes_eq w (codes "-") then Some None else reader w >>= (λ a. Some (Some a))
+
 -- the binding of the pieces after a member's type and offset
 abbrev pub binding_of : List (List ℕ) → Option (Option Binding)
 binding_of [] = Some None

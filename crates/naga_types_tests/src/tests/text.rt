@@ -5,6 +5,7 @@ use bitflags::Flags;
 use naga_flags::flags::{Capabilities, ValidationFlags};
 use naga_text::text::{Contents, TextError, read_text};
 
+mod items;
 mod types;
 
 /// What a text says, with the number of its types in the place of its module.

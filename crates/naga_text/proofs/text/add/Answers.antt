@@ -1,7 +1,7 @@
-use Rattle.std.proofs.Common.{subst, sym}
+use Rattle.std.proofs.Common.{subst, sym, true}
 use Rattle.std.proofs.lemmas.Result.{IfOk-weaker}
 use Rattle.naga_text.specs.steps.SoFar.{IsAdded}
-use Rattle.naga_text.proofs.SoFarLaws.{capabilities_added, flags_added, resolved_added, type_added}
+use Rattle.naga_text.proofs.SoFarLaws.{capabilities_added, comment_added, constant_added, expression_added, flags_added, override_added, resolved_added, type_added}
 use Rattle.naga_text.proofs.text.add.Goals as goal
 
 pub returns-in-Flags : goal.returns-in-Flags
@@ -31,3 +31,34 @@ returns-in-Type_ c =
     IfOk-weaker c.add_type.result _ _ (λ added h.
     subst (λ line. IsAdded so_far line (record so_far { «module» = record so_far.«module» { types = types } }) added) (sym c.in-Type_.is)
     (type_added so_far c.in-Type_.inner types added h)) c.add_type.ensures
+
+pub returns-in-Expression : goal.returns-in-Expression
+returns-in-Expression c =
+    let so_far = c.args.so_far.now in
+    let items = c.add_item.new.items in
+    IfOk-weaker c.add_item.result _ _ (λ added h.
+    subst (λ line. IsAdded so_far line (record so_far { «module» = record so_far.«module» { global_expressions = items } }) added) (sym c.in-Expression.is)
+    (expression_added so_far c.in-Expression.expression items added h)) c.add_item.ensures
+
+pub returns-in-Constant : goal.returns-in-Constant
+returns-in-Constant c =
+    let so_far = c.args.so_far.now in
+    let add_item = c.add_item-in-Constant in
+    IfOk-weaker add_item.result _ _ (λ added h.
+    subst (λ line. IsAdded so_far line (record so_far { «module» = record so_far.«module» { constants = add_item.new.items } }) added) (sym c.in-Constant.is)
+    (constant_added so_far c.in-Constant.ty c.in-Constant.init add_item.new.items added h)) add_item.ensures
+
+pub returns-in-Override : goal.returns-in-Override
+returns-in-Override c =
+    let so_far = c.args.so_far.now in
+    let add_item = c.add_item-in-Override in
+    IfOk-weaker add_item.result _ _ (λ added h.
+    subst (λ line. IsAdded so_far line (record so_far { «module» = record so_far.«module» { overrides = add_item.new.items } }) added) (sym c.in-Override.is)
+    (override_added so_far c.in-Override.ty c.in-Override.init c.in-Override.id add_item.new.items added h)) add_item.ensures
+
+pub returns-in_ok-add_comment-in-Doc : goal.returns-in_ok-add_comment-in-Doc
+returns-in_ok-add_comment-in-Doc c =
+    let so_far = c.args.so_far.now in
+    let comments = c.add_comment.new.comments in
+    subst (λ line. IsAdded so_far line (record so_far { «module» = record so_far.«module» { doc_comments = record (so_far.«module».doc_comments) { struct_members = comments } } }) true) (sym c.in-Doc.is)
+    (comment_added so_far c.in-Doc.ty c.in-Doc.member comments c.in_ok-add_comment-in-Doc.ensures)

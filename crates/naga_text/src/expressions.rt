@@ -1,0 +1,141 @@
+//! The expressions that words describe, one function a form.
+
+ghost use Rattle.naga_text.specs.Words.{handle_of};
+ghost use Rattle.naga_text.specs.steps.LineForms.{binary_of, compose_of, constant_expression_of, expression_of, fixed_expression_readers, literal_expression_of, override_expression_of, read_by, splat_of, unary_of, zero_value_of};
+ghost use Rattle.naga_text.specs.steps.WordForms.{read_each};
+ghost use Rattle.std.specs.Prelude.{◌≡◌, IfOk, map};
+
+use crate::literals::literal;
+use crate::number::handle;
+use crate::words::{binary_operator, equals, size, unary_operator};
+use naga_ir::OutOfMemory;
+use naga_ir::expression::Expression;
+use naga_ir::handle::Handle;
+use naga_ir::list::List;
+use naga_ir::tags::ExpressionTag;
+use std::alloc::Global;
+
+fn literal_expression(words: &[&[u8]]) -> Option<Expression>
+    ensures { result ≡ literal_expression_of (map (λ w. w.now) words.now) }
+{
+    let [ty, value] = words else { return None };
+    Some(Expression::Literal(literal(ty, value)?))
+}
+
+fn constant_expression(words: &[&[u8]]) -> Option<Expression>
+    ensures { result ≡ constant_expression_of (map (λ w. w.now) words.now) }
+{
+    let [constant] = words else { return None };
+    Some(Expression::Constant(handle(constant)?))
+}
+
+fn override_expression(words: &[&[u8]]) -> Option<Expression>
+    ensures { result ≡ override_expression_of (map (λ w. w.now) words.now) }
+{
+    let [id] = words else { return None };
+    Some(Expression::Override(handle(id)?))
+}
+
+fn zero_value(words: &[&[u8]]) -> Option<Expression>
+    ensures { result ≡ zero_value_of (map (λ w. w.now) words.now) }
+{
+    let [ty] = words else { return None };
+    Some(Expression::ZeroValue(handle(ty)?))
+}
+
+fn splat(words: &[&[u8]]) -> Option<Expression>
+    ensures { result ≡ splat_of (map (λ w. w.now) words.now) }
+{
+    let [components, value] = words else {
+        return None
+    };
+    Some(Expression::Splat {
+        size: size(components)?,
+        value: handle(value)?,
+    })
+}
+
+fn unary(words: &[&[u8]]) -> Option<Expression>
+    ensures { result ≡ unary_of (map (λ w. w.now) words.now) }
+{
+    let [op, value] = words else { return None };
+    Some(Expression::Unary {
+        op: unary_operator(op)?,
+        expr: handle(value)?,
+    })
+}
+
+fn binary(words: &[&[u8]]) -> Option<Expression>
+    ensures { result ≡ binary_of (map (λ w. w.now) words.now) }
+{
+    let [op, left, right] = words else {
+        return None
+    };
+    Some(Expression::Binary {
+        op: binary_operator(op)?,
+        left: handle(left)?,
+        right: handle(right)?,
+    })
+}
+
+/// The components of words, if each is one.
+fn components(
+    alloc: Global,
+    words: &[&[u8]],
+) -> Result<Option<List<Handle<ExpressionTag>>>, OutOfMemory>
+    ensures { IfOk result (λ read. read ≡ read_each handle_of (map (λ w. w.now) words.now)) }
+{
+    let mut components = List::new(alloc);
+    for word in words {
+        match handle(word) {
+            Some(component) => components.push(component)?,
+            None => return Ok(None),
+        }
+    }
+    Ok(Some(components))
+}
+
+fn compose(alloc: Global, words: &[&[u8]]) -> Result<Option<Expression>, OutOfMemory>
+    ensures { IfOk result (λ read. read ≡ compose_of (map (λ w. w.now) words.now)) }
+{
+    let Some((ty, rest)) = words.split_first() else {
+        return Ok(None);
+    };
+    let Some(ty) = handle(ty) else {
+        return Ok(None);
+    };
+    match components(alloc, rest)? {
+        Some(components) => Ok(Some(Expression::Compose { ty, components })),
+        None => Ok(None),
+    }
+}
+
+/// The expression of a form other than `compose`, and of the words after it.
+fn fixed_expression(form: &[u8], words: &[&[u8]]) -> Option<Expression>
+    ensures { result ≡ read_by fixed_expression_readers form.now (map (λ w. w.now) words.now) }
+{
+    match form {
+        _ if equals(form, b"lit") => literal_expression(words),
+        _ if equals(form, b"const") => constant_expression(words),
+        _ if equals(form, b"override") => override_expression(words),
+        _ if equals(form, b"zero") => zero_value(words),
+        _ if equals(form, b"splat") => splat(words),
+        _ if equals(form, b"unary") => unary(words),
+        _ if equals(form, b"binary") => binary(words),
+        _ => None,
+    }
+}
+
+/// The expression of the words after `expr`. Only the components of a composition take memory.
+pub fn expression(alloc: Global, words: &[&[u8]]) -> Result<Option<Expression>, OutOfMemory>
+    ensures { IfOk result (λ read. read ≡ expression_of (map (λ w. w.now) words.now)) }
+{
+    let Some((form, rest)) = words.split_first() else {
+        return Ok(None);
+    };
+    if equals(form, b"compose") {
+        compose(alloc, rest)
+    } else {
+        Ok(fixed_expression(form, rest))
+    }
+}
