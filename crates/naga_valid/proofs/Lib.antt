@@ -1,4 +1,9 @@
+mod FirstErrors
+mod Ids
+mod Judging
 mod ModuleLaws
+mod OverrideValues
+mod Referred
 mod Refusals
 mod RuleResults
 mod WorkedSettings

@@ -1,12 +1,14 @@
 -- Which modules are accepted, and how the others are refused.
-use Rattle.std.specs.Prelude.{◌≡◌, ◌⊎◌, ℕ, Bool, List, [], Some, map, slice_get, unwrap_or}
+use Rattle.std.specs.Prelude.{◌≡◌, ◌⊎◌, ℕ, Bool, List, [], All, IsOk, IsTrue, Result, Some, map, slice_get, unwrap_or}
 use Rattle.naga_arena.specs.InOrder.{IsFirstRefusalInOrder}
 use Rattle.naga_arena.specs.Results.{IsFirstRefusal}
-use Rattle.naga_exprs.specs.ModuleInfo.{ModuleInfoLists}
-use Rattle.naga_flags.specs.declared.flags.Capabilities.{Capabilities}
-use Rattle.naga_flags.specs.declared.flags.ValidationFlags.{ValidationFlags}
+use Rattle.naga_flags.specs.Bits.{CONSTANTS}
+use Rattle.naga_flags.specs.Flags.{has}
 use Rattle.naga_handles.specs.Faults.{IsFault, IsHandleFault}
 use Rattle.naga_handles.specs.declared.error.ValidationFault.TheVariants.{MissingMember}
+use Rattle.naga_infos.specs.ModuleInfo.{ModuleInfoLists}
+use Rattle.naga_infos.specs.declared.error.ConstExpressionError.{ConstExpressionError}
+use Rattle.naga_infos.specs.declared.error.ConstExpressionError.TheVariants.{Type_ as Unresolved}
 use Rattle.naga_ir.specs.Handles.{HandlesAccepted}
 use Rattle.naga_ir.specs.ItemReferences.{global_lists}
 use Rattle.naga_ir.specs.declared.ir.Module.{Module}
@@ -16,38 +18,54 @@ use Rattle.naga_types.specs.declared.error.TypeError.{TypeError}
 use Rattle.naga_types.specs.declared.error.TypeError.TheVariants.{InvalidData}
 use Rattle.naga_types.specs.declared.info.TypeInfo.{TypeInfo}
 use Rattle.naga_typing.specs.Layout.{layout_results}
+use Rattle.naga_typing.specs.Typings.{AreResolved, Resolves, resolve_in_order}
 use Rattle.naga_typing.specs.declared.layouter.LayoutError.{LayoutError}
 use Rattle.naga_typing.specs.declared.layouter.TypeLayout.{TypeLayout}
-use Rattle.naga_valid.specs.State.{Facts, State}
+use Rattle.naga_typing.specs.declared.typifier.ResolveError.{ResolveError}
+use Rattle.naga_valid.specs.State.{Facts, Settings}
+use Rattle.naga_valid.specs.Values.{AreValueResults}
 use Rattle.naga_valid.specs.declared.error.ValidationError.{ValidationError}
-use Rattle.naga_valid.specs.declared.error.ValidationError.TheVariants.{InvalidHandle, Layouter, Type_, OutOfMemory}
+use Rattle.naga_valid.specs.declared.error.ValidationError.TheVariants.{InvalidHandle, Layouter, Type_, ConstExpression, ArraySizeError, Constant, Override, Corrupted, OutOfMemory}
 
--- what modules are judged by: the parts that are looked at, what may be used, and whether overrides have to have their values
-pub record Settings : Type 0 where
-  pub flags : ValidationFlags
-  pub capabilities : Capabilities
-  pub resolved : Bool
+-- what a module's users learn of its facts: what each type may be used for, and the type of each global expression; functions and entry points are not judged
+abbrev pub lists_of : Facts → ModuleInfoLists
+lists_of facts = record { type_flags = map (λ (i : TypeInfo). i.flags) facts.infos; functions = []; entry_points = []; const_expression_types = facts.resolutions }
 
--- the settings of a validator, and whether overrides have to have their values
-abbrev pub settings_of : State → Bool → Settings
-settings_of state resolved = record { flags = state.flags; capabilities = state.capabilities; resolved = resolved }
-
--- a module is accepted, and these are the facts: its handles are right, its types have layouts, and each keeps its rule, which gives these infos
-pub record IsAccepted (m : Module) (settings : Settings) (facts : Facts) : Type 0 where
+-- the types of a module are accepted, and these are their infos
+pub record AreValidTypes (m : Module) (settings : Settings) (infos : List TypeInfo) : Type 0 where
   pub layouts : List TypeLayout
-  pub types : AreTypesAccepted m settings.capabilities settings.resolved layouts facts.infos
+  pub accepted : AreTypesAccepted m settings.capabilities settings.resolved layouts infos
+
+-- so are they, and its global expressions have types: these are the facts
+pub record IsKnown (resolves : Resolves) (m : Module) (settings : Settings) (facts : Facts) : Type 0 where
+  pub types : AreValidTypes m settings facts.infos
+  pub resolutions : AreResolved resolves m facts.resolutions
+
+-- all values of a module keep their rules
+pub record AreValuesAccepted (m : Module) (settings : Settings) (facts : Facts) : Type 0 where
+  pub results : List (Result (Unit {0}) ValidationError)
+  pub are_results : AreValueResults settings.capabilities settings.resolved m (lists_of facts) results
+  pub all_ok : All IsOk results
+
+-- whether values are validated at all
+abbrev pub checks_values : Settings → Bool
+checks_values settings = has settings.flags.0 CONSTANTS
+
+-- a module is accepted, and these are the facts: they are known, and its values keep their rules if they are validated
+pub record IsAccepted (resolves : Resolves) (m : Module) (settings : Settings) (facts : Facts) : Type 0 where
+  pub known : IsKnown resolves m settings facts
+  pub values : IsTrue (checks_values settings) → AreValuesAccepted m settings facts
 
 -- a module keeps all rules
-abbrev pub IsValid : Module → Settings → Type 0
-IsValid m settings = (facts : Facts) × IsAccepted m settings facts
+abbrev pub IsValid : Resolves → Module → Settings → Type 0
+IsValid resolves m settings = (facts : Facts) × IsAccepted resolves m settings facts
 
--- what a module's users learn of its facts: what each type may be used for
-abbrev pub lists_of : Facts → ModuleInfoLists
-lists_of facts = record { type_flags = map (λ (i : TypeInfo). i.flags) facts.infos }
-
--- a module is accepted with these facts, and what its users learn is made of them
-abbrev pub Accepts : Module → Settings → Facts → ModuleInfoLists → Type 0
-Accepts m settings facts info = IsAccepted m settings facts × (info ≡ lists_of facts)
+-- a module is accepted with facts of which these are the infos and what its users learn
+pub record Accepts (resolves : Resolves) (m : Module) (settings : Settings) (infos : List TypeInfo) (lists : ModuleInfoLists) : Type 0 where
+  pub facts : Facts
+  pub accepted : IsAccepted resolves m settings facts
+  pub infos_are : infos ≡ facts.infos
+  pub lists_are : lists ≡ lists_of facts
 
 -- the type of this index has this name, or none and the name is empty
 abbrev pub IsNameOf : List «Type» → ℕ → List ℕ → Type 0
@@ -68,19 +86,40 @@ pub record IsTypeRefusal (m : Module) (settings : Settings) (handle : ℕ) (name
   pub first : IsFirstRefusalInOrder (types_rule (global_lists m) settings.capabilities settings.resolved layouts) m.types handle source
   pub named : IsNameOf m.types handle name
 
--- a refusal of a module: a fault of its handles, else the first of its layouts, else of its types
-abbrev pub IsRefusal : Module → Settings → ValidationError → Type 0
-IsRefusal m settings (InvalidHandle e) = IsHandleFault m e
-IsRefusal m settings (Layouter e) = IsLayoutRefusal m e
-IsRefusal m settings (Type_ handle name source) = IsMissingMember m handle name source ⊎ IsTypeRefusal m settings handle name source
-IsRefusal m settings OutOfMemory = ⊥
+-- all types keep their rules, and the global expression of this index is the first that has no type
+pub record IsUnresolved (resolves : Resolves) (m : Module) (settings : Settings) (handle : ℕ) (source : ConstExpressionError) : Type 0 where
+  pub infos : List TypeInfo
+  pub types : AreValidTypes m settings infos
+  pub error : ResolveError
+  pub first : IsFirstRefusalInOrder (resolve_in_order resolves m) m.global_expressions handle error
+  pub reported_as : source ≡ Unresolved error
+
+-- types and global expressions are known, and this is the first error among the values
+pub record IsValueRefusal (resolves : Resolves) (m : Module) (settings : Settings) (e : ValidationError) : Type 0 where
+  pub facts : Facts
+  pub known : IsKnown resolves m settings facts
+  pub checked : IsTrue (checks_values settings)
+  pub results : List (Result (Unit {0}) ValidationError)
+  pub are_results : AreValueResults settings.capabilities settings.resolved m (lists_of facts) results
+  pub place : ℕ
+  pub first : IsFirstRefusal results place e
+
+-- a refusal of a module before its values are judged: a fault of its handles, else the first of its layouts, else of its types, else of the types of its global expressions
+abbrev pub IsEarlyRefusal : Resolves → Module → Settings → ValidationError → Type 0
+IsEarlyRefusal resolves m settings (InvalidHandle e) = IsHandleFault m e
+IsEarlyRefusal resolves m settings (Layouter e) = IsLayoutRefusal m e
+IsEarlyRefusal resolves m settings (Type_ handle name source) = IsMissingMember m handle name source ⊎ IsTypeRefusal m settings handle name source
+IsEarlyRefusal resolves m settings (ConstExpression handle source) = IsUnresolved resolves m settings handle source
+IsEarlyRefusal resolves m settings (ArraySizeError handle) = ⊥
+IsEarlyRefusal resolves m settings (Constant handle name source) = ⊥
+IsEarlyRefusal resolves m settings (Override handle name source) = ⊥
+IsEarlyRefusal resolves m settings Corrupted = ⊥
+IsEarlyRefusal resolves m settings OutOfMemory = ⊥
+
+-- a refusal of a module: one of those, or the first of its values
+abbrev pub IsRefusal : Resolves → Module → Settings → ValidationError → Type 0
+IsRefusal resolves m settings e = IsEarlyRefusal resolves m settings e ⊎ IsValueRefusal resolves m settings e
 
 -- a module is refused with this error, and isn't valid
-abbrev pub Refuses : Module → Settings → ValidationError → Type 0
-Refuses m settings e = IsRefusal m settings e × ¬ (IsValid m settings)
-
--- a module has no constants, overrides and global expressions
-pub record HasNoValues (m : Module) : Type 0 where
-  pub constants : m.constants ≡ []
-  pub overrides : m.overrides ≡ []
-  pub global_expressions : m.global_expressions ≡ []
+abbrev pub Refuses : Resolves → Module → Settings → ValidationError → Type 0
+Refuses resolves m settings e = IsRefusal resolves m settings e × ¬ (IsValid resolves m settings)

@@ -1,8 +1,11 @@
--- To read first, after those of naga_ir, naga_handles, naga_typing and naga_types:
+-- To read first, after those of naga_ir, naga_handles, naga_typing, naga_types and naga_const_exprs:
 -- Accepted.IsAccepted: a module keeps all rules, and these are its facts
--- Accepted.IsRefusal: a fault of its handles, else the first refusal of its layouts, else of its types
+-- Accepted.IsRefusal: a fault of its handles, else the first refusal of its layouts, its types, the types of its global expressions, and its values
 -- Accepted.Accepts, Refuses: what validate says of a module that it accepts, and of one that it refuses
--- State.State, fresh: what a validator keeps from call to call, and begins with
+-- Values.constant_rule, override_rule, value_results: the rules of constants and overrides, and of all values of a module
+-- State.State, Settings, fresh: what a validator keeps from call to call, and begins with
 pub mod Accepted
 pub mod Faults
 pub mod State
+pub mod Values
+pub mod steps

@@ -1,67 +1,81 @@
 //! The driver: the rules in their order.
 
-ghost use Rattle.std.specs.Prelude.{◌≡◌, ◌<◌, ◌≤◌, ◌⊎◌, ◌↔◌, [], length, IfOk, IfSome, IsTrue, OnErr, OnOk, Some, slice_get, false, true, unwrap_or};
+ghost use Rattle.std.specs.Prelude.{◌≡◌, ◌<◌, ◌≤◌, ◌⊎◌, ◌↔◌, [], All, length, IfOk, IfSome, IsTrue, OnErr, OnOk, Some, slice_get, false, true};
 ghost use Rattle.naga_arena.specs.Memory.{UnlessOutOfMemory};
 ghost use Rattle.naga_arena.specs.Span.{inner_of};
+ghost use Rattle.naga_const_exprs.specs.ConstExpression.{literal_rule};
 ghost use Rattle.naga_flags.specs.Width.{width_rule};
+ghost use Rattle.naga_ir.specs.Handles.{HandlesAccepted};
 ghost use Rattle.naga_ir.specs.ItemReferences.{global_lists};
-ghost use Rattle.naga_types.specs.AcceptedTypes.{AreTypesAccepted, IsLaidOut, judged_by, rule_at};
+ghost use Rattle.naga_types.specs.AcceptedTypes.{IsLaidOut, judged_by, rule_at};
 ghost use Rattle.naga_types.specs.HostLeaves.{AllLeavesAreSeparate};
 ghost use Rattle.naga_types.specs.RuleResults.{IsRuleResult};
 ghost use Rattle.naga_types.specs.declared.error.TypeError.TheVariants as TypeError;
-ghost use Rattle.naga_ir.specs.Handles.{HandlesAccepted};
-ghost use Rattle.naga_valid.specs.Accepted.{Accepts, HasNoValues, IsAccepted, Refuses, lists_of, settings_of};
-ghost use Rattle.naga_valid.specs.Accepted as accepted;
-ghost use Rattle.naga_valid.specs.State.{no_facts};
+ghost use Rattle.naga_typing.specs.Resolutions.{TypesExist};
+ghost use Rattle.naga_typing.specs.Typings.{AreResolved, Resolves};
+ghost use Rattle.naga_valid.specs.Accepted.{Accepts, AreValidTypes, Refuses, lists_of};
+ghost use Rattle.naga_valid.specs.State.{settings_of};
 ghost use Rattle.naga_valid.specs.State as state;
+ghost use Rattle.naga_valid.specs.steps.Judged.{IsFirstUnresolved};
 
 use crate::error::ValidationError;
+use crate::override_ids::OverrideIds;
+use crate::values::{name_of, validate_values};
 use bitflags::Flags;
-use naga_exprs::module_info::ModuleInfo;
+use naga_const_exprs::const_expression::validate_literal;
 use naga_flags::flags::{Capabilities, ShaderStages, SubgroupOperationSet, ValidationFlags};
 use naga_flags::width::{ImmediateCompatibility, WidthError, check_width};
 use naga_handles::handles::validate_module_handles;
+use naga_infos::context::ExprContext;
+use naga_infos::error::{ConstExpressionError, LiteralError};
+use naga_infos::module_info::ModuleInfo;
+use naga_ir::expression::Literal;
 use naga_ir::handle::Handle;
 use naga_ir::ir::Module;
 use naga_ir::memory::OutOfMemory;
 use naga_ir::span::WithSpan;
 use naga_ir::tags::TypeTag;
-use naga_ir::text::Text;
-use naga_ir::types::{Scalar, Type};
+use naga_ir::types::Scalar;
 use naga_types::error::TypeError;
 use naga_types::info::{TypeContext, TypeInfo, TypeInfos};
 use naga_types::validate::validate_type;
 use naga_typing::context::to_ctx;
 use naga_typing::layouter::{LayoutErrorInner, Layouter};
+use naga_typing::plain_typing::PlainTyping;
+use naga_typing::typifier::ResolveError;
+use naga_typing::typing::Typing;
 use std::alloc::Global;
 use std::marker::Model;
 
 /// Validates modules, one after another, under settings of its own.
 ///
-/// Its results depend on the settings and the module alone. Contracts see the settings, and the infos
-/// of the types of the module last accepted.
+/// Its results depend on the settings, the typing and the module alone. Contracts see these, and the
+/// infos of the types of the module last accepted.
 #[derive(Drop)]
-pub struct Validator {
+pub struct Validator<T = PlainTyping> {
     alloc: Global,
     flags: ValidationFlags,
     capabilities: Capabilities,
     subgroup_stages: ShaderStages,
     subgroup_operations: SubgroupOperationSet,
+    typing: T,
     infos: TypeInfos,
     layouter: Layouter,
+    override_ids: OverrideIds,
 }
 
-impl Model for Validator {
+impl<T> Model for Validator<T> {
     ghost use Rattle.naga_valid.specs.State.{State};
 
-    ghost Value = { State };
+    ghost Value = { State T };
 
     ghost view = { λ v. record {
       flags = v.flags;
       capabilities = v.capabilities;
       subgroup_stages = v.subgroup_stages;
       subgroup_operations = v.subgroup_operations;
-      facts = record { infos = v.infos.infos };
+      typing = v.typing;
+      infos = v.infos.infos;
     } };
 }
 
@@ -74,9 +88,9 @@ struct Settings {
 }
 
 impl Model for Settings {
-    ghost use Rattle.naga_valid.specs.Accepted as accepted;
+    ghost use Rattle.naga_valid.specs.State as state;
 
-    ghost Value = { accepted.Settings };
+    ghost Value = { state.Settings };
 
     ghost view = { λ s. record { flags = s.flags; capabilities = s.capabilities; resolved = s.overrides_resolved } };
 
@@ -115,14 +129,33 @@ fn operations_with(capabilities: Capabilities) -> SubgroupOperationSet
     }
 }
 
-impl Validator {
-    /// A validator with these settings. It takes no memory before its first module.
+impl Validator<PlainTyping> {
+    /// A validator with these settings, which resolves the types of expressions by `PlainTyping`. It
+    /// takes no memory before its first module.
     ///
     /// With `Capabilities::SUBGROUP` fragment, compute, mesh and task shaders may use subgroups, and
     /// all operations in them; with `SUBGROUP_VERTEX_STAGE` vertex shaders may (naga's
     /// `Validator::new`).
-    pub fn new(alloc: Global, flags: ValidationFlags, capabilities: Capabilities) -> Validator
-        ensures { result ≡ state.fresh flags capabilities }
+    pub fn new(
+        alloc: Global,
+        flags: ValidationFlags,
+        capabilities: Capabilities,
+    ) -> Validator<PlainTyping>
+        ensures { result ≡ state.fresh flags capabilities result.typing }
+    {
+        Validator::with_typing(alloc, flags, capabilities, PlainTyping)
+    }
+}
+
+impl<T: Typing> Validator<T> {
+    /// A validator with these settings and this typing, as `new` makes one.
+    pub fn with_typing(
+        alloc: Global,
+        flags: ValidationFlags,
+        capabilities: Capabilities,
+        typing: T,
+    ) -> Validator<T>
+        ensures { result ≡ state.fresh flags capabilities typing }
     {
         Validator {
             alloc,
@@ -130,8 +163,10 @@ impl Validator {
             capabilities,
             subgroup_stages: stages_with(capabilities),
             subgroup_operations: operations_with(capabilities),
+            typing,
             infos: TypeInfos::with_room(alloc, 0).unwrap(),
             layouter: Layouter::new(alloc),
+            override_ids: OverrideIds::new(alloc),
         }
     }
 
@@ -153,33 +188,41 @@ impl Validator {
         self
     }
 
-    /// Forgets the module last accepted, and keeps the settings.
+    /// Forgets the module last accepted, and keeps the settings and the typing.
     pub fn reset(&mut self)
-        ensures { self.new ≡ record self.old { facts = no_facts } }
+        ensures { self.new ≡ record self.old { infos = [] } }
     {
         self.infos.clear();
         self.layouter.clear();
     }
 
-    /// Whether a module keeps all rules, and what is known of it then. So far the module has no
-    /// constants, overrides and global expressions, and of functions only the handles are judged. If it
-    /// does, hosts may rely on the leaves of its types.
+    /// Whether a module keeps all rules, and what is known of it then. Of global variables, functions
+    /// and entry points only the handles are judged, and of global expressions, constants and overrides
+    /// the types, unless the flags have `CONSTANTS`. If it keeps them, hosts may rely on the leaves of
+    /// its types.
     ///
     /// # Errors
     ///
-    /// A refusal: of a handle or range that isn't right, `ValidationError::InvalidHandle`, or of a
-    /// comment on a missing member, `Type_` with `InvalidData`; else the first of a type without
-    /// layout, `Layouter`; else the first of a type that breaks its rule, `Type_`. The last two have
-    /// the span of the type. A module that is refused breaks a rule. `OutOfMemory` if memory was
-    /// refused. After each of them the validator is as after `reset`.
+    /// A refusal, the first in this order:
+    ///
+    /// - a handle or range that isn't right, `ValidationError::InvalidHandle`, or a comment on a missing
+    ///   member, `Type_` with `InvalidData`;
+    /// - the first type without layout, `Layouter`;
+    /// - the first type that breaks its rule, `Type_`;
+    /// - the first global expression that has no type, `ConstExpression` with `Type_`;
+    /// - with the flag `CONSTANTS` the first global expression that breaks its rule, `ConstExpression`,
+    ///   the first constant, `Constant`, and the first override, `Override`.
+    ///
+    /// All but those of handles have the span of the item. A module that is refused breaks a rule.
+    /// `OutOfMemory` if memory was refused. After each of them the validator is as after `reset`.
     pub fn validate(&mut self, module: &Module) -> Result<ModuleInfo, WithSpan<ValidationError>>
-        requires { HasNoValues «module».now }
         ensures result { UnlessOutOfMemory (λ e. inner_of e ≡ ValidationError.OutOfMemory) result
-            (λ info. Accepts «module».now (settings_of self.old false) self.new.facts info.lists)
-            (λ e. Refuses «module».now (settings_of self.old false) (inner_of e)) }
-        ensures leaves { OnOk result (AllLeavesAreSeparate (global_lists «module».now) self.new.facts.infos) }
-        ensures cleared { OnErr result (self.new.facts ≡ no_facts) }
-        ensures settings { self.new ≡ record self.old { facts = self.new.facts } }
+            (λ info. Accepts (T.resolves self.old.typing) «module».now (settings_of self.old false) self.new.infos info.lists)
+            (λ e. Refuses (T.resolves self.old.typing) «module».now (settings_of self.old false) (inner_of e)) }
+        ensures types { OnOk result (AreValidTypes «module».now (settings_of self.old false) self.new.infos) }
+        ensures leaves { OnOk result (AllLeavesAreSeparate (global_lists «module».now) self.new.infos) }
+        ensures cleared { OnErr result (self.new.infos ≡ []) }
+        ensures settings { self.new ≡ record self.old { infos = self.new.infos } }
     {
         self.validate_impl(module, false)
     }
@@ -194,14 +237,14 @@ impl Validator {
         &mut self,
         module: &Module,
     ) -> Result<ModuleInfo, WithSpan<ValidationError>>
-        requires { HasNoValues «module».now }
         ensures result { UnlessOutOfMemory (λ e. inner_of e ≡ ValidationError.OutOfMemory) result
-            (λ info. Accepts «module».now (settings_of self.old true) self.new.facts info.lists)
-            (λ e. Refuses «module».now (settings_of self.old true) (inner_of e)) }
-        ensures unresolved { OnOk result (IsAccepted «module».now (settings_of self.old false) self.new.facts) }
-        ensures leaves { OnOk result (AllLeavesAreSeparate (global_lists «module».now) self.new.facts.infos) }
-        ensures cleared { OnErr result (self.new.facts ≡ no_facts) }
-        ensures settings { self.new ≡ record self.old { facts = self.new.facts } }
+            (λ info. Accepts (T.resolves self.old.typing) «module».now (settings_of self.old true) self.new.infos info.lists)
+            (λ e. Refuses (T.resolves self.old.typing) «module».now (settings_of self.old true) (inner_of e)) }
+        ensures unresolved { IfOk result (λ info. Accepts (T.resolves self.old.typing) «module».now (settings_of self.old false) self.new.infos info.lists) }
+        ensures types { OnOk result (AreValidTypes «module».now (settings_of self.old true) self.new.infos) }
+        ensures leaves { OnOk result (AllLeavesAreSeparate (global_lists «module».now) self.new.infos) }
+        ensures cleared { OnErr result (self.new.infos ≡ []) }
+        ensures settings { self.new ≡ record self.old { infos = self.new.infos } }
     {
         self.validate_impl(module, true)
     }
@@ -211,19 +254,13 @@ impl Validator {
         module: &Module,
         overrides_resolved: bool,
     ) -> Result<ModuleInfo, WithSpan<ValidationError>>
-        requires { HasNoValues «module».now }
         ensures result { UnlessOutOfMemory (λ e. inner_of e ≡ ValidationError.OutOfMemory) result
-            (λ info. Accepts «module».now (settings_of self.old overrides_resolved) self.new.facts info.lists)
-            (λ e. Refuses «module».now (settings_of self.old overrides_resolved) (inner_of e)) }
-        ensures cleared { OnErr result (self.new.facts ≡ no_facts) }
-        ensures settings { self.new ≡ record self.old { facts = self.new.facts } }
+            (λ info. Accepts (T.resolves self.old.typing) «module».now (settings_of self.old overrides_resolved) self.new.infos info.lists)
+            (λ e. Refuses (T.resolves self.old.typing) «module».now (settings_of self.old overrides_resolved) (inner_of e)) }
+        ensures cleared { OnErr result (self.new.infos ≡ []) }
+        ensures settings { self.new ≡ record self.old { infos = self.new.infos } }
     {
-        let settings = Settings {
-            flags: self.flags,
-            capabilities: self.capabilities,
-            overrides_resolved,
-        };
-        let result = self.validate_steps(module, settings);
+        let result = self.validate_steps(module, overrides_resolved);
         if result.is_err() {
             self.reset();
         }
@@ -234,25 +271,40 @@ impl Validator {
     fn validate_steps(
         &mut self,
         module: &Module,
-        settings: Settings,
+        overrides_resolved: bool,
     ) -> Result<ModuleInfo, WithSpan<ValidationError>>
-        requires { HasNoValues «module».now }
         ensures result { UnlessOutOfMemory (λ e. inner_of e ≡ ValidationError.OutOfMemory) result
-            (λ info. Accepts «module».now settings self.new.facts info.lists)
-            (λ e. Refuses «module».now settings (inner_of e)) }
-        ensures settings { self.new ≡ record self.old { facts = self.new.facts } }
+            (λ info. Accepts (T.resolves self.old.typing) «module».now (settings_of self.old overrides_resolved) self.new.infos info.lists)
+            (λ e. Refuses (T.resolves self.old.typing) «module».now (settings_of self.old overrides_resolved) (inner_of e)) }
+        ensures settings { self.new ≡ record self.old { infos = self.new.infos } }
     {
         if let Err(fault) = validate_module_handles(self.alloc, module) {
             return Err(WithSpan::new(ValidationError::from(fault)));
         }
         lay_out(&mut self.layouter, module)?;
-        validate_types(
+        let settings = Settings {
+            flags: self.flags,
+            capabilities: self.capabilities,
+            overrides_resolved,
+        };
+        let mut mod_info = validate_types(
             self.alloc,
             settings,
             module,
             &self.layouter,
             &mut self.infos,
-        )
+        )?;
+        resolve_expressions(self.alloc, &self.typing, module, &mut mod_info)?;
+        if self.flags.contains(ValidationFlags::CONSTANTS) {
+            let ctx = ExprContext {
+                capabilities: self.capabilities,
+                overrides_resolved,
+                subgroup_stages: self.subgroup_stages,
+                typing: &self.typing,
+            };
+            validate_values(self.alloc, ctx, module, &mod_info, &mut self.override_ids)?;
+        }
+        Ok(mod_info)
     }
 
     /// Whether a scalar has a good width under the capabilities, and whether immediates may hold it.
@@ -266,17 +318,28 @@ impl Validator {
         check_width(self.capabilities, scalar)
     }
 
+    /// Whether a literal has a good width under the capabilities.
+    ///
+    /// # Errors
+    ///
+    /// Those of the function `validate_literal`.
+    pub fn validate_literal(&self, literal: Literal) -> Result<(), LiteralError>
+        ensures { result ≡ literal_rule self.now.capabilities.0 literal }
+    {
+        validate_literal(self.capabilities, literal)
+    }
+
     /// How many types the module last accepted has.
     pub fn type_count(&self) -> usize
-        ensures { result ≡ length self.now.facts.infos }
+        ensures { result ≡ length self.now.infos }
     {
         self.infos.len()
     }
 
     /// What is known of a type of the module last accepted.
     pub fn type_info(&self, handle: Handle<TypeTag>) -> TypeInfo
-        requires { handle < length self.now.facts.infos }
-        ensures { slice_get self.now.facts.infos handle ≡ Some result }
+        requires { handle < length self.now.infos }
+        ensures { slice_get self.now.infos handle ≡ Some result }
     {
         self.infos.get(handle)
     }
@@ -286,7 +349,7 @@ impl Validator {
 fn lay_out(layouter: &mut Layouter, module: &Module) -> Result<(), WithSpan<ValidationError>>
     requires { HandlesAccepted «module».now }
     ensures { UnlessOutOfMemory (λ e. inner_of e ≡ ValidationError.OutOfMemory) result (λ _. IsLaidOut «module».now layouter.new)
-        (λ e. (settings : accepted.Settings) → Refuses «module».now settings (inner_of e)) }
+        (λ e. (resolves : Resolves) (settings : state.Settings) → Refuses resolves «module».now settings (inner_of e)) }
 {
     let Err(error) = layouter.update(to_ctx(module)) else {
         return Ok(());
@@ -310,11 +373,11 @@ fn validate_types(
 ) -> Result<ModuleInfo, WithSpan<ValidationError>>
     requires { IsLaidOut «module».now layouter.now }
     ensures { UnlessOutOfMemory (λ e. inner_of e ≡ ValidationError.OutOfMemory) result
-        (λ info. AreTypesAccepted «module».now settings.capabilities settings.resolved layouter.now infos.new.infos × (info.lists ≡ lists_of (record { infos = infos.new.infos })))
-        (λ e. Refuses «module».now settings (inner_of e)) }
+        (λ info. AreValidTypes «module».now settings infos.new.infos × (info.lists ≡ lists_of (record { infos = infos.new.infos; resolutions = [] })))
+        (λ e. (resolves : Resolves) → Refuses resolves «module».now settings (inner_of e)) }
 {
     let mut mod_info = ModuleInfo::new(alloc);
-    make_room(alloc, module.types.len(), infos, &mut mod_info)?;
+    make_room(alloc, module, infos, &mut mod_info)?;
     for (handle, ty) in module.types.iter() {
         match type_info_of(alloc, settings, infos, layouter, handle, module) {
             Ok(info) => {
@@ -325,7 +388,7 @@ fn validate_types(
                 if is_out_of_memory(&source) {
                     return Err(WithSpan::new(ValidationError::OutOfMemory));
                 }
-                let name = name_of(alloc, ty)?;
+                let name = name_of(alloc, &ty.name)?;
                 let error = ValidationError::Type_ {
                     handle,
                     name,
@@ -368,29 +431,52 @@ fn type_info_of(
     validate_type(alloc, ctx, handle, to_ctx(module))
 }
 
-/// Clears `infos`, and makes room for those of `types` types.
+/// Clears `infos`, and makes room for what is learnt of the types and global expressions of a module.
 fn make_room(
     alloc: Global,
-    types: usize,
+    module: &Module,
     infos: &mut TypeInfos,
     mod_info: &mut ModuleInfo,
 ) -> Result<(), OutOfMemory>
     ensures infos { OnOk result (infos.new.infos ≡ []) }
     ensures mod_info { mod_info.new.lists ≡ mod_info.old.lists }
 {
+    let types = module.types.len();
     infos.clear();
     if infos.room() < types {
         *infos = TypeInfos::with_room(alloc, types)?;
     }
-    mod_info.reserve(types)
+    mod_info.reserve(types, module.global_expressions.len())
 }
 
-/// The name of a type, which is empty if it has none.
-fn name_of(alloc: Global, ty: &Type) -> Result<Text, OutOfMemory>
-    ensures { IfOk result (λ name. name ≡ unwrap_or ty.now.name []) }
+/// Resolves the type of each global expression, by those of the expressions before it.
+fn resolve_expressions<T: Typing>(
+    alloc: Global,
+    typing: &T,
+    module: &Module,
+    mod_info: &mut ModuleInfo,
+) -> Result<(), WithSpan<ValidationError>>
+    requires handles { HandlesAccepted «module».now }
+    requires none { mod_info.old.lists.const_expression_types ≡ [] }
+    ensures result { UnlessOutOfMemory (λ e. inner_of e ≡ ValidationError.OutOfMemory) result
+        (λ _. AreResolved (T.resolves typing.now) «module».now mod_info.new.lists.const_expression_types)
+        (λ e. IsFirstUnresolved (T.resolves typing.now) «module».now (inner_of e)) }
+    ensures exist { OnOk result (All (TypesExist «module».now.types) mod_info.new.lists.const_expression_types) }
+    ensures others { mod_info.new.lists ≡ record mod_info.old.lists { const_expression_types = mod_info.new.lists.const_expression_types } }
 {
-    match &ty.name {
-        Some(name) => name.try_clone(),
-        None => Ok(Text::new(alloc)),
+    for (handle, expression) in module.global_expressions.iter() {
+        match typing.resolve(alloc, module, expression, mod_info.const_expression_types()) {
+            Ok(ty) => mod_info.push_expression(ty)?,
+            Err(ResolveError::OutOfMemory) => return Err(WithSpan::new(
+                ValidationError::OutOfMemory,
+            )),
+            Err(error) => {
+                let source = ConstExpressionError::from(error);
+                let error = ValidationError::ConstExpression { handle, source };
+                let span = module.global_expressions.get_span(handle);
+                return Err(WithSpan::new(error).with_span(span));
+            }
+        }
     }
+    Ok(())
 }

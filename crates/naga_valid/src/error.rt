@@ -1,14 +1,65 @@
 //! Why a module is refused.
 
 use naga_handles::error::{FwdDepError, InvalidHandleError, ValidationFault};
+use naga_infos::error::ConstExpressionError;
 use naga_ir::handle::{BadHandle, Handle};
 use naga_ir::memory::OutOfMemory;
 use naga_ir::range::BadRangeError;
-use naga_ir::tags::TypeTag;
+use naga_ir::tags::{ConstantTag, ExpressionTag, OverrideTag, TypeTag};
 use naga_ir::text::Text;
 use naga_types::error::TypeError;
 use naga_typing::layouter::LayoutError;
 use thiserror::Error;
+
+/// Why a constant is refused.
+#[derive(Clone, Debug, PartialEq, Drop, Error)]
+pub enum ConstantError {
+    /// The value of the initialiser isn't known when the shader is compiled.
+    #[error("Initializer must be a const-expression")]
+    InitializerExprType,
+    /// The initialiser has another type than the constant.
+    #[error("The type doesn't match the constant")]
+    InvalidType,
+    /// The type of the constant is not constructible (WGSL "Constructible Types").
+    #[error("The type is not constructible")]
+    NonConstructibleType,
+}
+
+/// Why an override is refused.
+#[derive(Clone, Debug, PartialEq, Drop, Error)]
+pub enum OverrideError {
+    /// Never returned: an override may lack both.
+    #[error("Override name and ID are missing")]
+    MissingNameAndID,
+    /// An earlier override has the same number (WGSL "id").
+    #[error("Override ID must be unique")]
+    DuplicateID,
+    /// Never returned: the rule of global expressions refuses such an initialiser.
+    #[error("Initializer must be a const-expression or override-expression")]
+    InitializerExprType,
+    /// The initialiser has another type than the override.
+    #[error("The type doesn't match the override")]
+    InvalidType,
+    /// The type of the override is not constructible (WGSL "Constructible Types").
+    #[error("The type is not constructible")]
+    NonConstructibleType,
+    /// The type of the override is none of the scalars that overrides may have (WGSL "override
+    /// Declarations").
+    #[error("The type is not a scalar")]
+    TypeNotScalar,
+    /// Never returned: modules may have overrides.
+    #[error("Override declarations are not allowed")]
+    NotAllowed,
+    /// Overrides have to have their values, and this one has no initialiser.
+    #[error("Override is uninitialized")]
+    UninitializedOverride,
+    /// Never returned: the rule of global expressions refuses them before.
+    #[error("Constant expression {handle:?} is invalid")]
+    ConstExpression {
+        handle: Handle<ExpressionTag>,
+        source: ConstExpressionError,
+    },
+}
 
 /// Why a module is refused.
 #[derive(Debug, PartialEq, Drop, Error)]
@@ -28,6 +79,34 @@ pub enum ValidationError {
         name: Text,
         source: TypeError,
     },
+    /// A global expression has no type, or breaks its rule.
+    #[error("Constant expression {handle:?} is invalid")]
+    ConstExpression {
+        handle: Handle<ExpressionTag>,
+        source: ConstExpressionError,
+    },
+    /// Never returned: a size that gives no count is an error of the type.
+    #[error("Array size expression {handle:?} is not strictly positive")]
+    ArraySizeError {
+        handle: Handle<ExpressionTag>,
+    },
+    /// A constant breaks its rule. The name is empty if it has none.
+    #[error("Constant {handle:?} '{name}' is invalid")]
+    Constant {
+        handle: Handle<ConstantTag>,
+        name: Text,
+        source: ConstantError,
+    },
+    /// An override breaks its rule. The name is empty if it has none.
+    #[error("Override {handle:?} '{name}' is invalid")]
+    Override {
+        handle: Handle<OverrideTag>,
+        name: Text,
+        source: OverrideError,
+    },
+    /// Never returned.
+    #[error("Module is corrupted")]
+    Corrupted,
     /// A request for memory was refused, and nothing was decided about the module.
     #[error("Out of memory")]
     OutOfMemory,

@@ -14,12 +14,14 @@ ghost use Rattle.naga_ir.specs.ItemReferences.{global_lists};
 ghost use Rattle.naga_types.specs.HostLayouts.{HasStorageByLeaves, HasUniformByLeaves, HaveLeafAlignments, IsForHosts, MembersHaveFlags};
 ghost use Rattle.naga_types.specs.HostLeaves.{IsLaidOutForHosts, resolved_for_hosts, sized_for_hosts};
 ghost use Rattle.naga_typing.specs.Leaves.{AreSeparate, EndsInArray, size_at_index};
-ghost use Rattle.naga_valid.specs.Accepted.{IsAccepted, settings_of};
+ghost use Rattle.naga_valid.specs.Accepted.{AreValidTypes};
+ghost use Rattle.naga_valid.specs.State.{settings_of};
 
 use crate::driver::Validator;
 use naga_ir::handle::Handle;
 use naga_ir::ir::Module;
 use naga_ir::tags::TypeTag;
+use naga_typing::typing::Typing;
 
 /// The leaves of a type of a fixed size: the first byte of each is a multiple of its alignment, each
 /// ends within the size of the type, and no two share a byte. So a host can fill as many bytes as the
@@ -29,15 +31,15 @@ use naga_ir::tags::TypeTag;
 /// storage layout, if no array inside has a stride below the size of its elements, which is no rule of
 /// modules so far. Nothing is promised if both layouts are errors. An array whose length is an
 /// override that gives no count has no leaves. `length` is that of runtime-sized arrays alone.
-pub fn leaves(
+pub fn leaves<T: Typing>(
     module: &Module,
-    validator: &Validator,
+    validator: &Validator<T>,
     resolved: bool,
     ty: Handle<TypeTag>,
     length: u32,
 )
-    requires accepted { IsAccepted «module».now (settings_of validator.now resolved) validator.now.facts }
-    ensures { IsLaidOutForHosts (global_lists «module».now) validator.now.facts.infos ty sized_for_hosts
+    requires accepted { AreValidTypes «module».now (settings_of validator.now resolved) validator.now.infos }
+    ensures { IsLaidOutForHosts (global_lists «module».now) validator.now.infos ty sized_for_hosts
         → AreSeparate (global_lists «module».now) length ty (size_at_index (global_lists «module».now) ty) }
 {}
 
@@ -50,15 +52,15 @@ pub fn leaves(
 /// uniform or a storage layout, if no array inside has a stride below the size of its elements, which
 /// is no rule of modules so far. Nothing is promised if both layouts are errors, nor that this number
 /// of bytes fits into 32 bits.
-pub fn leaves_at_length(
+pub fn leaves_at_length<T: Typing>(
     module: &Module,
-    validator: &Validator,
+    validator: &Validator<T>,
     resolved: bool,
     ty: Handle<TypeTag>,
     length: u32,
 )
-    requires accepted { IsAccepted «module».now (settings_of validator.now resolved) validator.now.facts }
-    ensures { IsLaidOutForHosts (global_lists «module».now) validator.now.facts.infos ty resolved_for_hosts
+    requires accepted { AreValidTypes «module».now (settings_of validator.now resolved) validator.now.infos }
+    ensures { IsLaidOutForHosts (global_lists «module».now) validator.now.infos ty resolved_for_hosts
         → (first stride : ℕ) → EndsInArray (global_lists «module».now) ty first stride
         → AreSeparate (global_lists «module».now) length ty (first + length * stride) }
 {}
@@ -71,9 +73,14 @@ pub fn leaves_at_length(
 ///
 /// It holds of types with the flags `DATA` and `HOST_SHAREABLE`; these and all types inside them have
 /// leaf alignments. Which error stands in the place of a layout isn't said.
-pub fn storage_ok(module: &Module, validator: &Validator, resolved: bool, ty: Handle<TypeTag>)
-    requires accepted { IsAccepted «module».now (settings_of validator.now resolved) validator.now.facts }
-    ensures { IfSome (slice_get validator.now.facts.infos ty) (λ info. IsForHosts info
+pub fn storage_ok<T: Typing>(
+    module: &Module,
+    validator: &Validator<T>,
+    resolved: bool,
+    ty: Handle<TypeTag>,
+)
+    requires accepted { AreValidTypes «module».now (settings_of validator.now resolved) validator.now.infos }
+    ensures { IfSome (slice_get validator.now.infos ty) (λ info. IsForHosts info
         → HaveLeafAlignments (global_lists «module».now) ty × HasStorageByLeaves (global_lists «module».now) ty info) }
 {}
 
@@ -91,17 +98,27 @@ pub fn storage_ok(module: &Module, validator: &Validator, resolved: bool, ty: Ha
 ///
 /// It holds of types with the flags `DATA` and `HOST_SHAREABLE`; these and all types inside them have
 /// leaf alignments. Which error stands in the place of a layout isn't said.
-pub fn uniform_ok(module: &Module, validator: &Validator, resolved: bool, ty: Handle<TypeTag>)
-    requires accepted { IsAccepted «module».now (settings_of validator.now resolved) validator.now.facts }
-    ensures { IfSome (slice_get validator.now.facts.infos ty) (λ info. IsForHosts info
-        → HaveLeafAlignments (global_lists «module».now) ty × HasUniformByLeaves (global_lists «module».now) validator.now.facts.infos ty info) }
+pub fn uniform_ok<T: Typing>(
+    module: &Module,
+    validator: &Validator<T>,
+    resolved: bool,
+    ty: Handle<TypeTag>,
+)
+    requires accepted { AreValidTypes «module».now (settings_of validator.now resolved) validator.now.infos }
+    ensures { IfSome (slice_get validator.now.infos ty) (λ info. IsForHosts info
+        → HaveLeafAlignments (global_lists «module».now) ty × HasUniformByLeaves (global_lists «module».now) validator.now.infos ty info) }
 {}
 
 /// Members may be used for all that their struct may, but for being passed on between stages: each
 /// flag of a struct, `IO_SHAREABLE` aside, is a flag of the type of each member.
 ///
 /// It says nothing of types that aren't structs. A struct may lack flags that all its members have.
-pub fn struct_flags(module: &Module, validator: &Validator, resolved: bool, ty: Handle<TypeTag>)
-    requires accepted { IsAccepted «module».now (settings_of validator.now resolved) validator.now.facts }
-    ensures { IfSome (slice_get validator.now.facts.infos ty) (λ info. MembersHaveFlags (global_lists «module».now) validator.now.facts.infos ty info) }
+pub fn struct_flags<T: Typing>(
+    module: &Module,
+    validator: &Validator<T>,
+    resolved: bool,
+    ty: Handle<TypeTag>,
+)
+    requires accepted { AreValidTypes «module».now (settings_of validator.now resolved) validator.now.infos }
+    ensures { IfSome (slice_get validator.now.infos ty) (λ info. MembersHaveFlags (global_lists «module».now) validator.now.infos ty info) }
 {}

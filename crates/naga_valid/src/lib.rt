@@ -7,10 +7,20 @@
 pub mod driver;
 pub mod error;
 pub mod laws;
+mod override_ids;
+mod values;
 
 pub use driver::Validator;
+pub use error::ConstantError;
+pub use error::OverrideError;
 pub use error::ValidationError;
-pub use naga_exprs::module_info::ModuleInfo;
+pub use naga_exprs::ConstExpressionError;
+pub use naga_exprs::ExprContext;
+pub use naga_exprs::FunctionInfo;
+pub use naga_exprs::LiteralError;
+pub use naga_exprs::ModuleInfo;
+pub use naga_exprs::validate_const_expression;
+pub use naga_exprs::validate_literal;
 pub use naga_flags::extension::ImplementedEnableExtension;
 pub use naga_flags::flags::Capabilities;
 pub use naga_flags::flags::ShaderStages;

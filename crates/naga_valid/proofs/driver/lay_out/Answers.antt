@@ -23,4 +23,4 @@ returns-in-TooLarge c =
     let first = ⊎_elim (λ (o : c.in-Err.error.inner ≡ why.OutOfMemory). absurd (other o)) (λ (f : First _). f) c.in-Err.ensures.layouts in
     let refusal : IsLayoutRefusal m e = (c.requires, subst First c.to_ctx.ensures.lists first) in
     let is : inner_of c.with_span.result ≡ Layouter e = c.with_span.ensures.inner ∙ c.new-in-TooLarge.ensures.inner ∙ c.from.ensures in
-    inr (λ settings. subst (Refuses m settings) (sym is) (layout_refuses m settings e refusal))
+    inr (λ resolves settings. subst (Refuses resolves m settings) (sym is) (layout_refuses resolves m settings e refusal))

@@ -3,7 +3,7 @@ use Rattle.std.proofs.lemmas.List.{map-append}
 use Rattle.std.proofs.lemmas.Option.{slice_get_within}
 use Rattle.naga_arena.proofs.InOrder.{none_follow, one_more_follows}
 use Rattle.naga_arena.specs.InOrder.{given_at}
-use Rattle.naga_exprs.specs.ModuleInfo.{ModuleInfoLists}
+use Rattle.naga_infos.specs.ModuleInfo.{ModuleInfoLists}
 use Rattle.naga_flags.specs.declared.flags.TypeFlags.{TypeFlags}
 use Rattle.naga_ir.specs.ItemReferences.{global_lists}
 use Rattle.naga_types.specs.AcceptedTypes.{types_rule}
@@ -20,7 +20,7 @@ use Rattle.naga_valid.proofs.driver.validate_types.Goals as goal
 
 -- the lists of some infos
 abbrev lists : List TypeInfo → ModuleInfoLists
-lists infos = lists_of (record { infos = infos })
+lists infos = lists_of (record { infos = infos; resolutions = [] })
 
 pub loop-handle-init : goal.loop-handle-init
 loop-handle-init c =
@@ -55,12 +55,12 @@ loop-handle-preserved c =
     let at = next_item accepts_all m.types _ _ _ _ _ iterating c.in-Some.ensures.steps in
     let place = next_index accepts_all m.types _ _ _ _ _ iterating c.in-Some.ensures.steps in
     let given = returns_ok m settings.capabilities settings.resolved c.args.layouter.now infos c.in-Some.handle c.in-Some.ty.now at info c.in-Ok.ensures in
-    let noted : List TypeFlags → ModuleInfoLists = λ flags. record { type_flags = flags } in
+    let noted : List TypeFlags → ModuleInfoLists = λ flags. record { type_flags = flags; functions = []; entry_points = []; const_expression_types = [] } in
     record {
       iterating = subst (λ n. Iterating accepts_all m.types n c.next.new.self) (sym (ap length pushed ∙ length-append infos (info ∷ []))) (one_more accepts_all m.types _ _ _ _ _ iterating c.in-Some.ensures.steps refl);
       follow = one_more_follows rule m.types infos _ info c.loop-handle.invariant.follow (ap (given_at rule m.types infos) (sym place) ∙ given) pushed;
       lists =
-          c.in_ok-push_type-in-Ok.ensures.pushed ∙ ap (λ (l : ModuleInfoLists). noted (l.type_flags ++ info.flags ∷ [])) c.loop-handle.invariant.lists
+          c.in_ok-push_type-in-Ok.ensures.pushed ∙ ap (λ (l : ModuleInfoLists). record l { type_flags = l.type_flags ++ info.flags ∷ [] }) c.loop-handle.invariant.lists
           ∙ ap noted (sym (map-append (λ (i : TypeInfo). i.flags) infos (info ∷ []))) ∙ sym (ap lists pushed);
     }
 
@@ -76,7 +76,7 @@ returns-in-Err c =
     let other : ¬ (c.in-Err.source ≡ NoMemory) = search rules in
     let error : ValidationError = Type_ c.in-Some.handle c.in_ok-name-in-Err.name c.in-Err.source in
     let is : inner_of c.with_span.result ≡ error = c.with_span.ensures.inner ∙ c.new-in-Err.ensures.inner in
-    inr (subst (Refuses m settings) (sym is) (type_refuses m settings c.in-Some.handle c.in_ok-name-in-Err.name c.in-Err.source (record {
+    inr (λ resolves. subst (Refuses resolves m settings) (sym is) (type_refuses resolves m settings c.in-Some.handle c.in_ok-name-in-Err.name c.in-Err.source (record {
       layouts = layouts;
       laid_out = c.requires;
       first = record {
@@ -91,8 +91,11 @@ returns-in-Err c =
 pub returns : goal.returns
 returns c = (
   record {
-    laid_out = c.requires;
-    each_type = record { as_many = all_counted accepts_all c.args.module.now.types _ _ c.loop-handle.invariant.iterating c.in-None.ensures.steps.0; follow = c.loop-handle.invariant.follow };
+    layouts = c.args.layouter.now;
+    accepted = record {
+      laid_out = c.requires;
+      each_type = record { as_many = all_counted accepts_all c.args.module.now.types _ _ c.loop-handle.invariant.iterating c.in-None.ensures.steps.0; follow = c.loop-handle.invariant.follow };
+    };
   },
   c.loop-handle.invariant.lists,
 )

@@ -1,4 +1,4 @@
-use Rattle.std.proofs.Common.{◌≡◌, length}
+use Rattle.std.proofs.Common.{◌≡◌, [], length}
 use Rattle.naga_arena.specs.InOrder.{FollowInOrder}
 use Rattle.naga_ir.specs.ItemReferences.{global_lists}
 use Rattle.naga_types.specs.AcceptedTypes.{types_rule}
@@ -11,5 +11,5 @@ abbrev pub invariant-loop-handle : goal.invariant-loop-handle
 invariant-loop-handle l = record {
   iterating : Iterating accepts_all l.module.types (length l.infos.infos) l.handle-iterator;
   follow : FollowInOrder (types_rule (global_lists l.module) l.settings.capabilities l.settings.resolved l.layouter) l.module.types l.infos.infos;
-  lists : l.mod_info.lists ≡ lists_of (record { infos = l.infos.infos });
+  lists : l.mod_info.lists ≡ lists_of (record { infos = l.infos.infos; resolutions = [] });
 }

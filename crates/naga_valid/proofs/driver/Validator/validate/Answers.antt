@@ -1,12 +1,13 @@
+use Rattle.std.proofs.Common.{false, subst, sym}
 use Rattle.std.proofs.lemmas.Result.{MatchResult-weaker}
-use Rattle.std.proofs.Common.{false}
+use Rattle.naga_ir.specs.ItemReferences.{global_lists}
 use Rattle.naga_types.proofs.HostLeaves.{leaves_of_accepted}
+use Rattle.naga_types.specs.HostLeaves.{AllLeavesAreSeparate}
 use Rattle.naga_valid.proofs.driver.Validator.validate.Goals as goal
 
 pub returns-clause-leaves : goal.returns-clause-leaves
-returns-clause-leaves c =
+returns-clause-leaves g c =
     let m = c.args.module.now in
-    let facts = c.validate_impl.new.self.facts in
     MatchResult-weaker c.validate_impl.result c.validate_impl.ensures.result
-    (λ info h. leaves_of_accepted m c.args.self.now.capabilities false h.0.layouts facts.infos h.0.types)
+    (λ info h. let types = h.accepted.known.types in subst (AllLeavesAreSeparate (global_lists m)) (sym h.infos_are) (leaves_of_accepted m c.args.self.now.capabilities false types.layouts h.facts.infos types.accepted))
     (λ e h. tt)

@@ -1,21 +1,23 @@
+use Rattle.std.proofs.Common.{true, subst, sym}
 use Rattle.std.proofs.lemmas.Result.{MatchResult-weaker}
-use Rattle.std.proofs.Common.{true}
+use Rattle.naga_ir.specs.ItemReferences.{global_lists}
 use Rattle.naga_types.proofs.HostLeaves.{leaves_of_accepted}
-use Rattle.naga_types.proofs.OverrideValues.{unresolved}
+use Rattle.naga_types.specs.HostLeaves.{AllLeavesAreSeparate}
+use Rattle.naga_valid.proofs.OverrideValues.{accepted-too}
+use Rattle.naga_valid.specs.State.{settings_of}
 use Rattle.naga_valid.proofs.driver.Validator.validate_resolved_overrides.Goals as goal
 
 pub returns-clause-unresolved : goal.returns-clause-unresolved
-returns-clause-unresolved c =
+returns-clause-unresolved g c =
     let m = c.args.module.now in
-    let facts = c.validate_impl.new.self.facts in
+    let resolves = g.T.Typing.resolves c.args.self.now.typing in
     MatchResult-weaker c.validate_impl.result c.validate_impl.ensures.result
-    (λ info h. record { layouts = h.0.layouts; types = unresolved m c.args.self.now.capabilities h.0.layouts facts.infos h.0.types })
+    (λ info h. record { facts = h.facts; accepted = accepted-too resolves m (settings_of c.args.self.now true) h.facts h.accepted; infos_are = h.infos_are; lists_are = h.lists_are })
     (λ e h. tt)
 
 pub returns-clause-leaves : goal.returns-clause-leaves
-returns-clause-leaves c =
+returns-clause-leaves g c =
     let m = c.args.module.now in
-    let facts = c.validate_impl.new.self.facts in
     MatchResult-weaker c.validate_impl.result c.validate_impl.ensures.result
-    (λ info h. leaves_of_accepted m c.args.self.now.capabilities true h.0.layouts facts.infos h.0.types)
+    (λ info h. let types = h.accepted.known.types in subst (AllLeavesAreSeparate (global_lists m)) (sym h.infos_are) (leaves_of_accepted m c.args.self.now.capabilities true types.layouts h.facts.infos types.accepted))
     (λ e h. tt)

@@ -1,0 +1,3 @@
+-- What private functions alone do.
+pub mod Ids
+pub mod Judged

@@ -1,0 +1,37 @@
+-- What is known when the values of a module are judged.
+use Rattle.std.specs.Prelude.{◌≡◌, ℕ, List, All, Result, length}
+use Rattle.naga_arena.specs.InOrder.{IsFirstRefusalInOrder}
+use Rattle.naga_arena.specs.Results.{IsFirstRefusal}
+use Rattle.naga_ir.specs.Handles.{HandlesAccepted}
+use Rattle.naga_ir.specs.declared.ir.Module.{Module}
+use Rattle.naga_infos.specs.ModuleInfo.{ModuleInfoLists}
+use Rattle.naga_infos.specs.declared.error.ConstExpressionError.TheVariants.{Type_ as Unresolved}
+use Rattle.naga_typing.specs.Resolutions.{TypesExist}
+use Rattle.naga_typing.specs.Typings.{Resolves, resolve_in_order}
+use Rattle.naga_typing.specs.declared.expression_kind.ExpressionKind.{ExpressionKind}
+use Rattle.naga_typing.specs.declared.typifier.ResolveError.{ResolveError}
+use Rattle.naga_valid.specs.declared.error.ValidationError.{ValidationError}
+use Rattle.naga_valid.specs.declared.error.ValidationError.TheVariants.{ConstExpression}
+
+-- the handles of a module are right, and its types have flags and its global expressions types that exist
+pub record AreFilled (m : Module) (info : ModuleInfoLists) : Type 0 where
+  pub handles : HandlesAccepted m
+  pub flags : length info.type_flags ≡ length m.types
+  pub types : length info.const_expression_types ≡ length m.global_expressions
+  pub exist : All (TypesExist m.types) info.const_expression_types
+
+-- the kinds of its global expressions are known too
+pub record AreJudged (m : Module) (info : ModuleInfoLists) (kinds : List ExpressionKind) : Type 0 where
+  pub filled : AreFilled m info
+  pub kinds_are : length kinds ≡ length m.global_expressions
+
+-- an error is the first of some results
+abbrev pub IsFirstError : List (Result (Unit {0}) ValidationError) → ValidationError → Type 0
+IsFirstError results e = (place : ℕ) × IsFirstRefusal results place e
+
+-- an error is that of the first global expression that has no type
+pub record IsFirstUnresolved (resolves : Resolves) (m : Module) (e : ValidationError) : Type 0 where
+  pub handle : ℕ
+  pub error : ResolveError
+  pub first : IsFirstRefusalInOrder (resolve_in_order resolves m) m.global_expressions handle error
+  pub reported_as : e ≡ ConstExpression handle (Unresolved error)
