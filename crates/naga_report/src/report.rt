@@ -2,16 +2,19 @@
 
 ghost use Rattle.naga_arena.specs.Memory.{UnlessOutOfMemory};
 ghost use Rattle.naga_arena.specs.Span.{inner_of};
-ghost use Rattle.naga_valid.specs.Accepted.{Accepts, HasNoValues, Refuses, settings_of};
+ghost use Rattle.naga_typing.specs.PlainTyping.{plain_resolves};
+ghost use Rattle.naga_valid.specs.Accepted.{Accepts, Refuses};
+ghost use Rattle.naga_valid.specs.State.{settings_of};
 ghost use Rattle.naga_valid.specs.declared.error.ValidationError.TheVariants as error;
-ghost use Rattle.naga_report.specs.Report.{IsReport, IsReportOn, accepted_text, disalignment_name, handle_error_name, hex_byte, layout_error_name, layout_text, refused_text, type_error_name, type_line};
+ghost use Rattle.naga_report.specs.Report.{IsReport, IsReportOn, accepted_text, const_expression_error_name, constant_error_name, disalignment_name, handle_error_name, hex_byte, layout_error_name, layout_text, override_error_name, refused_line, refused_text, type_error_name, type_line};
 ghost use Rattle.std.specs.Prelude.{◌≡◌, ◌++◌, IfOk, OnOk, codes, decimal, length, string_bytes};
 
 use bitflags::Flags;
 use naga_text::text::{Contents, TextError, read_text};
 use naga_valid::{
-    Disalignment, Handle, InvalidHandleError, LayoutCompatibility, LayoutErrorInner, Module,
-    ModuleInfo, TypeError, TypeFlags, TypeInfo, TypeTag, ValidationError, Validator, WithSpan,
+    ConstExpressionError, ConstantError, Disalignment, Handle, InvalidHandleError,
+    LayoutCompatibility, LayoutErrorInner, Module, ModuleInfo, OverrideError, TypeError, TypeFlags,
+    TypeInfo, TypeTag, ValidationError, Validator, WithSpan,
 };
 use std::alloc::{AllocError, Global};
 
@@ -100,6 +103,49 @@ fn type_error_name(error: &TypeError) -> &'static str
     }
 }
 
+/// The name of the rule that a global expression breaks.
+fn const_expression_error_name(error: &ConstExpressionError) -> &'static str
+    ensures { result.now ≡ const_expression_error_name error.now }
+{
+    match error {
+        ConstExpressionError::NonConstOrOverride => "NonConstOrOverride",
+        ConstExpressionError::NonFullyEvaluatedConst => "NonFullyEvaluatedConst",
+        ConstExpressionError::Compose(_) => "Compose",
+        ConstExpressionError::InvalidSplatType(_) => "InvalidSplatType",
+        ConstExpressionError::Type_(_) => "Type",
+        ConstExpressionError::Literal(_) => "Literal",
+        ConstExpressionError::Width(_) => "Width",
+    }
+}
+
+/// The name of the rule that a constant breaks.
+fn constant_error_name(error: &ConstantError) -> &'static str
+    ensures { result.now ≡ constant_error_name error.now }
+{
+    match error {
+        ConstantError::InitializerExprType => "InitializerExprType",
+        ConstantError::InvalidType => "InvalidType",
+        ConstantError::NonConstructibleType => "NonConstructibleType",
+    }
+}
+
+/// The name of the rule that an override breaks.
+fn override_error_name(error: &OverrideError) -> &'static str
+    ensures { result.now ≡ override_error_name error.now }
+{
+    match error {
+        OverrideError::MissingNameAndID => "MissingNameAndID",
+        OverrideError::DuplicateID => "DuplicateID",
+        OverrideError::InitializerExprType => "InitializerExprType",
+        OverrideError::InvalidType => "InvalidType",
+        OverrideError::NonConstructibleType => "NonConstructibleType",
+        OverrideError::TypeNotScalar => "TypeNotScalar",
+        OverrideError::NotAllowed => "NotAllowed",
+        OverrideError::UninitializedOverride => "UninitializedOverride",
+        OverrideError::ConstExpression { .. } => "ConstExpression",
+    }
+}
+
 /// Adds the alignment of a layout in bytes, or the name of the reason why there is none.
 fn add_layout(text: &mut String, layout: LayoutCompatibility) -> Result<(), AllocError>
     ensures { OnOk result (string_bytes text.new ≡ string_bytes text.old ++ layout_text layout) }
@@ -136,8 +182,8 @@ fn add_type(text: &mut String, handle: Handle<TypeTag>, info: TypeInfo) -> Resul
 
 /// The report on an accepted module: a line for each type, and `ok`.
 fn accepted(alloc: Global, module: &Module, validator: &Validator) -> Result<String, AllocError>
-    requires { length validator.now.facts.infos ≡ length «module».now.types }
-    ensures { IfOk result (λ text. string_bytes text ≡ accepted_text validator.now.facts) }
+    requires { length validator.now.infos ≡ length «module».now.types }
+    ensures { IfOk result (λ text. string_bytes text ≡ accepted_text validator.now.infos) }
 {
     let mut text = String::new(alloc);
     for (handle, _) in module.types.iter() {
@@ -145,6 +191,13 @@ fn accepted(alloc: Global, module: &Module, validator: &Validator) -> Result<Str
     }
     text.push_str("ok\n")?;
     Ok(text)
+}
+
+/// The line of a refusal: what kind of item has which index, and the name of the error.
+fn refused_line(alloc: Global, item: &str, index: usize, name: &str) -> Result<String, AllocError>
+    ensures { IfOk result (λ text. string_bytes text ≡ refused_line item.now index name.now) }
+{
+    format!(in alloc; "refused {item}{index} {name}\n")
 }
 
 /// The report on a refused module: one line with the kind of the error and its name.
@@ -157,15 +210,36 @@ fn refused(alloc: Global, error: &ValidationError) -> Result<String, AllocError>
             format!(in alloc; "refused handle {name}\n")
         }
         ValidationError::Layouter(error) => {
-            let index = error.ty.index();
             let name = layout_error_name(error.inner);
-            format!(in alloc; "refused layout T{index} {name}\n")
+            refused_line(alloc, "layout T", error.ty.index(), name)
         }
         ValidationError::Type_ { handle, source, .. } => {
-            let index = handle.index();
-            let name = type_error_name(source);
-            format!(in alloc; "refused type T{index} {name}\n")
+            refused_line(alloc, "type T", handle.index(), type_error_name(source))
         }
+        ValidationError::ConstExpression { handle, source } => {
+            let name = const_expression_error_name(source);
+            refused_line(alloc, "expression G", handle.index(), name)
+        }
+        ValidationError::ArraySizeError { handle } => {
+            refused_line(alloc, "expression G", handle.index(), "ArraySizeError")
+        }
+        ValidationError::Constant { handle, source, .. } => {
+            refused_line(
+                alloc,
+                "constant C",
+                handle.index(),
+                constant_error_name(source),
+            )
+        }
+        ValidationError::Override { handle, source, .. } => {
+            refused_line(
+                alloc,
+                "override O",
+                handle.index(),
+                override_error_name(source),
+            )
+        }
+        ValidationError::Corrupted => String::from_str(alloc, "refused module Corrupted\n"),
         ValidationError::OutOfMemory => String::from_str(alloc, "refused memory\n"),
     }
 }
@@ -175,10 +249,9 @@ fn validate(
     validator: &mut Validator,
     contents: &Contents,
 ) -> Result<ModuleInfo, WithSpan<ValidationError>>
-    requires { HasNoValues contents.now.«module» }
     ensures { UnlessOutOfMemory (λ e. inner_of e ≡ error.OutOfMemory) result
-        (λ info. Accepts contents.now.«module» (settings_of validator.old contents.now.resolved) validator.new.facts info.lists)
-        (λ e. Refuses contents.now.«module» (settings_of validator.old contents.now.resolved) (inner_of e)) }
+        (λ info. Accepts plain_resolves contents.now.«module» (settings_of validator.old contents.now.resolved) validator.new.infos info.lists)
+        (λ e. Refuses plain_resolves contents.now.«module» (settings_of validator.old contents.now.resolved) (inner_of e)) }
 {
     if contents.resolved {
         validator.validate_resolved_overrides(&contents.module)
@@ -189,7 +262,6 @@ fn validate(
 
 /// The report on the module of a readable text.
 fn report_contents(alloc: Global, contents: &Contents) -> Result<Report, AllocError>
-    requires { HasNoValues contents.now.«module» }
     ensures { IfOk result (λ report. IsReportOn contents.now (string_bytes report.text) report.outcome) }
 {
     let mut validator = Validator::new(alloc, contents.flags, contents.capabilities);

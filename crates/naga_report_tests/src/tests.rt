@@ -4,9 +4,11 @@ use std::fmt::{Debug, Display};
 use std::process::Abort;
 
 mod large;
+mod laws;
 mod refused_memory;
 mod run;
 mod valid;
+mod values;
 
 /// Makes sure that a value is as wanted. Each `assert_eq!` is proved at its own place, with its message;
 /// this is proved once.

@@ -59,6 +59,14 @@ fn is_refused_in_accepted_run(rt: &(impl AllocGlobal + Abort)) -> bool {
     is_refused_in_run(rt, text, Outcome::Accepted, report)
 }
 
+/// Runs on a text with values.
+fn is_refused_in_run_on_values(rt: &(impl AllocGlobal + Abort)) -> bool {
+    let text =
+        "type scalar uint 4\nexpr zero 0\nexpr splat 2 0\nconst 0 0\noverride 0 0 7\ntype array 0 o0 4";
+    let report = "T0 ff 4 4\nT1 57 ArrayStride 4\nok\n";
+    is_refused_in_run(rt, text, Outcome::Accepted, report)
+}
+
 /// Runs on a text whose module is refused.
 fn is_refused_in_refused_run(rt: &(impl AllocGlobal + Abort)) -> bool {
     let report = "refused type T0 WidthError\n";
@@ -140,12 +148,14 @@ fn is_of_memory(rt: &impl Abort, error: &WithSpan<ValidationError>) -> bool {
             assert_eq!(rt; error.span(), Some(Span::new(1, 2)));
             false
         }
-        ValidationError::InvalidHandle(_) => {
-            assert!(rt; false, "no type names another");
-            false
-        }
-        ValidationError::Layouter(_) => {
-            assert!(rt; false, "each width is a power of two");
+        ValidationError::InvalidHandle(_)
+        | ValidationError::Layouter(_)
+        | ValidationError::ConstExpression { .. }
+        | ValidationError::ArraySizeError { .. }
+        | ValidationError::Constant { .. }
+        | ValidationError::Override { .. }
+        | ValidationError::Corrupted => {
+            assert!(rt; false, "only a type is refused");
             false
         }
     }
@@ -153,9 +163,6 @@ fn is_of_memory(rt: &impl Abort, error: &WithSpan<ValidationError>) -> bool {
 
 /// Validates a filled module, and returns whether memory was refused.
 fn is_refused_in_call(rt: &impl Abort, validator: &mut Validator, module: &Module) -> bool {
-    assert!(rt; module.constants.is_empty());
-    assert!(rt; module.overrides.is_empty());
-    assert!(rt; module.global_expressions.is_empty());
     let result = validator.validate(module);
     assert_eq!(rt; validator.type_count(), 0);
     let error = result.expect_err(rt, "a Boolean has one byte");
@@ -196,9 +203,9 @@ fn is_refused_in_lists(rt: &(impl AllocGlobal + Abort)) -> bool {
         refused = true;
         assert!(rt; info.push_type(TypeFlags::DATA).is_ok());
     }
-    if info.reserve(100).is_err() {
+    if info.reserve(100, 100).is_err() {
         refused = true;
-        assert!(rt; info.reserve(100).is_ok());
+        assert!(rt; info.reserve(100, 100).is_ok());
     }
     if TypeInfos::with_room(rt.alloc(), 3).is_err() {
         refused = true;
@@ -211,13 +218,14 @@ fn is_refused_in_lists(rt: &(impl AllocGlobal + Abort)) -> bool {
 fn is_refused(rt: &(impl AllocGlobal + Abort)) -> bool {
     let scenarios = [
         is_refused_in_accepted_run(rt),
+        is_refused_in_run_on_values(rt),
         is_refused_in_refused_run(rt),
         is_refused_in_unreadable_run(rt),
         is_refused_in_arenas(rt),
         is_refused_in_validation(rt),
         is_refused_in_lists(rt),
     ];
-    scenarios != [false; 6]
+    scenarios != [false; 7]
 }
 
 #[test]

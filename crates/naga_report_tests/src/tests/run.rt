@@ -73,7 +73,7 @@ fn run_counted<R: Read + Drop, W: Write + Drop>(
 
 /// Makes sure that the run on each text writes this report, has this exit status, and has no failure. A
 /// row is a text, its report and the status.
-fn assert_reported(rt: &impl Abort, alloc: Global, rows: &[(&str, &str, u8)]) {
+pub(super) fn assert_reported(rt: &impl Abort, alloc: Global, rows: &[(&str, &str, u8)]) {
     for (text, want, code) in rows {
         let (ended, failed, output) = run_counted(alloc, text.as_bytes(), Vec::new(alloc));
         assert!(rt; failed == (0, 0), "{text:?}");

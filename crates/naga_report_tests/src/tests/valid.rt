@@ -1,6 +1,5 @@
 //! Modules read from texts, or built by hand, and how they are validated.
 
-ghost use Rattle.naga_valid.specs.Accepted.{HasNoValues};
 ghost use Rattle.std.specs.Prelude.{◌≡◌};
 
 use super::{assert_same, assert_same_for, assert_shown};
@@ -18,7 +17,7 @@ use std::test::Fail;
 
 /// Returns what `check` makes of the module that a text describes. No other function here owns a module,
 /// since each exit of a function drops what it owns, and the proof goes through each.
-fn with_text<R, F: FnOnce(&mut Module) -> R>(
+pub(crate) fn with_text<R, F: FnOnce(&mut Module) -> R>(
     rt: &impl Abort,
     alloc: Global,
     text: &str,
@@ -31,7 +30,7 @@ fn with_text<R, F: FnOnce(&mut Module) -> R>(
 }
 
 /// A validator of whole modules.
-fn validator_under(alloc: Global, capabilities: Capabilities) -> Validator {
+pub(crate) fn validator_under(alloc: Global, capabilities: Capabilities) -> Validator {
     Validator::new(alloc, ValidationFlags::default(), capabilities)
 }
 
@@ -48,15 +47,6 @@ fn add_float(
         ..Scalar::F32
     });
     module.types.insert(Type { name: None, inner }, span)
-}
-
-/// Makes sure that a module is of the kind that is validated so far.
-fn assert_valueless(rt: &impl Abort, module: &Module)
-    ensures { HasNoValues «module».now }
-{
-    assert!(rt; module.constants.is_empty());
-    assert!(rt; module.overrides.is_empty());
-    assert!(rt; module.global_expressions.is_empty());
 }
 
 /// The refusal of a type without a name whose width needs `SHADER_FLOAT16`.
@@ -85,7 +75,6 @@ fn refusal_of(
     alloc: Global,
     module: &Module,
 ) -> Result<WithSpan<ValidationError>, Fail> {
-    assert_valueless(rt, module);
     let mut validator = validator_under(alloc, Capabilities::default());
     let error = validator.validate(module).err();
     let resolved = validator.validate_resolved_overrides(module).err();
@@ -111,7 +100,6 @@ fn an_empty_module_is_accepted(rt: HostRuntime) -> Result<(), Fail> {
 
 /// Makes sure that an empty module is accepted, and that nothing is known of it.
 fn is_accepted_empty(rt: &impl Abort, alloc: Global, module: &Module) -> Result<(), Fail> {
-    assert_valueless(rt, module);
     let mut validator = validator_under(alloc, Capabilities::default());
     assert_same(rt, &validator.type_count(), &0);
     let info = validator.validate(module)?;
@@ -119,7 +107,11 @@ fn is_accepted_empty(rt: &impl Abort, alloc: Global, module: &Module) -> Result<
     assert_same(rt, &validator.type_count(), &0);
     for info in [info, resolved] {
         let text = format!(in alloc; "{info:?}")?;
-        assert_same(rt, &text.as_str(), &"ModuleInfo { type_flags: [] }");
+        assert_same(
+            rt,
+            &text.as_str(),
+            &"ModuleInfo { type_flags: [], functions: [], entry_points: List { items: [] }, const_expression_types: [] }",
+        );
     }
     Ok(())
 }
@@ -160,7 +152,6 @@ fn are_accepted_as_f32(rt: &impl Abort, alloc: Global, module: &Module) -> Resul
         | TypeFlags::ARGUMENT
         | TypeFlags::CONSTRUCTIBLE;
     let number_flags = matrix_flags | TypeFlags::IO_SHAREABLE;
-    assert_valueless(rt, module);
     let mut validator = validator_under(alloc, Capabilities::default());
     let info = validator.validate(module)?;
     assert_same(rt, &validator.type_count(), &3);
@@ -210,7 +201,6 @@ fn a_capability_permits_the_types_that_need_it(rt: HostRuntime) -> Result<(), Fa
 
 /// Makes sure that both calls accept a module of one type, if scalars may have two bytes.
 fn is_accepted_with_halves(rt: &impl Abort, alloc: Global, module: &Module) -> Result<(), Fail> {
-    assert_valueless(rt, module);
     let mut validator = validator_under(alloc, Capabilities::SHADER_FLOAT16);
     validator.validate(module)?;
     assert_same(rt, &validator.type_count(), &1);
@@ -342,10 +332,12 @@ fn a_comment_on_a_missing_member_is_refused(rt: HostRuntime) -> Result<(), Fail>
 
 #[test]
 fn each_result_is_of_its_own_module(rt: HostRuntime) -> Result<(), Fail> {
-    let good = "type scalar float 4";
+    // The number of the override is that of the module alone.
+    let good = "type scalar float 4\nexpr zero 0\noverride 0 0 7";
     for refused in [
         "type scalar float 4\ntype scalar float 3",
         "type scalar float 4\ntype scalar float 2",
+        "type scalar float 4\nexpr zero 0\noverride 0 0 7\noverride 0 0 7",
     ] {
         with_text(&rt, rt.alloc(), good, |good| {
             with_text(&rt, rt.alloc(), refused, |refused| {
@@ -363,8 +355,6 @@ fn are_validated_in_turn(
     good: &Module,
     refused: &Module,
 ) -> Result<(), Fail> {
-    assert_valueless(rt, good);
-    assert_valueless(rt, refused);
     let mut validator = validator_under(alloc, Capabilities::default());
     validator.validate(good)?;
     assert_same(rt, &validator.type_count(), &1);
@@ -393,8 +383,6 @@ fn settings_outlast_a_reset(
     half: &Module,
     double: &Module,
 ) -> Result<(), Fail> {
-    assert_valueless(rt, half);
-    assert_valueless(rt, double);
     let mut validator = validator_under(alloc, Capabilities::SHADER_FLOAT16);
     validator.validate(half)?;
     validator.reset();
@@ -488,7 +476,6 @@ fn set_both(validator: &mut Validator, stages: ShaderStages, operations: Subgrou
 /// Validates a module after settings were given, and resets the validator: the settings stay. Nothing
 /// shows them but the contract, so this is proved and not run.
 fn settings_outlast(validator: &mut Validator, module: &Module)
-    requires { HasNoValues «module».now }
     ensures stages { validator.new.subgroup_stages ≡ record { 0 = 8 } }
     ensures operations { validator.new.subgroup_operations ≡ record { 0 = 2 } }
     ensures capabilities { validator.new.capabilities ≡ validator.old.capabilities }

@@ -4,4 +4,4 @@ use Rattle.naga_report.proofs.report.accepted.Given as goal
 
 -- the lines so far, and those of the types that are left, are all
 abbrev pub invariant-loop-handle : goal.invariant-loop-handle
-invariant-loop-handle l = IsWritten (string_bytes l.text) l.validator.facts.infos l.handle-iterator
+invariant-loop-handle l = IsWritten (string_bytes l.text) l.validator.infos l.handle-iterator

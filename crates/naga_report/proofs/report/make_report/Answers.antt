@@ -1,9 +1,8 @@
-use Rattle.std.proofs.Common.{◌≡◌, ◌⊎◌, ℕ, ap, inl, inr, refl, subst}
+use Rattle.std.proofs.Common.{◌≡◌, ◌⊎◌, ℕ, inl, inr, refl, subst}
 use Rattle.std.proofs.lemmas.Result.{IfOk-weaker}
 use Rattle.naga_report.specs.Report.{readable, unreadable}
 use Rattle.naga_text.specs.Text.{IsFirstUnreadable, NamesLine}
 use Rattle.naga_text.specs.Words.{lines_of}
-use Rattle.naga_text.specs.declared.text.Contents.{Contents}
 use Rattle.naga_text.specs.declared.text.TextError.{TextError}
 use Rattle.naga_text.specs.declared.text.TextError.TheVariants.{Line, OutOfMemory}
 use Rattle.naga_report.proofs.report.make_report.Goals as goal
@@ -12,15 +11,6 @@ use Rattle.naga_report.proofs.report.make_report.Goals as goal
 named : (e : TextError) (n : ℕ) (P : ℕ → Type 0) → e ≡ Line n → (e ≡ OutOfMemory) ⊎ NamesLine e P → P n
 named e n P is (inl none) = cc
 named e n P is (inr names) = subst (λ e. NamesLine e P) is names
-
-pub report_contents-requires : goal.report_contents-requires
-report_contents-requires c =
-    let contents_are = c.in-Ok.ensures.text.contents_are in
-    record {
-      constants = ap (λ (contents : Contents). contents.«module».constants) contents_are;
-      overrides = ap (λ (contents : Contents). contents.«module».overrides) contents_are;
-      global_expressions = ap (λ (contents : Contents). contents.«module».global_expressions) contents_are;
-    }
 
 pub returns-in-Ok : goal.returns-in-Ok
 returns-in-Ok c = IfOk-weaker c.report_contents.result _ _ (λ a h. readable c.in-Ok.contents c.in-Ok.ensures.text h) c.report_contents.ensures
