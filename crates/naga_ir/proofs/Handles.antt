@@ -3,7 +3,7 @@ use Rattle.std.proofs.Common.{List, All, Contains, length, map, arith, ◌<◌}
 use Rattle.std.specs.List.{flat_map}
 use Rattle.std.proofs.lemmas.List.Elements.{All-contains}
 use Rattle.naga_arena.proofs.Elements.{all-left, all-right, all-unmap}
-use Rattle.naga_ir.specs.Handles.{Exists, ExistsGlobally, GlobalReferencesOk, GoBack, HandlesAccepted, OrderedOperands, among_globals, function_counts, in_function, module_counts}
+use Rattle.naga_ir.specs.Handles.{Exists, ExistsGlobally, FunctionReferencesOk, GlobalReferencesOk, HandlesAccepted, among_globals, function_counts, in_function, module_counts}
 use Rattle.naga_ir.specs.ItemReferences.{all_functions, expression_references, function_references, global_lists, local_references, signature_references}
 use Rattle.naga_ir.specs.declared.ir.Function.{Function}
 use Rattle.naga_ir.specs.declared.ir.FunctionArgument.{FunctionArgument}
@@ -30,13 +30,7 @@ global_references_ok m h = record {
   back = λ s t pair. h.back s t (among_globals s t pair);
 }
 
--- the types of a function's arguments exist, and so does what its expressions refer to, whose operands go back
-pub record FunctionReferencesOk (m : Module) (f : Function) : Type 0 where
-  pub arguments : All (λ (a : FunctionArgument). a.ty < length m.types) f.arguments
-  pub expressions : All (Exists (function_counts m f)) (flat_map expression_references f.expressions)
-  pub back : GoBack (OrderedOperands f.expressions)
-
--- and those of each of its functions
+-- and those of each of its functions and entry points
 pub function_references_ok : (m : Module) (f : Function) → Contains (all_functions m) f → HandlesAccepted m → FunctionReferencesOk m f
 function_references_ok m f among h =
     let In = Exists (function_counts m f) in

@@ -1,7 +1,8 @@
 -- Which handles of a module are right.
 use Rattle.std.specs.Prelude.{◌≡◌, ℕ, ◌<◌, ◌≤◌, List, Option, Some, None, All, Contains, length, slice_get, ⊤}
+use Rattle.std.specs.List.{flat_map}
 use Rattle.naga_arena.specs.Existence.{IsGoodRange}
-use Rattle.naga_ir.specs.ItemReferences.{GlobalLists, all_functions, filter_references, function_references, global_lists, global_references, other_references}
+use Rattle.naga_ir.specs.ItemReferences.{GlobalLists, all_functions, expression_references, filter_references, function_references, global_lists, global_references, other_references}
 use Rattle.naga_ir.specs.References.{named_type, operands}
 use Rattle.naga_ir_types.specs.Parts.{parts, size_override}
 use Rattle.naga_ir_types.specs.declared.types.«Type».{«Type»}
@@ -12,6 +13,7 @@ use Rattle.naga_ir.specs.declared.expression.Expression.TheVariants as expressio
 use Rattle.naga_ir.specs.declared.ir.Constant.{Constant}
 use Rattle.naga_ir.specs.declared.ir.Override.{Override}
 use Rattle.naga_ir.specs.declared.ir.Function.{Function}
+use Rattle.naga_ir.specs.declared.ir.FunctionArgument.{FunctionArgument}
 use Rattle.naga_ir.specs.declared.ir.DiagnosticFilterNode.{DiagnosticFilterNode}
 use Rattle.naga_ir.specs.declared.ir.Module.{Module}
 use Rattle.naga_ir.specs.declared.reference.Reference.{Reference}
@@ -155,3 +157,9 @@ ExistsGlobally g (to.Emit range) = ⊤
 pub record GlobalReferencesOk (g : GlobalLists) : Type 0 where
   pub exist : All (ExistsGlobally g) (global_references g)
   pub back : GoBack (OrderedReference g)
+
+-- the types of a function's arguments exist, and so does what its expressions refer to, whose operands go back
+pub record FunctionReferencesOk (m : Module) (f : Function) : Type 0 where
+  pub arguments : All (λ (a : FunctionArgument). a.ty < length m.types) f.arguments
+  pub expressions : All (Exists (function_counts m f)) (flat_map expression_references f.expressions)
+  pub back : GoBack (OrderedOperands f.expressions)

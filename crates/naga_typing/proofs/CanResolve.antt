@@ -4,8 +4,7 @@ use Rattle.std.specs.List.{flat_map}
 use Rattle.std.proofs.lemmas.List.Elements.{All-append, All-contains, All-cons, All-nil}
 use Rattle.naga_arena.proofs.Elements.{all-left, all-of, all-right, all-unmap}
 use Rattle.naga_ir.proofs.ReferredTo.{item_in, within_all}
-use Rattle.naga_ir.proofs.Handles.{FunctionReferencesOk}
-use Rattle.naga_ir.specs.Handles.{Exists, HandlesAccepted, among_globals, module_counts, operand, own_operand}
+use Rattle.naga_ir.specs.Handles.{Exists, FunctionReferencesOk, HandlesAccepted, among_globals, module_counts, operand, own_operand}
 use Rattle.naga_ir.specs.ItemReferences.{constant_references, expression_references, named_references, override_references, type_references}
 use Rattle.naga_ir.specs.References.{named_item, named_type, operands}
 use Rattle.naga_ir.specs.declared.expression.Expression.{Expression}

@@ -1,0 +1,5 @@
+//! The rules of expressions of functions that take parts of values, or read memory.
+#![tactic(auto)]
+
+pub mod access;
+pub mod memory;

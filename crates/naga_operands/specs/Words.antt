@@ -1,0 +1,70 @@
+-- What the rules of several forms ask of operands.
+use Rattle.std.specs.Prelude.{◌||◌, Bool as Truth, true, false, Option, Some, None}
+use Rattle.naga_ir_types.specs.contracts.types.TypeInnerPartialEq.TheImpl as of_inner
+use Rattle.naga_ir_types.specs.declared.types.Scalar.{Scalar as ScalarType}
+use Rattle.naga_ir_types.specs.declared.types.ScalarKind.{ScalarKind}
+use Rattle.naga_ir_types.specs.declared.types.ScalarKind.TheVariants.{Sint, Uint, Float, Bool, AbstractInt, AbstractFloat}
+use Rattle.naga_ir_types.specs.declared.types.TypeInner.{TypeInner}
+use Rattle.naga_ir_types.specs.declared.types.TypeInner.TheVariants.{Scalar, Vector, Matrix, CooperativeMatrix, Atomic, Pointer, ValuePointer, Array, Struct, Image, Sampler, AccelerationStructure, RayQuery, BindingArray}
+use Rattle.naga_ir_types.specs.declared.types.VectorSize.{VectorSize}
+use Rattle.naga_types.specs.TypeRule.{is_float, is_integer}
+
+-- the scalar of a scalar or a vector, beside the number of components of a vector; other forms have none
+abbrev pub vector_size_and_scalar : TypeInner → Option (Option VectorSize × ScalarType)
+vector_size_and_scalar (Scalar scalar) = Some (None, scalar)
+vector_size_and_scalar (Vector size scalar) = Some (Some size, scalar)
+vector_size_and_scalar (Matrix columns rows scalar) = None
+vector_size_and_scalar (CooperativeMatrix columns rows scalar role) = None
+vector_size_and_scalar (Atomic scalar) = None
+vector_size_and_scalar (Pointer base space) = None
+vector_size_and_scalar (ValuePointer size scalar space) = None
+vector_size_and_scalar (Array base size stride) = None
+vector_size_and_scalar (Struct members span) = None
+vector_size_and_scalar (Image dim arrayed class) = None
+vector_size_and_scalar (Sampler comparison) = None
+vector_size_and_scalar (AccelerationStructure vertex_return) = None
+vector_size_and_scalar (RayQuery vertex_return) = None
+vector_size_and_scalar (BindingArray base size) = None
+
+-- there is a scalar, and it is so
+abbrev pub has_scalar : (ScalarType → Truth) → Option (Option VectorSize × ScalarType) → Truth
+has_scalar is (Some found) = is found.1
+has_scalar is None = false
+
+-- a form is a scalar that is so, or a vector of such
+abbrev pub consists_of : (ScalarType → Truth) → TypeInner → Truth
+consists_of is inner = has_scalar is (vector_size_and_scalar inner)
+
+-- a form is a scalar that is so
+abbrev pub is_scalar_that : (ScalarType → Truth) → TypeInner → Truth
+is_scalar_that is (Scalar scalar) = is scalar
+is_scalar_that is (Vector size scalar) = false
+is_scalar_that is (Matrix columns rows scalar) = false
+is_scalar_that is (CooperativeMatrix columns rows scalar role) = false
+is_scalar_that is (Atomic scalar) = false
+is_scalar_that is (Pointer base space) = false
+is_scalar_that is (ValuePointer size scalar space) = false
+is_scalar_that is (Array base size stride) = false
+is_scalar_that is (Struct members span) = false
+is_scalar_that is (Image dim arrayed class) = false
+is_scalar_that is (Sampler comparison) = false
+is_scalar_that is (AccelerationStructure vertex_return) = false
+is_scalar_that is (RayQuery vertex_return) = false
+is_scalar_that is (BindingArray base size) = false
+
+-- a kind is that of truth values
+abbrev pub is_bool : ScalarKind → Truth
+is_bool Bool = true
+is_bool Sint = false
+is_bool Uint = false
+is_bool Float = false
+is_bool AbstractInt = false
+is_bool AbstractFloat = false
+
+-- a kind is one of numbers with a width of their own
+abbrev pub is_number : ScalarKind → Truth
+is_number kind = is_integer kind || is_float kind
+
+-- two forms are equal
+abbrev pub are_equal : TypeInner → TypeInner → Truth
+are_equal x y = of_inner.ghosts.eq x y

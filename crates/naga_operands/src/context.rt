@@ -1,0 +1,87 @@
+//! What an expression of a function is judged by.
+
+ghost use Rattle.std.specs.Prelude.{◌≡◌, ◌<◌, length};
+ghost use Rattle.naga_ir.specs.ItemReferences.{global_lists};
+ghost use Rattle.naga_operands.specs.Stages as stages;
+ghost use Rattle.naga_operands.specs.Surroundings.{AreSound, flags_at, form_at, surroundings};
+ghost use Rattle.naga_operands.specs.Words as words;
+ghost use Rattle.naga_typing.specs.Context.{ReferencesExist};
+
+use bitflags::Flags;
+use naga_flags::flags::{Capabilities, ShaderStages, TypeFlags};
+use naga_infos::module_info::{FunctionInfo, ModuleInfo};
+use naga_ir::handle::Handle;
+use naga_ir::ir::{Function, Module};
+use naga_ir::tags::{ExpressionTag, TypeTag};
+use naga_ir::types::{Scalar, TypeInner, VectorSize};
+use naga_typing::expression_kind::ExpressionKindTracker;
+
+/// What an expression of a function is judged by, beside its form and the typing.
+#[derive(Clone, Copy)]
+pub struct FunctionContext<'a> {
+    /// What shaders may use.
+    pub capabilities: Capabilities,
+    /// Whether overrides must have their values.
+    pub overrides_resolved: bool,
+    /// The pipeline stages that may use subgroup operations.
+    pub subgroup_stages: ShaderStages,
+    pub module: &'a Module,
+    pub function: &'a Function,
+    /// What is known of the function: the types of its expressions, at least of the operands.
+    pub info: &'a FunctionInfo,
+    /// What is known of the module.
+    pub mod_info: &'a ModuleInfo,
+    /// When the values of the function's expressions are known, at least those of the operands.
+    pub kinds: &'a ExpressionKindTracker,
+}
+
+impl<'a> FunctionContext<'a> {
+    /// The form of the type of an operand: naga's `ExpressionTypeResolver`.
+    pub fn type_of(self, operand: Handle<ExpressionTag>) -> &'a TypeInner
+        requires sound { AreSound (surroundings self) }
+        requires known { operand < length self.info.now.types }
+        ensures form { result.now ≡ form_at (surroundings self.entry) operand }
+        ensures exist { ReferencesExist (global_lists self.entry.«module».now) result.now }
+    {
+        self.info.types.as_slice()[operand.index()].inner_with(&self.module.types)
+    }
+
+    /// What a type of the module may be used for.
+    pub fn type_flags(self, ty: Handle<TypeTag>) -> TypeFlags
+        requires sound { AreSound (surroundings self) }
+        requires exists { ty < length self.«module».now.types }
+        ensures { result.0 ≡ flags_at (surroundings self.entry) ty }
+    {
+        self.mod_info[ty]
+    }
+}
+
+/// The scalar of a scalar or a vector, beside the number of components of a vector: naga's
+/// `TypeInner::vector_size_and_scalar`. Other types have none.
+pub fn vector_size_and_scalar(inner: &TypeInner) -> Option<(Option<VectorSize>, Scalar)>
+    ensures { result ≡ words.vector_size_and_scalar inner.now }
+{
+    match *inner {
+        TypeInner::Scalar(scalar) => Some((None, scalar)),
+        TypeInner::Vector { size, scalar } => Some((Some(size), scalar)),
+        TypeInner::Matrix { .. }
+        | TypeInner::CooperativeMatrix { .. }
+        | TypeInner::Atomic(_)
+        | TypeInner::Pointer { .. }
+        | TypeInner::ValuePointer { .. }
+        | TypeInner::Array { .. }
+        | TypeInner::Struct { .. }
+        | TypeInner::Image { .. }
+        | TypeInner::Sampler { .. }
+        | TypeInner::AccelerationStructure { .. }
+        | TypeInner::RayQuery { .. }
+        | TypeInner::BindingArray { .. } => None,
+    }
+}
+
+/// All pipeline stages.
+pub fn every_stage() -> ShaderStages
+    ensures { result ≡ stages.every_stage }
+{
+    ShaderStages::all()
+}

@@ -1,0 +1,62 @@
+-- The whole numbers in a constant expression.
+use Rattle.std.specs.Prelude.{◌≡◌, ◌≤◌, ℕ, ℤ, pos, true, Option, Some, None, Contains, List, slice_get}
+use Rattle.naga_ir.specs.ItemReferences.{global_lists}
+use Rattle.naga_ir.specs.declared.expression.Expression.{Expression}
+use Rattle.naga_ir.specs.declared.expression.Expression.TheVariants as form
+use Rattle.naga_ir.specs.declared.expression.Literal.{Literal}
+use Rattle.naga_ir.specs.declared.expression.Literal.TheVariants as literal
+use Rattle.naga_ir.specs.declared.ir.Constant.{Constant}
+use Rattle.naga_ir_types.specs.declared.types.TypeInner.{TypeInner}
+use Rattle.naga_ir_types.specs.declared.types.VectorSize.{VectorSize}
+use Rattle.naga_operands.specs.Surroundings.{ExpressionSurroundings}
+use Rattle.naga_operands.specs.Words.{consists_of}
+use Rattle.naga_operator_exprs.specs.declared.integers.Forbidden.{Forbidden}
+use Rattle.naga_operator_exprs.specs.declared.integers.Forbidden.TheVariants.{AtLeast, Zero}
+use Rattle.naga_operator_exprs.specs.declared.integers.Place.{Place}
+use Rattle.naga_operator_exprs.specs.declared.integers.Place.TheVariants as place
+use Rattle.naga_types.specs.TypeRule.{is_integer}
+use Rattle.naga_typing.specs.Resolutions.{inner_in}
+use Rattle.naga_typing.specs.declared.typifier.TypeResolution.TheVariants.{Handle}
+
+-- the expression at a place
+abbrev pub expression_at : ExpressionSurroundings → Place → Option Expression
+expression_at s (place.InFunction e) = slice_get s.function.expressions e
+expression_at s (place.InModule e) = slice_get s.«module».global_expressions e
+
+-- the place of an operand of the expression at a place
+abbrev pub beside : Place → ℕ → Place
+beside (place.InFunction e) o = place.InFunction o
+beside (place.InModule e) o = place.InModule o
+
+-- the value of a literal, if it is an integer with a width of its own
+abbrev pub integer_of : Literal → Option ℤ
+integer_of (literal.U16 n) = Some (pos n)
+integer_of (literal.U32 n) = Some (pos n)
+integer_of (literal.U64 n) = Some (pos n)
+integer_of (literal.I16 n) = Some n
+integer_of (literal.I32 n) = Some n
+integer_of (literal.I64 n) = Some n
+integer_of (literal.F64 bits) = None
+integer_of (literal.F32 bits) = None
+integer_of (literal.F16 bits) = None
+integer_of (literal.Bool value) = None
+integer_of (literal.AbstractInt n) = None
+integer_of (literal.AbstractFloat bits) = None
+
+-- a number is in the expression at a place: it is the literal, or the zero of an integer type or of a vector of such; or it is in what is splatted, in a component, or in the initialiser of the constant
+pub data HasInteger (s : ExpressionSurroundings) : Place → ℤ → Type 0 where
+  literal_value : (p : Place) (value : Literal) (n : ℤ) → expression_at s p ≡ Some (form.Literal value) → integer_of value ≡ Some n → HasInteger s p n
+  zero_value : (p : Place) (ty : ℕ) (inner : TypeInner) → expression_at s p ≡ Some (form.ZeroValue ty) → inner_in s.«module».types (Handle ty) ≡ Some inner
+      → consists_of (λ scalar. is_integer scalar.kind) inner ≡ true → HasInteger s p (pos 0)
+  splatted : (p : Place) (size : VectorSize) (value : ℕ) (n : ℤ) → expression_at s p ≡ Some (form.Splat size value) → HasInteger s (beside p value) n → HasInteger s p n
+  component : (p : Place) (ty : ℕ) (components : List ℕ) (c : ℕ) (n : ℤ) → expression_at s p ≡ Some (form.Compose ty components) → Contains components c → HasInteger s (beside p c) n → HasInteger s p n
+  initialiser : (p : Place) (c : ℕ) (d : Constant) (n : ℤ) → expression_at s p ≡ Some (form.Constant c) → slice_get s.«module».constants c ≡ Some d → HasInteger s (place.InModule d.init) n → HasInteger s p n
+
+-- a number is forbidden
+abbrev pub Forbids : Forbidden → ℤ → Type 0
+Forbids (AtLeast bound) n = (k : ℕ) × (n ≡ pos k) × (bound ≤ k)
+Forbids Zero n = n ≡ pos 0
+
+-- a forbidden number is in the expression at a place
+abbrev pub HasForbidden : ExpressionSurroundings → Forbidden → Place → Type 0
+HasForbidden s forbidden p = (n : ℤ) × HasInteger s p n × Forbids forbidden n

@@ -1,0 +1,226 @@
+//! The rules of operators on one value, of selections, derivatives, queries and conversions.
+
+ghost use Rattle.std.specs.Prelude.{◌≡◌, ◌<◌, length};
+ghost use Rattle.naga_operands.specs.Results.{IsReturned};
+ghost use Rattle.naga_operands.specs.Surroundings.{AreSound, surroundings};
+ghost use Rattle.naga_operator_exprs.specs.Operators as rule;
+ghost use Rattle.naga_types.specs.Judging.{granted};
+
+use naga_flags::flags::ShaderStages;
+use naga_flags::width::check_width;
+use naga_ir::expression::{RelationalFunction, UnaryOperator};
+use naga_ir::handle::Handle;
+use naga_ir::tags::ExpressionTag;
+use naga_ir::types::{Scalar, ScalarKind, TypeInner, VectorSize};
+use naga_operands::context::{FunctionContext, every_stage, vector_size_and_scalar};
+use naga_operands::error::ExpressionError;
+
+/// Whether an operator on one value takes values of a kind.
+fn takes(op: UnaryOperator, kind: ScalarKind) -> bool
+    ensures { result ≡ rule.takes op kind }
+{
+    match op {
+        UnaryOperator::Negate => matches!(kind, ScalarKind::Float | ScalarKind::Sint),
+        UnaryOperator::LogicalNot => matches!(kind, ScalarKind::Bool),
+        UnaryOperator::BitwiseNot => matches!(kind, ScalarKind::Sint | ScalarKind::Uint),
+    }
+}
+
+/// The stages that may use an operator on one value.
+///
+/// # Errors
+///
+/// `InvalidUnaryOperandType` if the operator doesn't take such a value.
+pub fn validate_unary(
+    context: FunctionContext<'_>,
+    op: UnaryOperator,
+    expr: Handle<ExpressionTag>,
+) -> Result<ShaderStages, ExpressionError>
+    requires sound { AreSound (surroundings context) }
+    requires expr { expr < length context.info.now.types }
+    ensures { result ≡ rule.unary_rule (surroundings context.entry) op expr }
+{
+    match vector_size_and_scalar(context.type_of(expr)) {
+        Some((_, scalar)) if takes(op, scalar.kind) => Ok(every_stage()),
+        Some(_) | None => Err(ExpressionError::InvalidUnaryOperandType(op, expr)),
+    }
+}
+
+/// Whether truth values of this size choose between values of that size.
+fn chooses_size(condition: Option<VectorSize>, value: Option<VectorSize>) -> bool
+    ensures { result ≡ rule.chooses_size condition value }
+{
+    match (condition, value) {
+        (None, _) => true,
+        (Some(condition), Some(value)) => condition == value,
+        (Some(_), None) => false,
+    }
+}
+
+/// Whether a condition of one form chooses between values of another.
+fn chooses(
+    condition: Option<(Option<VectorSize>, Scalar)>,
+    value: Option<(Option<VectorSize>, Scalar)>,
+) -> bool
+    ensures { result ≡ rule.chooses condition value }
+{
+    match (condition, value) {
+        (Some((condition_size, scalar)), Some((value_size, _))) => {
+            scalar.kind == ScalarKind::Bool && chooses_size(condition_size, value_size)
+        }
+        (Some(_), None) | (None, _) => false,
+    }
+}
+
+/// The stages that may use a selection (WGSL "select").
+///
+/// # Errors
+///
+/// - `SelectValuesTypeMismatch` if the two values have different types.
+/// - `SelectConditionNotABool` if the condition is no truth value, or no vector of as many truth values
+///   as the values have components.
+/// - `OutOfMemory` if memory was refused for a struct in one of these.
+pub fn validate_select(
+    context: FunctionContext<'_>,
+    condition: Handle<ExpressionTag>,
+    accept: Handle<ExpressionTag>,
+    reject: Handle<ExpressionTag>,
+) -> Result<ShaderStages, ExpressionError>
+    requires sound { AreSound (surroundings context) }
+    requires condition { condition < length context.info.now.types }
+    requires accept { accept < length context.info.now.types }
+    requires reject { reject < length context.info.now.types }
+    ensures { IsReturned (rule.select_rule (surroundings context.entry) condition accept reject) result }
+{
+    let condition_type = context.type_of(condition);
+    let accept_type = context.type_of(accept);
+    let reject_type = context.type_of(reject);
+    if accept_type != reject_type {
+        return Err(ExpressionError::SelectValuesTypeMismatch {
+            accept: accept_type.try_clone()?,
+            reject: reject_type.try_clone()?,
+        });
+    }
+    let shape = vector_size_and_scalar(condition_type);
+    if !chooses(shape, vector_size_and_scalar(accept_type)) {
+        return Err(ExpressionError::SelectConditionNotABool {
+            actual: condition_type.try_clone()?,
+        });
+    }
+    Ok(every_stage())
+}
+
+/// The stages that may use a derivative (WGSL "Derivative Built-in Functions"): those of fragments.
+///
+/// # Errors
+///
+/// `InvalidDerivative` if the operand is no floating-point number of at least 32 bits, nor a vector of
+/// such.
+pub fn validate_derivative(
+    context: FunctionContext<'_>,
+    expr: Handle<ExpressionTag>,
+) -> Result<ShaderStages, ExpressionError>
+    requires sound { AreSound (surroundings context) }
+    requires expr { expr < length context.info.now.types }
+    ensures { result ≡ rule.derivative_rule (surroundings context.entry) expr }
+{
+    let Some((_, scalar)) = vector_size_and_scalar(context.type_of(expr)) else {
+        return Err(ExpressionError::InvalidDerivative);
+    };
+    if scalar.kind != ScalarKind::Float || scalar.width < 4 {
+        return Err(ExpressionError::InvalidDerivative);
+    }
+    Ok(ShaderStages::FRAGMENT)
+}
+
+/// Checks the argument of a query, which has this type.
+fn check_argument(
+    fun: RelationalFunction,
+    argument: Handle<ExpressionTag>,
+    inner: &TypeInner,
+) -> Result<(), ExpressionError>
+    ensures { result ≡ granted (rule.bad_argument fun argument inner.now) tt }
+{
+    let shape = vector_size_and_scalar(inner);
+    match fun {
+        RelationalFunction::All | RelationalFunction::Any => match shape {
+            Some((Some(_), scalar)) if scalar.kind == ScalarKind::Bool => Ok(()),
+            Some(_) | None => Err(ExpressionError::InvalidBooleanVector(argument)),
+        },
+        RelationalFunction::IsNan | RelationalFunction::IsInf => match shape {
+            Some((_, scalar)) if scalar.kind == ScalarKind::Float => Ok(()),
+            Some(_) | None => Err(ExpressionError::InvalidFloatArgument(argument)),
+        },
+    }
+}
+
+/// The stages that may use a query of a value.
+///
+/// # Errors
+///
+/// - `InvalidBooleanVector` if the argument of `All` or `Any` is no vector of truth values.
+/// - `InvalidFloatArgument` if that of `IsNan` or `IsInf` is no floating-point number, nor a vector of
+///   such.
+pub fn validate_relational(
+    context: FunctionContext<'_>,
+    fun: RelationalFunction,
+    argument: Handle<ExpressionTag>,
+) -> Result<ShaderStages, ExpressionError>
+    requires sound { AreSound (surroundings context) }
+    requires argument { argument < length context.info.now.types }
+    ensures { result ≡ rule.relational_rule (surroundings context.entry) fun argument }
+{
+    check_argument(fun, argument, context.type_of(argument))?;
+    Ok(every_stage())
+}
+
+/// The scalar that a conversion converts.
+fn cast_scalar(inner: &TypeInner) -> Option<Scalar>
+    ensures { result ≡ rule.cast_scalar inner.now }
+{
+    match inner {
+        TypeInner::Scalar(scalar)
+        | TypeInner::Vector { scalar, .. }
+        | TypeInner::Matrix { scalar, .. } => Some(*scalar),
+        TypeInner::CooperativeMatrix { .. }
+        | TypeInner::Atomic(_)
+        | TypeInner::Pointer { .. }
+        | TypeInner::ValuePointer { .. }
+        | TypeInner::Array { .. }
+        | TypeInner::Struct { .. }
+        | TypeInner::Image { .. }
+        | TypeInner::Sampler { .. }
+        | TypeInner::AccelerationStructure { .. }
+        | TypeInner::RayQuery { .. }
+        | TypeInner::BindingArray { .. } => None,
+    }
+}
+
+/// The stages that may use a conversion of scalars, vectors or matrices to another scalar: to this kind,
+/// and to this width in bytes or else the same.
+///
+/// # Errors
+///
+/// `InvalidCastArgument` if the operand is of another form, or the width of the new scalar is refused.
+pub fn validate_as(
+    context: FunctionContext<'_>,
+    expr: Handle<ExpressionTag>,
+    kind: ScalarKind,
+    convert: Option<u8>,
+) -> Result<ShaderStages, ExpressionError>
+    requires sound { AreSound (surroundings context) }
+    requires expr { expr < length context.info.now.types }
+    ensures { result ≡ rule.as_rule (surroundings context.entry) expr kind convert }
+{
+    let Some(scalar) = cast_scalar(context.type_of(expr)) else {
+        return Err(ExpressionError::InvalidCastArgument);
+    };
+    let target = Scalar {
+        kind,
+        width: convert.unwrap_or(scalar.width),
+    };
+    match check_width(context.capabilities, target) {
+        Ok(_) => Ok(every_stage()),
+        Err(_) => Err(ExpressionError::InvalidCastArgument),
+    }
+}

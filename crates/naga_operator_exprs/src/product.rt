@@ -1,0 +1,153 @@
+//! Which types multiply.
+
+ghost use Rattle.std.specs.Prelude.{◌≡◌, ◌||◌};
+ghost use Rattle.naga_ir_types.specs.declared.types.TypeInner.TheVariants as form;
+ghost use Rattle.naga_operator_exprs.specs.Product as rule;
+ghost use Rattle.naga_operands.specs.Words.{is_number};
+
+use naga_ir::types::{CooperativeRole, CooperativeSize, Scalar, ScalarKind, TypeInner, VectorSize};
+
+/// Whether scalars of a kind are numbers with a width of their own.
+pub(crate) fn is_number(kind: ScalarKind) -> bool
+    ensures { result ≡ is_number kind }
+{
+    match kind {
+        ScalarKind::Sint | ScalarKind::Uint | ScalarKind::Float => true,
+        ScalarKind::Bool | ScalarKind::AbstractInt | ScalarKind::AbstractFloat => false,
+    }
+}
+
+/// Whether a scalar on the left and a form on the right multiply, widths aside.
+fn scalar_times(scalar: Scalar, right: &TypeInner) -> bool
+    ensures { result ≡ rule.forms_multiply (form.Scalar scalar) right.now }
+{
+    match right {
+        TypeInner::Scalar(other)
+        | TypeInner::Vector { scalar: other, .. }
+        | TypeInner::CooperativeMatrix { scalar: other, .. } => scalar == *other,
+        TypeInner::Matrix { .. } => scalar.kind == ScalarKind::Float,
+        TypeInner::Atomic(_)
+        | TypeInner::Pointer { .. }
+        | TypeInner::ValuePointer { .. }
+        | TypeInner::Array { .. }
+        | TypeInner::Struct { .. }
+        | TypeInner::Image { .. }
+        | TypeInner::Sampler { .. }
+        | TypeInner::AccelerationStructure { .. }
+        | TypeInner::RayQuery { .. }
+        | TypeInner::BindingArray { .. } => false,
+    }
+}
+
+/// Whether a vector on the left and a form on the right multiply, widths aside.
+fn vector_times(size: VectorSize, scalar: Scalar, right: &TypeInner) -> bool
+    ensures { result ≡ rule.forms_multiply (form.Vector size scalar) right.now }
+{
+    match right {
+        TypeInner::Scalar(other) => *other == scalar,
+        TypeInner::Vector {
+            size: other_size,
+            scalar: other,
+        } => size == *other_size && scalar == *other,
+        TypeInner::Matrix { rows, .. } => scalar.kind == ScalarKind::Float && size == *rows,
+        TypeInner::CooperativeMatrix { .. }
+        | TypeInner::Atomic(_)
+        | TypeInner::Pointer { .. }
+        | TypeInner::ValuePointer { .. }
+        | TypeInner::Array { .. }
+        | TypeInner::Struct { .. }
+        | TypeInner::Image { .. }
+        | TypeInner::Sampler { .. }
+        | TypeInner::AccelerationStructure { .. }
+        | TypeInner::RayQuery { .. }
+        | TypeInner::BindingArray { .. } => false,
+    }
+}
+
+/// Whether a matrix on the left and a form on the right multiply, widths aside.
+fn matrix_times(columns: VectorSize, rows: VectorSize, scalar: Scalar, right: &TypeInner) -> bool
+    ensures { result ≡ rule.forms_multiply (form.Matrix columns rows scalar) right.now }
+{
+    match right {
+        TypeInner::Scalar(other) => other.kind == ScalarKind::Float,
+        TypeInner::Vector {
+            size,
+            scalar: other,
+        } => other.kind == ScalarKind::Float && columns == *size,
+        TypeInner::Matrix { rows, .. } => columns == *rows,
+        TypeInner::CooperativeMatrix { .. }
+        | TypeInner::Atomic(_)
+        | TypeInner::Pointer { .. }
+        | TypeInner::ValuePointer { .. }
+        | TypeInner::Array { .. }
+        | TypeInner::Struct { .. }
+        | TypeInner::Image { .. }
+        | TypeInner::Sampler { .. }
+        | TypeInner::AccelerationStructure { .. }
+        | TypeInner::RayQuery { .. }
+        | TypeInner::BindingArray { .. } => false,
+    }
+}
+
+/// Whether a cooperative matrix on the left and a form on the right multiply, widths aside.
+fn cooperative_matrix_times(
+    columns: CooperativeSize,
+    rows: CooperativeSize,
+    scalar: Scalar,
+    role: CooperativeRole,
+    right: &TypeInner,
+) -> bool
+    ensures { result ≡ rule.forms_multiply (form.CooperativeMatrix columns rows scalar role) right.now }
+{
+    match right {
+        TypeInner::Scalar(other) => *other == scalar,
+        TypeInner::Vector { .. }
+        | TypeInner::Matrix { .. }
+        | TypeInner::CooperativeMatrix { .. }
+        | TypeInner::Atomic(_)
+        | TypeInner::Pointer { .. }
+        | TypeInner::ValuePointer { .. }
+        | TypeInner::Array { .. }
+        | TypeInner::Struct { .. }
+        | TypeInner::Image { .. }
+        | TypeInner::Sampler { .. }
+        | TypeInner::AccelerationStructure { .. }
+        | TypeInner::RayQuery { .. }
+        | TypeInner::BindingArray { .. } => false,
+    }
+}
+
+/// Whether values of two forms multiply, widths aside.
+fn forms_multiply(left: &TypeInner, right: &TypeInner) -> bool
+    ensures { result ≡ rule.forms_multiply left.now right.now }
+{
+    match left {
+        TypeInner::Scalar(scalar) => scalar_times(*scalar, right),
+        TypeInner::Vector { size, scalar } => vector_times(*size, *scalar, right),
+        TypeInner::Matrix { columns, rows, scalar } => matrix_times(*columns, *rows, *scalar, right),
+        TypeInner::CooperativeMatrix { columns, rows, scalar, role } => {
+            cooperative_matrix_times(*columns, *rows, *scalar, *role, right)
+        }
+        TypeInner::Atomic(_)
+        | TypeInner::Pointer { .. }
+        | TypeInner::ValuePointer { .. }
+        | TypeInner::Array { .. }
+        | TypeInner::Struct { .. }
+        | TypeInner::Image { .. }
+        | TypeInner::Sampler { .. }
+        | TypeInner::AccelerationStructure { .. }
+        | TypeInner::RayQuery { .. }
+        | TypeInner::BindingArray { .. } => false,
+    }
+}
+
+/// Whether values of two forms multiply (WGSL "Arithmetic Expressions"). The rule is that of naga's
+/// `Validator::validate_expression`, which lists the pairs.
+pub(crate) fn can_multiply(left: &TypeInner, right: &TypeInner) -> bool
+    ensures { result ≡ rule.can_multiply left.now right.now }
+{
+    let (Some(scalar), Some(other)) = (left.scalar(), right.scalar()) else {
+        return false;
+    };
+    is_number(scalar.kind) && scalar.width == other.width && forms_multiply(left, right)
+}
