@@ -7,3 +7,4 @@ pub mod Binary
 pub mod Integers
 pub mod Operators
 pub mod Product
+pub mod steps

@@ -1,0 +1,2 @@
+-- What private functions alone promise one another.
+pub mod Places
