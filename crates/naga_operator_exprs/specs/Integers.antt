@@ -1,14 +1,13 @@
 -- The whole numbers in a constant expression.
-use Rattle.std.specs.Prelude.{◌≡◌, ◌≤◌, ℕ, ℤ, pos, true, Option, Some, None, Contains, List, slice_get}
+use Rattle.std.specs.Prelude.{◌≡◌, ◌==◌, leb, ℕ, ℤ, pos, negsuc, Bool as Truth, true, false, Option, Some, None, Contains, List, slice_get}
 use Rattle.naga_ir.specs.ItemReferences.{global_lists}
 use Rattle.naga_ir.specs.declared.expression.Expression.{Expression}
 use Rattle.naga_ir.specs.declared.expression.Expression.TheVariants as form
 use Rattle.naga_ir.specs.declared.expression.Literal.{Literal}
 use Rattle.naga_ir.specs.declared.expression.Literal.TheVariants as literal
 use Rattle.naga_ir.specs.declared.ir.Constant.{Constant}
-use Rattle.naga_ir_types.specs.declared.types.TypeInner.{TypeInner}
 use Rattle.naga_ir_types.specs.declared.types.VectorSize.{VectorSize}
-use Rattle.naga_operands.specs.Surroundings.{ExpressionSurroundings}
+use Rattle.naga_operands.specs.Surroundings.{ExpressionSurroundings, form_in}
 use Rattle.naga_operands.specs.Words.{consists_of}
 use Rattle.naga_operator_exprs.specs.declared.integers.Forbidden.{Forbidden}
 use Rattle.naga_operator_exprs.specs.declared.integers.Forbidden.TheVariants.{AtLeast, Zero}
@@ -43,20 +42,29 @@ integer_of (literal.Bool value) = None
 integer_of (literal.AbstractInt n) = None
 integer_of (literal.AbstractFloat bits) = None
 
--- a number is in the expression at a place: it is the literal, or the zero of an integer type or of a vector of such; or it is in what is splatted, in a component, or in the initialiser of the constant
+-- the zero of a type is an integer, or a vector of integers
+abbrev pub is_integer_zero : ExpressionSurroundings → ℕ → Truth
+is_integer_zero s ty = consists_of (λ scalar. is_integer scalar.kind) (form_in (inner_in s.«module».types (Handle ty)))
+
+-- a number is the integer that an expression is by itself: a literal, or the zero of an integer or of a vector of integers
+pub data IsOwnInteger (s : ExpressionSurroundings) : Expression → ℤ → Type 0 where
+  literal_value : (value : Literal) (n : ℤ) → integer_of value ≡ Some n → IsOwnInteger s (form.Literal value) n
+  zero_value : (ty : ℕ) → is_integer_zero s ty ≡ true → IsOwnInteger s (form.ZeroValue ty) (pos 0)
+
+-- a number is in the expression at a place: it is that integer itself, or it is in what is splatted, in a component, or in the initialiser of a constant
 pub data HasInteger (s : ExpressionSurroundings) : Place → ℤ → Type 0 where
-  literal_value : (p : Place) (value : Literal) (n : ℤ) → expression_at s p ≡ Some (form.Literal value) → integer_of value ≡ Some n → HasInteger s p n
-  zero_value : (p : Place) (ty : ℕ) (inner : TypeInner) → expression_at s p ≡ Some (form.ZeroValue ty) → inner_in s.«module».types (Handle ty) ≡ Some inner
-      → consists_of (λ scalar. is_integer scalar.kind) inner ≡ true → HasInteger s p (pos 0)
+  itself : (p : Place) (x : Expression) (n : ℤ) → expression_at s p ≡ Some x → IsOwnInteger s x n → HasInteger s p n
   splatted : (p : Place) (size : VectorSize) (value : ℕ) (n : ℤ) → expression_at s p ≡ Some (form.Splat size value) → HasInteger s (beside p value) n → HasInteger s p n
   component : (p : Place) (ty : ℕ) (components : List ℕ) (c : ℕ) (n : ℤ) → expression_at s p ≡ Some (form.Compose ty components) → Contains components c → HasInteger s (beside p c) n → HasInteger s p n
   initialiser : (p : Place) (c : ℕ) (d : Constant) (n : ℤ) → expression_at s p ≡ Some (form.Constant c) → slice_get s.«module».constants c ≡ Some d → HasInteger s (place.InModule d.init) n → HasInteger s p n
 
--- a number is forbidden
-abbrev pub Forbids : Forbidden → ℤ → Type 0
-Forbids (AtLeast bound) n = (k : ℕ) × (n ≡ pos k) × (bound ≤ k)
-Forbids Zero n = n ≡ pos 0
+-- whether a number is forbidden
+abbrev pub is_forbidden : Forbidden → ℤ → Truth
+is_forbidden (AtLeast bound) (pos k) = leb bound k
+is_forbidden (AtLeast bound) (negsuc k) = false
+is_forbidden Zero (pos k) = k == 0
+is_forbidden Zero (negsuc k) = false
 
 -- a forbidden number is in the expression at a place
 abbrev pub HasForbidden : ExpressionSurroundings → Forbidden → Place → Type 0
-HasForbidden s forbidden p = (n : ℤ) × HasInteger s p n × Forbids forbidden n
+HasForbidden s forbidden p = (n : ℤ) × HasInteger s p n × (is_forbidden forbidden n ≡ true)

@@ -1,9 +1,11 @@
 //! The whole numbers in constant expressions.
 
-ghost use Rattle.std.specs.Prelude.{◌≡◌, ◌↔◌, ◌<◌, IfSome, IsTrue, ForNone, ℤ, length, slice_get, Some};
+ghost use Rattle.std.specs.Prelude.{◌≡◌, ◌↔◌, ◌<◌, IfNone, IfSome, IsTrue, length, pos};
+ghost use Rattle.naga_ir.specs.References.{named_type};
 ghost use Rattle.naga_operands.specs.Surroundings.{AreSound, surroundings};
 ghost use Rattle.naga_operator_exprs.specs.Integers as spec;
-ghost use Rattle.naga_operator_exprs.specs.Integers.{HasForbidden, HasInteger, expression_at};
+ghost use Rattle.naga_operator_exprs.specs.Integers.{HasForbidden, expression_at};
+ghost use Rattle.naga_operator_exprs.specs.steps.Places.{AreComponents, HasNoSourceAt, IsSource, IsSourceOrItself, OwnForbidden, PlaceExists, is_forbidden_found};
 
 use naga_ir::expression::{Expression, Literal};
 use naga_ir::handle::Handle;
@@ -39,4 +41,220 @@ impl Place {
             Place::InModule(_) => Place::InModule(operand),
         }
     }
+}
+
+/// The expression at a place.
+fn expression_at<'a>(context: FunctionContext<'a>, place: &Place) -> &'a Expression
+    requires { PlaceExists (surroundings context) place.now }
+    ensures { expression_at (surroundings context.entry) place.now ≡ Some result.now }
+{
+    match place {
+        Place::InFunction(handle) => &context.function.expressions[*handle],
+        Place::InModule(handle) => &context.module.global_expressions[*handle],
+    }
+}
+
+/// The place of the one expression that another has its integers from: a constant from its initialiser,
+/// a splat from its operand, and a composition from its component if it has only one.
+fn only_source<'a>(context: FunctionContext<'a>, place: &Place) -> Option<Place>
+    requires sound { AreSound (surroundings context) }
+    requires exists { PlaceExists (surroundings context) place.now }
+    ensures source { IfSome result (λ next. IsSource (surroundings context.entry) place.now next) }
+    ensures none { IfNone result (HasNoSourceAt (surroundings context.entry) place.now) }
+{
+    match expression_at(context, place) {
+        Expression::Constant(constant) => {
+            Some(Place::InModule(context.module.constants[*constant].init))
+        }
+        Expression::Splat { value, .. } => Some(place.beside(*value)),
+        Expression::Compose { components, .. } => {
+            let components = components.as_slice();
+            if components.len() != 1 {
+                return None;
+            }
+            Some(place.beside(components[0]))
+        }
+        Expression::Literal(_)
+        | Expression::Override(_)
+        | Expression::ZeroValue(_)
+        | Expression::Access { .. }
+        | Expression::AccessIndex { .. }
+        | Expression::Swizzle { .. }
+        | Expression::FunctionArgument(_)
+        | Expression::GlobalVariable(_)
+        | Expression::LocalVariable(_)
+        | Expression::Load { .. }
+        | Expression::ImageSample { .. }
+        | Expression::ImageLoad { .. }
+        | Expression::ImageQuery { .. }
+        | Expression::Unary { .. }
+        | Expression::Binary { .. }
+        | Expression::Select { .. }
+        | Expression::Derivative { .. }
+        | Expression::Relational { .. }
+        | Expression::Math { .. }
+        | Expression::As { .. }
+        | Expression::CallResult(_)
+        | Expression::AtomicResult { .. }
+        | Expression::WorkGroupUniformLoadResult { .. }
+        | Expression::ArrayLength(_)
+        | Expression::RayQueryProceedResult
+        | Expression::RayQueryGetIntersection { .. }
+        | Expression::RayQueryVertexPositions { .. }
+        | Expression::SubgroupBallotResult
+        | Expression::SubgroupOperationResult { .. }
+        | Expression::CooperativeLoad { .. }
+        | Expression::CooperativeMultiplyAdd { .. } => None,
+    }
+}
+
+/// The place of the expression that another has its integers from, through any number of expressions
+/// that have theirs from one other. It is a loop, since constants may be chained through a whole arena.
+fn source<'a>(context: FunctionContext<'a>, place: Place) -> Place
+    requires sound { AreSound (surroundings context) }
+    requires exists { PlaceExists (surroundings context) place }
+    ensures source { IsSourceOrItself (surroundings context.entry) place result }
+    ensures last { HasNoSourceAt (surroundings context.entry) result }
+{
+    let mut last = place;
+    while let Some(next) = only_source(context, &last) {
+        last = next;
+    }
+    last
+}
+
+/// The components of a composition; other expressions have none.
+fn components_at<'a>(
+    context: FunctionContext<'a>,
+    place: &Place,
+) -> &'a [Handle<ExpressionTag>]
+    requires { PlaceExists (surroundings context) place.now }
+    ensures { AreComponents (surroundings context.entry) place.now result.now }
+{
+    let Expression::Compose { components, .. } = expression_at(context, place) else {
+        return &[];
+    };
+    components.as_slice()
+}
+
+/// Whether an integer that is not negative is forbidden.
+fn is_forbidden(forbidden: Forbidden, value: u64) -> bool
+    ensures { result ≡ spec.is_forbidden forbidden (pos value) }
+{
+    match forbidden {
+        Forbidden::AtLeast(bound) => u64::from(bound) <= value,
+        Forbidden::Zero => value == 0,
+    }
+}
+
+/// Whether an integer is forbidden: no negative one is.
+fn is_forbidden_signed(forbidden: Forbidden, value: i64) -> bool
+    ensures { result ≡ spec.is_forbidden forbidden value }
+{
+    match u64::try_from(value) {
+        Ok(value) => is_forbidden(forbidden, value),
+        Err(_) => false,
+    }
+}
+
+/// Whether a literal is a forbidden integer.
+fn is_forbidden_literal(forbidden: Forbidden, literal: Literal) -> bool
+    ensures { result ≡ is_forbidden_found forbidden (spec.integer_of literal) }
+{
+    match literal {
+        Literal::U16(value) => is_forbidden(forbidden, u64::from(value)),
+        Literal::U32(value) => is_forbidden(forbidden, u64::from(value)),
+        Literal::U64(value) => is_forbidden(forbidden, value),
+        Literal::I16(value) => is_forbidden_signed(forbidden, i64::from(value)),
+        Literal::I32(value) => is_forbidden_signed(forbidden, i64::from(value)),
+        Literal::I64(value) => is_forbidden_signed(forbidden, value),
+        Literal::F64(_)
+        | Literal::F32(_)
+        | Literal::F16(_)
+        | Literal::Bool(_)
+        | Literal::AbstractInt(_)
+        | Literal::AbstractFloat(_) => false,
+    }
+}
+
+/// Whether the zero of a type is an integer or a vector of integers.
+fn is_integer_zero(context: FunctionContext<'_>, ty: Handle<TypeTag>) -> bool
+    requires { ty < length context.«module».now.types }
+    ensures { result ≡ spec.is_integer_zero (surroundings context.entry) ty }
+{
+    match vector_size_and_scalar(&context.module.types[ty].inner) {
+        Some((_, scalar)) => matches!(scalar.kind, ScalarKind::Sint | ScalarKind::Uint),
+        None => false,
+    }
+}
+
+/// Whether an expression is a forbidden integer by itself, or a vector of zeros if they are forbidden.
+fn is_forbidden_itself(
+    context: FunctionContext<'_>,
+    forbidden: Forbidden,
+    expression: &Expression,
+) -> bool
+    requires { IfSome (named_type expression.now) (λ ty. ty < length context.«module».now.types) }
+    ensures yes { IsTrue result → OwnForbidden (surroundings context.entry) forbidden expression.now }
+    ensures no { OwnForbidden (surroundings context.entry) forbidden expression.now → IsTrue result }
+{
+    match expression {
+        Expression::Literal(literal) => is_forbidden_literal(forbidden, *literal),
+        Expression::ZeroValue(ty) => is_forbidden(forbidden, 0) && is_integer_zero(context, *ty),
+        Expression::Constant(_)
+        | Expression::Splat { .. }
+        | Expression::Compose { .. }
+        | Expression::Override(_)
+        | Expression::Access { .. }
+        | Expression::AccessIndex { .. }
+        | Expression::Swizzle { .. }
+        | Expression::FunctionArgument(_)
+        | Expression::GlobalVariable(_)
+        | Expression::LocalVariable(_)
+        | Expression::Load { .. }
+        | Expression::ImageSample { .. }
+        | Expression::ImageLoad { .. }
+        | Expression::ImageQuery { .. }
+        | Expression::Unary { .. }
+        | Expression::Binary { .. }
+        | Expression::Select { .. }
+        | Expression::Derivative { .. }
+        | Expression::Relational { .. }
+        | Expression::Math { .. }
+        | Expression::As { .. }
+        | Expression::CallResult(_)
+        | Expression::AtomicResult { .. }
+        | Expression::WorkGroupUniformLoadResult { .. }
+        | Expression::ArrayLength(_)
+        | Expression::RayQueryProceedResult
+        | Expression::RayQueryGetIntersection { .. }
+        | Expression::RayQueryVertexPositions { .. }
+        | Expression::SubgroupBallotResult
+        | Expression::SubgroupOperationResult { .. }
+        | Expression::CooperativeLoad { .. }
+        | Expression::CooperativeMultiplyAdd { .. } => false,
+    }
+}
+
+/// Whether a forbidden number is in the constant expression at a place.
+///
+/// The cost is that of the expression written out in full. Expressions that have their integers from one
+/// other are followed in a loop; a composition of several components is a recursion. If compositions are
+/// accepted, it is no deeper than a vector has components.
+pub(crate) fn has_forbidden<'a>(
+    context: FunctionContext<'a>,
+    forbidden: Forbidden,
+    place: Place,
+) -> bool
+    requires sound { AreSound (surroundings context) }
+    requires exists { PlaceExists (surroundings context) place }
+    ensures { IsTrue result ↔ HasForbidden (surroundings context.entry) forbidden place }
+{
+    let last = source(context, place);
+    for component in components_at(context, &last) {
+        if has_forbidden(context, forbidden, last.beside(*component)) {
+            return true;
+        }
+    }
+    is_forbidden_itself(context, forbidden, expression_at(context, &last))
 }

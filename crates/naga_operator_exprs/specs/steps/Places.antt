@@ -1,6 +1,10 @@
--- Where expressions are.
-use Rattle.std.specs.Prelude.{◌<◌, length}
+-- Where the integers of expressions come from.
+use Rattle.std.specs.Prelude.{◌≡◌, ◌+◌, ◌<◌, ◌≤◌, ℕ, ℤ, Bool as Truth, true, false, Contains, List, Option, Some, None, length, slice_get, ⊤}
+use Rattle.naga_ir.specs.declared.expression.Expression.{Expression}
+use Rattle.naga_ir.specs.declared.expression.Expression.TheVariants as form
 use Rattle.naga_operands.specs.Surroundings.{ExpressionSurroundings}
+use Rattle.naga_operator_exprs.specs.Integers.{HasForbidden, HasInteger, IsOwnInteger, beside, expression_at, is_forbidden}
+use Rattle.naga_operator_exprs.specs.declared.integers.Forbidden.{Forbidden}
 use Rattle.naga_operator_exprs.specs.declared.integers.Place.{Place}
 use Rattle.naga_operator_exprs.specs.declared.integers.Place.TheVariants.{InFunction, InModule}
 
@@ -8,3 +12,81 @@ use Rattle.naga_operator_exprs.specs.declared.integers.Place.TheVariants.{InFunc
 abbrev pub PlaceExists : ExpressionSurroundings → Place → Type 0
 PlaceExists s (InFunction e) = e < length s.function.expressions
 PlaceExists s (InModule e) = e < length s.«module».global_expressions
+
+-- the expressions of a function come after all global ones
+abbrev pub rank : ExpressionSurroundings → Place → ℕ
+rank s (InFunction e) = length s.«module».global_expressions + e
+rank s (InModule e) = e
+
+-- the expression at a place has its integers from the one at another, which comes before it
+pub record IsSource (s : ExpressionSurroundings) (p q : Place) : Type 0 where
+  pub exists : PlaceExists s q
+  pub before : rank s q < rank s p
+  pub given : (n : ℤ) → HasInteger s q n → HasInteger s p n
+  pub taken : (n : ℤ) → HasInteger s p n → HasInteger s q n
+
+-- the same, or it is the same place
+pub record IsSourceOrItself (s : ExpressionSurroundings) (p q : Place) : Type 0 where
+  pub exists : PlaceExists s q
+  pub not_after : rank s q ≤ rank s p
+  pub given : (n : ℤ) → HasInteger s q n → HasInteger s p n
+  pub taken : (n : ℤ) → HasInteger s p n → HasInteger s q n
+
+-- an expression is no constant and no splat
+abbrev pub HasNoSource : Expression → Type 0
+HasNoSource (form.Constant c) = ⊥
+HasNoSource (form.Splat size value) = ⊥
+HasNoSource (form.Literal value) = ⊤
+HasNoSource (form.Override o) = ⊤
+HasNoSource (form.ZeroValue ty) = ⊤
+HasNoSource (form.Compose ty components) = ⊤
+HasNoSource (form.Access base index) = ⊤
+HasNoSource (form.AccessIndex base index) = ⊤
+HasNoSource (form.Swizzle size vector pattern) = ⊤
+HasNoSource (form.FunctionArgument index) = ⊤
+HasNoSource (form.GlobalVariable v) = ⊤
+HasNoSource (form.LocalVariable v) = ⊤
+HasNoSource (form.Load pointer) = ⊤
+HasNoSource (form.ImageSample image sampler gather coordinate array_index offset level depth_ref clamp_to_edge) = ⊤
+HasNoSource (form.ImageLoad image coordinate array_index sample level) = ⊤
+HasNoSource (form.ImageQuery image query) = ⊤
+HasNoSource (form.Unary op expr) = ⊤
+HasNoSource (form.Binary op left right) = ⊤
+HasNoSource (form.Select condition accept reject) = ⊤
+HasNoSource (form.Derivative expr) = ⊤
+HasNoSource (form.Relational fun argument) = ⊤
+HasNoSource (form.Math fun arg arg1 arg2 arg3) = ⊤
+HasNoSource (form.As expr kind convert) = ⊤
+HasNoSource (form.CallResult f) = ⊤
+HasNoSource (form.AtomicResult ty comparison) = ⊤
+HasNoSource (form.WorkGroupUniformLoadResult ty) = ⊤
+HasNoSource (form.ArrayLength expr) = ⊤
+HasNoSource form.RayQueryProceedResult = ⊤
+HasNoSource (form.RayQueryGetIntersection query committed) = ⊤
+HasNoSource (form.RayQueryVertexPositions query committed) = ⊤
+HasNoSource form.SubgroupBallotResult = ⊤
+HasNoSource (form.SubgroupOperationResult ty) = ⊤
+HasNoSource (form.CooperativeLoad pointer stride) = ⊤
+HasNoSource (form.CooperativeMultiplyAdd a b c) = ⊤
+
+-- the expression at a place is no constant and no splat
+abbrev pub HasNoSourceAt : ExpressionSurroundings → Place → Type 0
+HasNoSourceAt s p = (x : Expression) → expression_at s p ≡ Some x → HasNoSource x
+
+-- these are the components of the expression at a place, if it is a composition, and else there are none
+pub record AreComponents (s : ExpressionSurroundings) (p : Place) (components : List ℕ) : Type 0 where
+  pub of_composition : (ty : ℕ) (given : List ℕ) → expression_at s p ≡ Some (form.Compose ty given) → components ≡ given
+  pub composed : (c : ℕ) → Contains components c → (ty : ℕ) × (expression_at s p ≡ Some (form.Compose ty components))
+
+-- whether a number that may not be there is forbidden
+abbrev pub is_forbidden_found : Forbidden → Option ℤ → Truth
+is_forbidden_found forbidden (Some n) = is_forbidden forbidden n
+is_forbidden_found forbidden None = false
+
+-- the integer that an expression is by itself is forbidden
+abbrev pub OwnForbidden : ExpressionSurroundings → Forbidden → Expression → Type 0
+OwnForbidden s forbidden x = (n : ℤ) × IsOwnInteger s x n × (is_forbidden forbidden n ≡ true)
+
+-- no forbidden number is in the first of some components of the expression at a place
+abbrev pub NoneBefore : ExpressionSurroundings → Forbidden → Place → List ℕ → ℕ → Type 0
+NoneBefore s forbidden p components i = (k c : ℕ) → k < i → slice_get components k ≡ Some c → HasForbidden s forbidden (beside p c) → ⊥

@@ -1,0 +1,17 @@
+use Rattle.std.proofs.Common.{◌≡◌, ℕ, List, Some, ap, subst, sym, ◌∙◌}
+use Rattle.naga_ir.specs.declared.expression.Expression.TheVariants as form
+use Rattle.naga_operands.specs.Surroundings.{surroundings}
+use Rattle.naga_operator_exprs.proofs.integers.components_at.Goals as goal
+use Rattle.naga_operator_exprs.specs.Integers.{expression_at}
+
+pub returns : goal.returns
+returns c =
+    let s = surroundings c.args.context in
+    let p = c.args.place.now in
+    let ty = c.in-Compose.ty in
+    let own = c.in-Compose.components in
+    let at = c.expression_at.ensures ∙ ap Some c.in-Compose.is in
+    record {
+      of_composition = λ t given is. let same : own ≡ given = cc (sym at ∙ is) in c.as_slice.ensures ∙ same;
+      composed = λ o within. (ty, subst (λ (os : List ℕ). expression_at s p ≡ Some (form.Compose ty os)) (sym c.as_slice.ensures) at);
+    }

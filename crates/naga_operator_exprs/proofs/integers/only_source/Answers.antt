@@ -1,0 +1,39 @@
+use Rattle.std.proofs.Common.{◌≡◌, ℕ, Some, Contains, List, get_or, length, refl, sym, ap, subst, arith, ◌∙◌, [], ◌∷◌}
+use Rattle.naga_operands.specs.Surroundings.{surroundings}
+use Rattle.naga_operator_exprs.proofs.Places.{constant_exists}
+use Rattle.naga_operator_exprs.proofs.Sources.{component_source, constant_source, splat_source}
+use Rattle.naga_operator_exprs.proofs.integers.only_source.Goals as goal
+use Rattle.naga_operator_exprs.specs.steps.Places.{IsSource}
+
+pub index-requires : goal.index-requires
+index-requires c = constant_exists (surroundings c.args.context) c.requires.sound c.args.place.now c.in-Constant.constant (c.expression_at.ensures ∙ ap Some c.in-Constant.is)
+
+pub returns-in-Constant-clause-source : goal.returns-in-Constant-clause-source
+returns-in-Constant-clause-source c =
+    constant_source (surroundings c.args.context) c.requires.sound c.args.place.now c.requires.exists c.in-Constant.constant c.index.result.now (c.expression_at.ensures ∙ ap Some c.in-Constant.is) c.index.ensures
+
+pub returns-in-Splat-clause-source : goal.returns-in-Splat-clause-source
+returns-in-Splat-clause-source c =
+    let s = surroundings c.args.context in
+    subst (IsSource s c.args.place.now) (sym c.beside.ensures) (splat_source s c.requires.sound c.args.place.now c.requires.exists c.in-Splat.size c.in-Splat.value (c.expression_at.ensures ∙ ap Some c.in-Splat.is))
+
+-- a list of one element has no other
+only_one : (xs : List ℕ) (o d : ℕ) → length xs ≡ 1 → o ≡ get_or xs 0 d → Contains xs o × ((x : ℕ) → Contains xs x → x ≡ o)
+only_one [] o d one is = cc one
+only_one (x ∷ []) o d one is = ((0, omega arith, sym is), λ y within. sole y within)
+  where
+    sole : (y : ℕ) → Contains (x ∷ []) y → y ≡ o
+    sole y (k, below, at) =
+        let first : k ≡ 0 = omega (arith, below) in
+        let same : x ≡ y = subst (λ k. get_or (x ∷ []) k y ≡ y) first at in
+        sym same ∙ sym is
+only_one (x ∷ y ∷ rest) o d one is = cc one
+
+pub returns-else-components-ne1-clause-source : goal.returns-else-components-ne1-clause-source
+returns-else-components-ne1-clause-source c =
+    let s = surroundings c.args.context in
+    let components = c.in-Compose.components in
+    let o = c.index-components-0.result in
+    let alone = only_one components o o (ap length (sym c.as_slice-components.ensures) ∙ c.if-components-ne1.false) (c.index-components-0.is ∙ ap (λ (os : List ℕ). get_or os 0 o) c.as_slice-components.ensures) in
+    subst (IsSource s c.args.place.now) (sym c.beside-in-Compose.ensures)
+    (component_source s c.requires.sound c.args.place.now c.requires.exists c.in-Compose.ty components o (c.expression_at.ensures ∙ ap Some c.in-Compose.is) alone.0 alone.1)
