@@ -1,2 +1,3 @@
+mod BinaryResults
 mod Places
 mod Sources

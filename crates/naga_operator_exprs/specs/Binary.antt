@@ -1,5 +1,5 @@
 -- The rule of operators on two values.
-use Rattle.std.specs.Prelude.{◌≡◌, ◌==◌, ◌&&◌, ◌||◌, ◌*◌, ℕ, Bool as Truth, true, false, Option, Some, None, Result, Ok, Err}
+use Rattle.std.specs.Prelude.{◌≡◌, ◌&&◌, ◌||◌, ◌*◌, ℕ, Bool as Truth, true, false, Option, Some, None, Result, Ok, Err}
 use Rattle.naga_flags.specs.declared.flags.ShaderStages.{ShaderStages}
 use Rattle.naga_ir.specs.declared.expression.BinaryOperator.{BinaryOperator}
 use Rattle.naga_ir.specs.declared.expression.BinaryOperator.TheVariants.{Add, Subtract, Multiply, Divide, Modulo, Equal, NotEqual, Less, LessEqual, Greater, GreaterEqual, And, ExclusiveOr, InclusiveOr, LogicalAnd, LogicalOr, ShiftLeft, ShiftRight}
@@ -10,9 +10,10 @@ use Rattle.naga_ir_types.specs.declared.types.ScalarKind.TheVariants.{Sint, Uint
 use Rattle.naga_ir_types.specs.declared.types.TypeInner.{TypeInner}
 use Rattle.naga_ir_types.specs.declared.types.TypeInner.TheVariants.{Scalar, Vector, Matrix, CooperativeMatrix, Atomic, Pointer, ValuePointer, Array, Struct, Image, Sampler, AccelerationStructure, RayQuery, BindingArray}
 use Rattle.naga_ir_types.specs.declared.types.VectorSize.{VectorSize}
+use Rattle.naga_operands.specs.Results.{IsReturned}
 use Rattle.naga_operands.specs.Stages.{every_stage}
 use Rattle.naga_operands.specs.Surroundings.{ExpressionSurroundings, form_at}
-use Rattle.naga_operands.specs.Words.{are_equal, consists_of, has_scalar, is_bool, is_number, vector_size_and_scalar}
+use Rattle.naga_operands.specs.Words.{are_equal, consists_of, is_bool, is_number, vector_size_and_scalar}
 use Rattle.naga_operands.specs.declared.error.ExpressionError.{ExpressionError}
 use Rattle.naga_operands.specs.declared.error.ExpressionError.TheVariants.{DivideByZero, InvalidBinaryOperandTypes, ShiftAmountTooLarge}
 use Rattle.naga_operator_exprs.specs.Integers.{HasForbidden}
@@ -137,3 +138,7 @@ pub data IsBinaryResult (s : ExpressionSurroundings) (op : BinaryOperator) (left
   forbidden_constant : (forbidden : Forbidden) → operands_fit op (form_at s left) (form_at s right) ≡ true → HoldsForbidden s op left right forbidden
       → IsBinaryResult s op left right (Err (refusal_of forbidden (form_at s left) right))
   accepted : operands_fit op (form_at s left) (form_at s right) ≡ true → ((forbidden : Forbidden) → HoldsForbidden s op left right forbidden → ⊥) → IsBinaryResult s op left right (Ok every_stage)
+
+-- a call returns what is meant by the rule of an operator, out of memory aside
+abbrev pub IsBinaryReturned : ExpressionSurroundings → BinaryOperator → ℕ → ℕ → Result ShaderStages ExpressionError → Type 0
+IsBinaryReturned s op left right result = (meant : Result ShaderStages ExpressionError) × IsBinaryResult s op left right meant × IsReturned meant result

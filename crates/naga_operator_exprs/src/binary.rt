@@ -1,25 +1,223 @@
 //! The rule of operators on two values.
 
-ghost use Rattle.std.specs.Prelude.{◌≡◌, ◌<◌, OnErr, OnOk, Ok, ⊥, length};
+ghost use Rattle.std.specs.Prelude.{◌≡◌, ◌<◌, Err, length};
 ghost use Rattle.naga_operands.specs.Results.{IsReturned};
-ghost use Rattle.naga_operands.specs.Surroundings.{AreSound, form_at, surroundings};
-ghost use Rattle.naga_operands.specs.Words.{are_equal, consists_of};
+ghost use Rattle.naga_operands.specs.Surroundings.{AreSound, surroundings};
+ghost use Rattle.naga_operands.specs.Words.{consists_of, is_bool, is_number, vector_size_and_scalar};
+ghost use Rattle.naga_operands.specs.declared.error.ExpressionError.TheVariants as refusal;
 ghost use Rattle.naga_operator_exprs.specs.Binary as rule;
-ghost use Rattle.naga_operator_exprs.specs.Binary.{IsBinaryResult};
+ghost use Rattle.naga_types.specs.TypeRule.{is_integer};
 
 use crate::integers::{Forbidden, Place, has_forbidden};
 use crate::product::{can_multiply, is_number};
 use naga_flags::flags::ShaderStages;
 use naga_ir::expression::BinaryOperator;
 use naga_ir::handle::Handle;
-use naga_ir::memory::OutOfMemory;
 use naga_ir::tags::ExpressionTag;
-use naga_ir::types::{Scalar, ScalarKind, TypeInner, VectorSize};
+use naga_ir::types::{Scalar, ScalarKind, TypeInner};
 use naga_operands::context::{FunctionContext, every_stage, vector_size_and_scalar};
 use naga_operands::error::ExpressionError;
 use naga_types::type_methods::is_sized;
 
-/// The kind of a scalar, or of the components of a vector.
-fn component_kind(inner: &TypeInner) -> Option<ScalarKind> {
-    vector_size_and_scalar(inner).map(|(_, scalar)| scalar.kind)
+/// Whether scalars of a kind are integers with a width of their own.
+fn is_integer(kind: ScalarKind) -> bool
+    ensures { result ≡ is_integer kind }
+{
+    match kind {
+        ScalarKind::Sint | ScalarKind::Uint => true,
+        ScalarKind::Float
+        | ScalarKind::Bool
+        | ScalarKind::AbstractInt
+        | ScalarKind::AbstractFloat => false,
+    }
+}
+
+/// Whether a type is a scalar that is a number with a width of its own, or a vector of such.
+fn consists_of_numbers(inner: &TypeInner) -> bool
+    ensures { result ≡ consists_of (λ scalar. is_number scalar.kind) inner.now }
+{
+    match vector_size_and_scalar(inner) {
+        Some((_, scalar)) => is_number(scalar.kind),
+        None => false,
+    }
+}
+
+/// Whether a type is an integer with a width of its own, or a vector of such.
+fn consists_of_integers(inner: &TypeInner) -> bool
+    ensures { result ≡ consists_of (λ scalar. is_integer scalar.kind) inner.now }
+{
+    match vector_size_and_scalar(inner) {
+        Some((_, scalar)) => is_integer(scalar.kind),
+        None => false,
+    }
+}
+
+/// Whether a type is a truth value, or a vector of such.
+fn consists_of_bools(inner: &TypeInner) -> bool
+    ensures { result ≡ consists_of (λ scalar. is_bool scalar.kind) inner.now }
+{
+    match vector_size_and_scalar(inner) {
+        Some((_, scalar)) => scalar.kind == ScalarKind::Bool,
+        None => false,
+    }
+}
+
+/// Whether a type is that of matrices, of either kind.
+fn is_any_matrix(inner: &TypeInner) -> bool
+    ensures { result ≡ rule.is_any_matrix inner.now }
+{
+    match inner {
+        TypeInner::Matrix { .. } | TypeInner::CooperativeMatrix { .. } => true,
+        TypeInner::Scalar(_)
+        | TypeInner::Vector { .. }
+        | TypeInner::Atomic(_)
+        | TypeInner::Pointer { .. }
+        | TypeInner::ValuePointer { .. }
+        | TypeInner::Array { .. }
+        | TypeInner::Struct { .. }
+        | TypeInner::Image { .. }
+        | TypeInner::Sampler { .. }
+        | TypeInner::AccelerationStructure { .. }
+        | TypeInner::RayQuery { .. }
+        | TypeInner::BindingArray { .. } => false,
+    }
+}
+
+/// Whether values of the left type are shifted by those of the right one.
+fn can_shift(left: &TypeInner, right: &TypeInner) -> bool
+    ensures { result ≡ rule.can_shift (vector_size_and_scalar left.now) (vector_size_and_scalar right.now) }
+{
+    match (vector_size_and_scalar(left), vector_size_and_scalar(right)) {
+        (Some((size, scalar)), Some((amount_size, amount))) => {
+            is_integer(scalar.kind) && amount.kind == ScalarKind::Uint && size == amount_size
+        }
+        (Some(_), None) | (None, _) => false,
+    }
+}
+
+/// Whether an operator takes two values of these types (WGSL "Operator Expressions").
+fn operands_fit(op: BinaryOperator, left: &TypeInner, right: &TypeInner) -> bool
+    ensures { result ≡ rule.operands_fit op left.now right.now }
+{
+    match op {
+        BinaryOperator::Add | BinaryOperator::Subtract => {
+            (consists_of_numbers(left) || is_any_matrix(left)) && left == right
+        }
+        BinaryOperator::Multiply => can_multiply(left, right),
+        BinaryOperator::Equal | BinaryOperator::NotEqual => is_sized(left) && left == right,
+        BinaryOperator::Divide
+        | BinaryOperator::Modulo
+        | BinaryOperator::Less
+        | BinaryOperator::LessEqual
+        | BinaryOperator::Greater
+        | BinaryOperator::GreaterEqual => consists_of_numbers(left) && left == right,
+        BinaryOperator::LogicalAnd | BinaryOperator::LogicalOr => {
+            consists_of_bools(left) && left == right
+        }
+        BinaryOperator::And | BinaryOperator::InclusiveOr => {
+            (consists_of_bools(left) || consists_of_integers(left)) && left == right
+        }
+        BinaryOperator::ExclusiveOr => consists_of_integers(left) && left == right,
+        BinaryOperator::ShiftLeft | BinaryOperator::ShiftRight => can_shift(left, right),
+    }
+}
+
+/// What a constant must not be on the right of an operator, by the type on the left.
+fn forbidden_on_right(op: BinaryOperator, left: &TypeInner) -> Option<Forbidden>
+    ensures { result ≡ rule.forbidden_on_right op left.now }
+{
+    let (_, scalar) = vector_size_and_scalar(left)?;
+    if !is_integer(scalar.kind) {
+        return None;
+    }
+    match op {
+        BinaryOperator::ShiftLeft | BinaryOperator::ShiftRight => {
+            Some(Forbidden::AtLeast(8 * u32::from(scalar.width)))
+        }
+        BinaryOperator::Divide | BinaryOperator::Modulo => Some(Forbidden::Zero),
+        BinaryOperator::Add
+        | BinaryOperator::Subtract
+        | BinaryOperator::Multiply
+        | BinaryOperator::Equal
+        | BinaryOperator::NotEqual
+        | BinaryOperator::Less
+        | BinaryOperator::LessEqual
+        | BinaryOperator::Greater
+        | BinaryOperator::GreaterEqual
+        | BinaryOperator::And
+        | BinaryOperator::ExclusiveOr
+        | BinaryOperator::InclusiveOr
+        | BinaryOperator::LogicalAnd
+        | BinaryOperator::LogicalOr => None,
+    }
+}
+
+/// Refuses operands that an operator doesn't take.
+fn refuse_operands(
+    op: BinaryOperator,
+    left: Handle<ExpressionTag>,
+    left_type: &TypeInner,
+    right: Handle<ExpressionTag>,
+    right_type: &TypeInner,
+) -> Result<ShaderStages, ExpressionError>
+    ensures { IsReturned (Err (refusal.InvalidBinaryOperandTypes op left left_type.now right right_type.now)) result }
+{
+    Err(ExpressionError::InvalidBinaryOperandTypes {
+        op,
+        lhs_expr: left,
+        lhs_type: left_type.try_clone()?,
+        rhs_expr: right,
+        rhs_type: right_type.try_clone()?,
+    })
+}
+
+/// Refuses a constant on the right of an operator.
+fn refuse_constant(
+    forbidden: Forbidden,
+    left_type: &TypeInner,
+    right: Handle<ExpressionTag>,
+) -> Result<ShaderStages, ExpressionError>
+    ensures { IsReturned (Err (rule.refusal_of forbidden left_type.now right)) result }
+{
+    match forbidden {
+        Forbidden::AtLeast(_) => Err(ExpressionError::ShiftAmountTooLarge {
+            lhs_type: left_type.try_clone()?,
+            rhs_expr: right,
+        }),
+        Forbidden::Zero => Err(ExpressionError::DivideByZero),
+    }
+}
+
+/// The stages that may use an operator on two values.
+///
+/// # Errors
+///
+/// - `InvalidBinaryOperandTypes` if the operator doesn't take such a pair of values.
+/// - `ShiftAmountTooLarge` if integers are shifted by a constant that is at least the number of their bits.
+/// - `DivideByZero` if integers are divided by a constant that is 0.
+/// - `OutOfMemory` if memory was refused for a struct in one of these.
+pub fn validate_binary(
+    context: FunctionContext<'_>,
+    op: BinaryOperator,
+    left: Handle<ExpressionTag>,
+    right: Handle<ExpressionTag>,
+) -> Result<ShaderStages, ExpressionError>
+    requires sound { AreSound (surroundings context) }
+    requires left { left < length context.info.now.types }
+    requires right { right < length context.info.now.types }
+    requires exists { right < length context.function.now.expressions }
+    ensures { rule.IsBinaryReturned (surroundings context.entry) op left right result }
+{
+    let left_type = context.type_of(left);
+    let right_type = context.type_of(right);
+    if !operands_fit(op, left_type, right_type) {
+        return refuse_operands(op, left, left_type, right, right_type);
+    }
+    let Some(forbidden) = forbidden_on_right(op, left_type) else {
+        return Ok(every_stage());
+    };
+    if has_forbidden(context, forbidden, Place::InFunction(right)) {
+        return refuse_constant(forbidden, left_type, right);
+    }
+    Ok(every_stage())
 }

@@ -1,11 +1,15 @@
 //! Which types multiply.
 
 ghost use Rattle.std.specs.Prelude.{◌≡◌, ◌||◌};
+ghost use Rattle.naga_ir_types.specs.declared.types.CooperativeRole.{CooperativeRole};
+ghost use Rattle.naga_ir_types.specs.declared.types.CooperativeSize.{CooperativeSize};
+ghost use Rattle.naga_ir_types.specs.declared.types.Scalar.{Scalar};
 ghost use Rattle.naga_ir_types.specs.declared.types.TypeInner.TheVariants as form;
+ghost use Rattle.naga_ir_types.specs.declared.types.VectorSize.{VectorSize};
 ghost use Rattle.naga_operator_exprs.specs.Product as rule;
 ghost use Rattle.naga_operands.specs.Words.{is_number};
 
-use naga_ir::types::{CooperativeRole, CooperativeSize, Scalar, ScalarKind, TypeInner, VectorSize};
+use naga_ir::types::{Scalar, ScalarKind, TypeInner, VectorSize};
 
 /// Whether scalars of a kind are numbers with a width of their own.
 pub(crate) fn is_number(kind: ScalarKind) -> bool
@@ -65,8 +69,8 @@ fn vector_times(size: VectorSize, scalar: Scalar, right: &TypeInner) -> bool
 }
 
 /// Whether a matrix on the left and a form on the right multiply, widths aside.
-fn matrix_times(columns: VectorSize, rows: VectorSize, scalar: Scalar, right: &TypeInner) -> bool
-    ensures { result ≡ rule.forms_multiply (form.Matrix columns rows scalar) right.now }
+fn matrix_times(columns: VectorSize, right: &TypeInner) -> bool
+    ensures { (rows : VectorSize) (scalar : Scalar) → result ≡ rule.forms_multiply (form.Matrix columns rows scalar) right.now }
 {
     match right {
         TypeInner::Scalar(other) => other.kind == ScalarKind::Float,
@@ -90,14 +94,8 @@ fn matrix_times(columns: VectorSize, rows: VectorSize, scalar: Scalar, right: &T
 }
 
 /// Whether a cooperative matrix on the left and a form on the right multiply, widths aside.
-fn cooperative_matrix_times(
-    columns: CooperativeSize,
-    rows: CooperativeSize,
-    scalar: Scalar,
-    role: CooperativeRole,
-    right: &TypeInner,
-) -> bool
-    ensures { result ≡ rule.forms_multiply (form.CooperativeMatrix columns rows scalar role) right.now }
+fn cooperative_matrix_times(scalar: Scalar, right: &TypeInner) -> bool
+    ensures { (columns rows : CooperativeSize) (role : CooperativeRole) → result ≡ rule.forms_multiply (form.CooperativeMatrix columns rows scalar role) right.now }
 {
     match right {
         TypeInner::Scalar(other) => *other == scalar,
@@ -124,10 +122,8 @@ fn forms_multiply(left: &TypeInner, right: &TypeInner) -> bool
     match left {
         TypeInner::Scalar(scalar) => scalar_times(*scalar, right),
         TypeInner::Vector { size, scalar } => vector_times(*size, *scalar, right),
-        TypeInner::Matrix { columns, rows, scalar } => matrix_times(*columns, *rows, *scalar, right),
-        TypeInner::CooperativeMatrix { columns, rows, scalar, role } => {
-            cooperative_matrix_times(*columns, *rows, *scalar, *role, right)
-        }
+        TypeInner::Matrix { columns, .. } => matrix_times(*columns, right),
+        TypeInner::CooperativeMatrix { scalar, .. } => cooperative_matrix_times(*scalar, right),
         TypeInner::Atomic(_)
         | TypeInner::Pointer { .. }
         | TypeInner::ValuePointer { .. }
