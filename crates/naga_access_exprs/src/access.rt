@@ -39,10 +39,7 @@ fn has_parts(inner: &TypeInner) -> bool
         | TypeInner::Array { .. }
         | TypeInner::BindingArray { .. }
         | TypeInner::Pointer { .. }
-        | TypeInner::ValuePointer {
-            size: Some(_),
-            ..
-        } => true,
+        | TypeInner::ValuePointer { size: Some(_), .. } => true,
         TypeInner::ValuePointer { size: None, .. }
         | TypeInner::Scalar(_)
         | TypeInner::CooperativeMatrix { .. }
