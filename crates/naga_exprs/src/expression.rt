@@ -1,0 +1,151 @@
+//! The rule of one expression of a function (naga's `Validator::validate_expression`).
+
+ghost use Rattle.naga_exprs.specs.ExpressionRule.{IsCovered, IsExpressionResult};
+ghost use Rattle.naga_operands.specs.Surroundings.{CanJudge, surroundings};
+
+use naga_access_exprs::access::{validate_access, validate_access_index, validate_swizzle};
+use naga_access_exprs::memory::{validate_array_length, validate_load};
+use naga_flags::flags::ShaderStages;
+use naga_infos::context::ExprContext;
+use naga_infos::module_info::{FunctionInfo, ModuleInfo};
+use naga_ir::expression::Expression;
+use naga_ir::handle::Handle;
+use naga_ir::ir::{Function, Module};
+use naga_ir::tags::ExpressionTag;
+use naga_operands::context::{FunctionContext, every_stage};
+use naga_operands::error::ExpressionError;
+use naga_operator_exprs::binary::validate_binary;
+use naga_operator_exprs::operators::{
+    validate_as, validate_derivative, validate_relational, validate_select, validate_unary,
+};
+use naga_typing::expression_kind::ExpressionKindTracker;
+use naga_typing::typing::Typing;
+use naga_value_exprs::value::{
+    validate_call_result, validate_composition, validate_function_argument, validate_literal_value,
+    validate_splat, validate_workgroup_uniform_load_result, validate_zero_value,
+};
+use std::alloc::Global;
+
+/// The stages that may use an expression, by the rule of its form.
+fn validate_form(
+    context: FunctionContext<'_>,
+    root: Handle<ExpressionTag>,
+    expression: &Expression,
+) -> Result<ShaderStages, ExpressionError>
+    requires can_judge { CanJudge (surroundings context) root expression.now }
+    requires covered { IsCovered expression.now }
+    ensures { IsExpressionResult (surroundings context.entry) expression.now result }
+{
+    match expression {
+        Expression::Access { base, index } => validate_access(context, *base, *index),
+        Expression::AccessIndex { base, index } => validate_access_index(context, *base, *index),
+        Expression::Splat { value, .. } => validate_splat(context, *value),
+        Expression::Swizzle {
+            size,
+            vector,
+            pattern,
+        } => validate_swizzle(context, *size, *vector, pattern),
+        Expression::Literal(literal) => validate_literal_value(context, *literal),
+        Expression::ZeroValue(ty) => validate_zero_value(context, *ty),
+        Expression::Compose { ty, components } => {
+            validate_composition(context, *ty, components.as_slice())
+        }
+        Expression::FunctionArgument(index) => validate_function_argument(context, *index),
+        Expression::Constant(_)
+        | Expression::Override(_)
+        | Expression::GlobalVariable(_)
+        | Expression::LocalVariable(_)
+        | Expression::AtomicResult { .. } => Ok(every_stage()),
+        Expression::Load { pointer } => validate_load(context, *pointer),
+        Expression::Unary { op, expr } => validate_unary(context, *op, *expr),
+        Expression::Binary { op, left, right } => validate_binary(context, *op, *left, *right),
+        Expression::Select {
+            condition,
+            accept,
+            reject,
+        } => validate_select(context, *condition, *accept, *reject),
+        Expression::Derivative { expr } => validate_derivative(context, *expr),
+        Expression::Relational { fun, argument } => validate_relational(context, *fun, *argument),
+        Expression::As {
+            expr,
+            kind,
+            convert,
+        } => validate_as(context, *expr, *kind, *convert),
+        Expression::CallResult(function) => Ok(validate_call_result(context, *function)),
+        Expression::WorkGroupUniformLoadResult { ty } => {
+            validate_workgroup_uniform_load_result(context, *ty)
+        }
+        Expression::ArrayLength(array) => validate_array_length(context, *array),
+        Expression::ImageSample { .. }
+        | Expression::ImageLoad { .. }
+        | Expression::ImageQuery { .. }
+        | Expression::Math { .. }
+        | Expression::RayQueryProceedResult
+        | Expression::RayQueryGetIntersection { .. }
+        | Expression::RayQueryVertexPositions { .. }
+        | Expression::SubgroupBallotResult
+        | Expression::SubgroupOperationResult { .. }
+        | Expression::CooperativeLoad { .. }
+        | Expression::CooperativeMultiplyAdd { .. } => unreachable!(),
+    }
+}
+
+/// The pipeline stages that may use an expression of a function. The operands come before `root`, and are
+/// known by `info` and `kinds`; the module's types are accepted, and `mod_info` says what they may be
+/// used for. Forms of images, math, ray queries, subgroups and cooperative matrices can't be judged yet.
+///
+/// Accepting takes no memory. The cost is linear in the expression's own components, but for integers on
+/// the right of a division or a shift: these are searched through compositions that the expression is
+/// made of, written out in full. If every expression before is accepted, these have at most as many
+/// components as a vector. Global expressions that nobody has checked can be composed of one another so
+/// that the search takes exponential time: each of `vec2(G0, G0)`, `vec2(G1, G1)`, and so on.
+///
+/// # Errors
+///
+/// That of the first condition of its form that the expression breaks; the forms' own functions list
+/// them. `OutOfMemory` if memory was refused for a struct that an error holds.
+pub fn validate_expression<T: Typing>(
+    _alloc: Global,
+    ctx: ExprContext<'_, T>,
+    root: Handle<ExpressionTag>,
+    expression: &Expression,
+    function: &Function,
+    module: &Module,
+    info: &FunctionInfo,
+    mod_info: &ModuleInfo,
+    kinds: &ExpressionKindTracker,
+) -> Result<ShaderStages, ExpressionError>
+    requires can_judge { CanJudge (record {
+      capabilities = ctx.capabilities.0;
+      resolved = ctx.overrides_resolved;
+      subgroup_stages = ctx.subgroup_stages;
+      «module» = «module».now;
+      function = function.now;
+      types = info.now.types;
+      infos = mod_info.now.lists;
+      kinds = kinds.now;
+    }) root expression.now }
+    requires covered { IsCovered expression.now }
+    ensures { IsExpressionResult (record {
+      capabilities = ctx.entry.capabilities.0;
+      resolved = ctx.entry.overrides_resolved;
+      subgroup_stages = ctx.entry.subgroup_stages;
+      «module» = «module».now;
+      function = function.now;
+      types = info.now.types;
+      infos = mod_info.now.lists;
+      kinds = kinds.now;
+    }) expression.now result }
+{
+    let context = FunctionContext {
+        capabilities: ctx.capabilities,
+        overrides_resolved: ctx.overrides_resolved,
+        subgroup_stages: ctx.subgroup_stages,
+        module,
+        function,
+        info,
+        mod_info,
+        kinds,
+    };
+    validate_form(context, root, expression)
+}
