@@ -1,0 +1,95 @@
+-- What has to be known of the operands of an expression that can be judged.
+use Rattle.std.proofs.Common.{◌≡◌, ◌<◌, ℕ, All, Contains, List, [], ◌∷◌, Option, Some, length, map, option_to_list, refl, sym, ap, subst, arith, ◌∙◌}
+use Rattle.std.proofs.lemmas.List.Elements.{All-contains, Contains-append_left}
+use Rattle.naga_arena.proofs.Elements.{contains-map}
+use Rattle.naga_ir.proofs.ReferredTo.{type_in}
+use Rattle.naga_ir.specs.Handles.{Exists, function_counts}
+use Rattle.naga_ir.specs.ItemReferences.{expression_references, named_references}
+use Rattle.naga_ir.specs.References.{named_type, operands}
+use Rattle.naga_ir.specs.declared.expression.Expression.{Expression}
+use Rattle.naga_ir.specs.declared.expression.Expression.TheVariants as form
+use Rattle.naga_ir.specs.declared.reference.Reference.{Reference}
+use Rattle.naga_ir.specs.declared.reference.Reference.TheVariants as to
+use Rattle.naga_operands.specs.Surroundings.{CanJudge, ExpressionSurroundings}
+
+operands_of_access : (base index : ℕ) → operands (form.Access base index) ≡ base ∷ index ∷ []
+unfolding operands
+operands_of_access base index = refl
+
+operands_of_load : (pointer : ℕ) → operands (form.Load pointer) ≡ pointer ∷ []
+unfolding operands
+operands_of_load pointer = refl
+
+operands_of_select : (condition accept reject : ℕ) → operands (form.Select condition accept reject) ≡ condition ∷ accept ∷ reject ∷ []
+unfolding operands
+operands_of_select condition accept reject = refl
+
+operands_of_array_length : (array : ℕ) → operands (form.ArrayLength array) ≡ array ∷ []
+unfolding operands
+operands_of_array_length array = refl
+
+operands_of_composition : (ty : ℕ) (components : List ℕ) → operands (form.Compose ty components) ≡ components
+unfolding operands
+operands_of_composition ty components = refl
+
+named_by_zero : (ty : ℕ) → named_type (form.ZeroValue ty) ≡ Some ty
+unfolding named_type
+named_by_zero ty = refl
+
+named_by_composition : (ty : ℕ) (components : List ℕ) → named_type (form.Compose ty components) ≡ Some ty
+unfolding named_type
+named_by_composition ty components = refl
+
+named_by_workgroup_load : (ty : ℕ) → named_type (form.WorkGroupUniformLoadResult ty) ≡ Some ty
+unfolding named_type
+named_by_workgroup_load ty = refl
+
+among : (x : Expression) (os : List ℕ) (o : ℕ) → operands x ≡ os → Contains os o → Contains (operands x) o
+among x os o is within = subst (λ (os : List ℕ). Contains os o) (sym is) within
+
+-- the second operand of an access
+pub index_of_access : (x : Expression) (base index : ℕ) → x ≡ form.Access base index → Contains (operands x) index
+index_of_access x base index is = among x (base ∷ index ∷ []) index (ap operands is ∙ operands_of_access base index) (1, omega arith, refl)
+
+-- the operand of a load
+pub of_load : (x : Expression) (pointer : ℕ) → x ≡ form.Load pointer → Contains (operands x) pointer
+of_load x pointer is = among x (pointer ∷ []) pointer (ap operands is ∙ operands_of_load pointer) (0, omega arith, refl)
+
+-- the first and the last operand of a selection
+pub condition_of_select : (x : Expression) (condition accept reject : ℕ) → x ≡ form.Select condition accept reject → Contains (operands x) condition
+condition_of_select x condition accept reject is = among x (condition ∷ accept ∷ reject ∷ []) condition (ap operands is ∙ operands_of_select condition accept reject) (0, omega arith, refl)
+
+pub reject_of_select : (x : Expression) (condition accept reject : ℕ) → x ≡ form.Select condition accept reject → Contains (operands x) reject
+reject_of_select x condition accept reject is = among x (condition ∷ accept ∷ reject ∷ []) reject (ap operands is ∙ operands_of_select condition accept reject) (2, omega arith, refl)
+
+-- the operand of the length of an array
+pub of_array_length : (x : Expression) (array : ℕ) → x ≡ form.ArrayLength array → Contains (operands x) array
+of_array_length x array is = among x (array ∷ []) array (ap operands is ∙ operands_of_array_length array) (0, omega arith, refl)
+
+module _ (s : ExpressionSurroundings) (root : ℕ) (x : Expression) (can : CanJudge s root x) where
+  -- the type of an operand is known
+  pub typed : (o : ℕ) → Contains (operands x) o → o < length s.types
+  typed o within = All-contains (λ o. o < length s.types) (operands x) o can.typed within
+
+  -- an operand is an expression of the function
+  pub there : (o : ℕ) → Contains (operands x) o → o < length s.function.expressions
+  there o within =
+      All-contains (Exists (function_counts s.«module» s.function)) (expression_references x) (to.Expression o) can.references
+      (Contains-append_left (map to.Expression (operands x)) (named_references x) (to.Expression o) (contains-map to.Expression (operands x) o within))
+
+  -- the type that is named exists
+  type_there : (ty : ℕ) → named_type x ≡ Some ty → ty < length s.«module».types
+  type_there ty is = All-contains (Exists (function_counts s.«module» s.function)) (expression_references x) (to.Type_ ty) can.references (type_in x ty is)
+
+  pub zero_type : (ty : ℕ) → x ≡ form.ZeroValue ty → ty < length s.«module».types
+  zero_type ty is = type_there ty (ap named_type is ∙ named_by_zero ty)
+
+  pub composed_type : (ty : ℕ) (components : List ℕ) → x ≡ form.Compose ty components → ty < length s.«module».types
+  composed_type ty components is = type_there ty (ap named_type is ∙ named_by_composition ty components)
+
+  pub workgroup_load_type : (ty : ℕ) → x ≡ form.WorkGroupUniformLoadResult ty → ty < length s.«module».types
+  workgroup_load_type ty is = type_there ty (ap named_type is ∙ named_by_workgroup_load ty)
+
+  -- the types of components are known
+  pub components_typed : (ty : ℕ) (components : List ℕ) → x ≡ form.Compose ty components → All (λ o. o < length s.types) components
+  components_typed ty components is = subst (λ (os : List ℕ). All (λ o. o < length s.types) os) (ap operands is ∙ operands_of_composition ty components) can.typed
