@@ -1,10 +1,12 @@
-use Rattle.std.proofs.Common.{◌≡◌, Ok, Result, ap, inl, refl, subst, sym}
+use Rattle.std.proofs.Common.{◌≡◌, ◌<◌, ◌⊎◌, All, Bool, List, Ok, Result, ap, inl, inr, length, refl, subst, sym, ℕ}
 use Rattle.naga_flags.specs.declared.flags.ShaderStages.{ShaderStages}
 use Rattle.naga_ir.specs.declared.expression.Expression.{Expression}
 use Rattle.naga_exprs.specs.ExpressionRule.{IsExpressionResult, IsMeant}
 use Rattle.naga_operands.specs.declared.error.ExpressionError.{ExpressionError}
 use Rattle.naga_exprs.proofs.Known.{components_typed, composed_type, condition_of_select, index_of_access, of_array_length, of_load, reject_of_select, there, typed, workgroup_load_type, zero_type}
 use Rattle.naga_exprs.proofs.expression.validate_form.Goals as goal
+use Rattle.naga_ir.specs.declared.expression.Expression.TheVariants as form
+use Rattle.naga_operands.specs.Stages.{every_stage}
 use Rattle.naga_operands.specs.Surroundings.{ExpressionSurroundings, surroundings}
 use Rattle.naga_typing.proofs.FormOperands.{accepted_of_select, left_of_binary, of_access, of_access_index, of_as, of_derivative, of_relational, of_splat, of_swizzle, of_unary, right_of_binary}
 
@@ -81,5 +83,25 @@ returns-in-CallResult c =
     let result : Result ShaderStages ExpressionError = Ok c.validate_call_result.result in
     as_meant s c.args.expression.now result (subst (λ x. IsMeant s x result) (sym c.in-CallResult.is) (ap Ok c.validate_call_result.ensures))
 
+-- every stage may use a constant, an override, a variable and the result of an atomic operation
+every_stage_meant : (s : ExpressionSurroundings) (x : Expression) (result : Result ShaderStages ExpressionError)
+    → ((c : ℕ) × (x ≡ form.Constant c)) ⊎ (((o : ℕ) × (x ≡ form.Override o)) ⊎ (((v : ℕ) × (x ≡ form.GlobalVariable v)) ⊎ (((v : ℕ) × (x ≡ form.LocalVariable v)) ⊎ ((ty : ℕ) × (comparison : Bool) × (x ≡ form.AtomicResult ty comparison)))))
+    → result ≡ Ok every_stage → IsMeant s x result
+every_stage_meant s x result (inl (c, e)) h = subst (λ x. IsMeant s x result) (sym e) h
+every_stage_meant s x result (inr (inl (o, e))) h = subst (λ x. IsMeant s x result) (sym e) h
+every_stage_meant s x result (inr (inr (inl (v, e)))) h = subst (λ x. IsMeant s x result) (sym e) h
+every_stage_meant s x result (inr (inr (inr (inl (v, e))))) h = subst (λ x. IsMeant s x result) (sym e) h
+every_stage_meant s x result (inr (inr (inr (inr (ty, comparison, e))))) h = subst (λ x. IsMeant s x result) (sym e) h
+
 pub returns-in-Constant : goal.returns-in-Constant
-returns-in-Constant c = ?
+returns-in-Constant c =
+    let s = surroundings c.args.context in
+    let result : Result ShaderStages ExpressionError = Ok c.every_stage.result in
+    as_meant s c.args.expression.now result (every_stage_meant s c.args.expression.now result c.in-Constant.is (ap Ok c.every_stage.ensures))
+
+pub validate_composition-requires-clause-components :
+    goal.validate_composition-requires-clause-components
+validate_composition-requires-clause-components c =
+    let bound = length c.args.context.info.now.types in
+    subst (λ (os : List ℕ). All (λ o. o < bound) os) (sym c.as_slice.ensures)
+    (components_typed (surroundings c.args.context) c.args.root c.args.expression.now c.requires.can_judge c.in-Compose.ty c.in-Compose.components c.in-Compose.is)
