@@ -4,9 +4,11 @@ ghost use Rattle.std.specs.Prelude.{◌≡◌, ◌<◌, ◌≤◌, ◌⊎◌, �
 ghost use Rattle.naga_arena.specs.Memory.{UnlessOutOfMemory};
 ghost use Rattle.naga_arena.specs.Span.{inner_of};
 ghost use Rattle.naga_const_exprs.specs.ConstExpression.{literal_rule};
+ghost use Rattle.naga_exprs.specs.ExpressionRule.{IsCovered, IsExpressionResult};
 ghost use Rattle.naga_flags.specs.Width.{width_rule};
 ghost use Rattle.naga_ir.specs.Handles.{HandlesAccepted};
 ghost use Rattle.naga_ir.specs.ItemReferences.{global_lists};
+ghost use Rattle.naga_operands.specs.Surroundings.{CanJudge};
 ghost use Rattle.naga_types.specs.AcceptedTypes.{IsLaidOut, judged_by, rule_at};
 ghost use Rattle.naga_types.specs.HostLeaves.{AllLeavesAreSeparate};
 ghost use Rattle.naga_types.specs.RuleResults.{IsRuleResult};
@@ -23,23 +25,26 @@ use crate::override_ids::OverrideIds;
 use crate::values::{name_of, validate_values};
 use bitflags::Flags;
 use naga_const_exprs::const_expression::validate_literal;
+use naga_exprs::expression::validate_expression;
 use naga_flags::flags::{Capabilities, ShaderStages, SubgroupOperationSet, ValidationFlags};
 use naga_flags::width::{ImmediateCompatibility, WidthError, check_width};
 use naga_handles::handles::validate_module_handles;
 use naga_infos::context::ExprContext;
 use naga_infos::error::{ConstExpressionError, LiteralError};
-use naga_infos::module_info::ModuleInfo;
-use naga_ir::expression::Literal;
+use naga_infos::module_info::{FunctionInfo, ModuleInfo};
+use naga_ir::expression::{Expression, Literal};
 use naga_ir::handle::Handle;
-use naga_ir::ir::Module;
+use naga_ir::ir::{Function, Module};
 use naga_ir::memory::OutOfMemory;
 use naga_ir::span::WithSpan;
-use naga_ir::tags::TypeTag;
+use naga_ir::tags::{ExpressionTag, TypeTag};
 use naga_ir::types::Scalar;
+use naga_operands::error::ExpressionError;
 use naga_types::error::TypeError;
 use naga_types::info::{TypeContext, TypeInfo, TypeInfos};
 use naga_types::validate::validate_type;
 use naga_typing::context::to_ctx;
+use naga_typing::expression_kind::ExpressionKindTracker;
 use naga_typing::layouter::{LayoutErrorInner, Layouter};
 use naga_typing::plain_typing::PlainTyping;
 use naga_typing::typifier::ResolveError;
@@ -327,6 +332,57 @@ impl<T: Typing> Validator<T> {
         ensures { result ≡ literal_rule self.now.capabilities.0 literal }
     {
         validate_literal(self.capabilities, literal)
+    }
+
+    /// The pipeline stages that may use an expression of a function, under the capabilities and the
+    /// subgroup stages of the validator. What is asked of the arguments, and the cost, are those of the
+    /// function `validate_expression`.
+    ///
+    /// # Errors
+    ///
+    /// Those of the function `validate_expression`.
+    pub fn validate_expression(
+        &self,
+        overrides_resolved: bool,
+        root: Handle<ExpressionTag>,
+        expression: &Expression,
+        function: &Function,
+        module: &Module,
+        info: &FunctionInfo,
+        mod_info: &ModuleInfo,
+        kinds: &ExpressionKindTracker,
+    ) -> Result<ShaderStages, ExpressionError>
+        requires can_judge { CanJudge (record {
+          capabilities = self.now.capabilities.0;
+          resolved = overrides_resolved;
+          subgroup_stages = self.now.subgroup_stages;
+          «module» = «module».now;
+          function = function.now;
+          types = info.now.types;
+          infos = mod_info.now.lists;
+          kinds = kinds.now;
+        }) root expression.now }
+        requires covered { IsCovered expression.now }
+        ensures { IsExpressionResult (record {
+          capabilities = self.now.capabilities.0;
+          resolved = overrides_resolved;
+          subgroup_stages = self.now.subgroup_stages;
+          «module» = «module».now;
+          function = function.now;
+          types = info.now.types;
+          infos = mod_info.now.lists;
+          kinds = kinds.now;
+        }) expression.now result }
+    {
+        let ctx = ExprContext {
+            capabilities: self.capabilities,
+            overrides_resolved,
+            subgroup_stages: self.subgroup_stages,
+            typing: &self.typing,
+        };
+        validate_expression(
+            self.alloc, ctx, root, expression, function, module, info, mod_info, kinds,
+        )
     }
 
     /// How many types the module last accepted has.
