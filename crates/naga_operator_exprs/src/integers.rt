@@ -124,10 +124,7 @@ fn source<'a>(context: FunctionContext<'a>, place: Place) -> Place
 }
 
 /// The components of a composition; other expressions have none.
-fn components_at<'a>(
-    context: FunctionContext<'a>,
-    place: &Place,
-) -> &'a [Handle<ExpressionTag>]
+fn components_at<'a>(context: FunctionContext<'a>, place: &Place) -> &'a [Handle<ExpressionTag>]
     requires { PlaceExists (surroundings context) place.now }
     ensures { AreComponents (surroundings context.entry) place.now result.now }
 {

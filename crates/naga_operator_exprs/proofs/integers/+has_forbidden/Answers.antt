@@ -78,8 +78,13 @@ returns t c =
     let items = c.components_at-component-items.result.now in
     let x = c.expression_at.result.now in
     let at = c.expression_at.ensures in
-    let ended : length items ≤ c.loop-component.component-index = search rules in
-    (λ h. let own = c.is_forbidden_itself.ensures.yes h in (own.0, c.source-last.ensures.source.given own.0 (itself last x own.0 at own.1), own.2),
-    λ h. c.is_forbidden_itself.ensures.no (h.0, by_itself s last x h.0 (c.source-last.ensures.source.taken h.0 h.1) at (c.source-last.ensures.last x at)
-    (λ ty components o is within inside. not_among s f last items c.loop-component.component-index o c.loop-component.invariant ended
-    (subst (λ (os : List ℕ). Contains os o) (sym (c.components_at-component-items.ensures.of_composition ty components (at ∙ ap Some is))) within) (h.0, inside, h.2)), h.2))
+    let ended : length items ≤ c.loop-component.component-index = search rules in (
+      λ h. let own = c.is_forbidden_itself.ensures.yes h in (own.0, c.source-last.ensures.source.given own.0 (itself last x own.0 at own.1), own.2),
+      λ h. c.is_forbidden_itself.ensures.no (
+        h.0,
+        by_itself s last x h.0 (c.source-last.ensures.source.taken h.0 h.1) at (c.source-last.ensures.last x at)
+            (λ ty components o is within inside. not_among s f last items c.loop-component.component-index o c.loop-component.invariant ended
+            (subst (λ (os : List ℕ). Contains os o) (sym (c.components_at-component-items.ensures.of_composition ty components (at ∙ ap Some is))) within) (h.0, inside, h.2)),
+        h.2,
+      ),
+    )
