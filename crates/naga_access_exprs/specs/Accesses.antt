@@ -49,14 +49,14 @@ abbrev pub lengths : Truth → GlobalLists → LengthOfArray
 lengths true g = resolved_length g
 lengths false g = pending_length
 
--- a constant index is below the length of its base, if that is known
+-- the refusal of a constant index, unless it is below the length of its base, or that is not known
 abbrev pub past_end : ℕ → ℕ → Result IndexableLength IndexableLengthError → Option ExpressionError
 past_end base value (Ok (Known n)) = unless (ltb value n) (refusal.IndexOutOfBounds base value)
 past_end base value (Ok Pending) = None
 past_end base value (Ok Dynamic) = None
 past_end base value (Err error) = Some (refusal.IndexableLength error)
 
--- if an index is a constant, it is a number below the length of its base
+-- the refusal of an index, unless it is no constant, or a number that is allowed
 abbrev pub bad_constant : ℕ → ℕ → Result IndexableLength IndexableLengthError → Result ℕ ConstValueError → Option ExpressionError
 bad_constant base index length (Ok value) = past_end base value length
 bad_constant base index length (Err Negative) = Some (refusal.NegativeIndex base)
@@ -123,7 +123,7 @@ index_limit types (Sampler comparison) = None
 index_limit types (AccelerationStructure vertex_return) = None
 index_limit types (RayQuery vertex_return) = None
 
--- a base has a limit, and the index is below it
+-- the refusal of a known index, unless its base has a limit and the index is below it
 abbrev pub not_below : ℕ → ℕ → Option ℕ → Option ExpressionError
 not_below base index None = Some (refusal.InvalidBaseType base)
 not_below base index (Some limit) = unless (ltb index limit) (refusal.IndexOutOfBounds base index)

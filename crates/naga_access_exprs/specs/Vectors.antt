@@ -37,15 +37,15 @@ component_index Y = 1
 component_index Z = 2
 component_index W = 3
 
--- a vector of this size has a component
+-- the refusal of a component, unless a vector of this size has it
 abbrev pub lacks_component : VectorSize → SwizzleComponent → Option ExpressionError
 lacks_component size component = unless (ltb (component_index component) (components size)) (refusal.InvalidSwizzleComponent component size)
 
--- a vector of this size has each of some components
+-- the refusal of the first component that a vector of this size lacks
 abbrev pub first_lacking : VectorSize → List SwizzleComponent → Option ExpressionError
 first_lacking size wanted = first (map (lacks_component size) wanted)
 
--- what is swizzled is a vector, and has the first components of the pattern, as many as are taken
+-- the refusal of a swizzle, unless a vector is swizzled, and has the first components of the pattern, as many as are taken
 abbrev pub bad_swizzle : ℕ → VectorSize → List SwizzleComponent → Option VectorSize → Option ExpressionError
 bad_swizzle vector taken pattern None = Some (refusal.InvalidVectorType vector)
 bad_swizzle vector taken pattern (Some size) = first_lacking size (take (components taken) pattern)

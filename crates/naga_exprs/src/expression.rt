@@ -90,15 +90,20 @@ fn validate_form(
     }
 }
 
-/// The pipeline stages that may use an expression of a function. The operands come before `root`, and are
-/// known by `info` and `kinds`; the module's types are accepted, and `mod_info` says what they may be
-/// used for. Forms of images, math, ray queries, subgroups and cooperative matrices can't be judged yet.
+/// The pipeline stages that may use an expression of a function.
 ///
-/// Accepting takes no memory. The cost is linear in the expression's own components, but for integers on
-/// the right of a division or a shift: these are searched through compositions that the expression is
-/// made of, written out in full. If every expression before is accepted, these have at most as many
-/// components as a vector. Global expressions that nobody has checked can be composed of one another so
-/// that the search takes exponential time: each of `vec2(G0, G0)`, `vec2(G1, G1)`, and so on.
+/// The handles of the module and of the function are right, and `mod_info` says of each type what it may
+/// be used for. All that the expression refers to exists. Its operands come before `root`, and `info` and
+/// `kinds` know them; what the types in `info` refer to exists. Each `FunctionArgument` before `root` names
+/// an argument. If the expression is the result of a call, `mod_info` knows the function. Forms of images,
+/// mathematical functions, ray queries, subgroups and cooperative matrices can't be judged yet.
+///
+/// Accepting takes no memory. The cost is linear in the expression's own components, but for the search for
+/// forbidden integers on the right of a division or a shift. It goes through the compositions that a constant
+/// is made of as if they were written out in full, and calls itself at those of several components. If all
+/// these are accepted, they have at most as many components as a vector. Global expressions that nobody has
+/// checked, as without the flag `CONSTANTS`, can make the search take exponential time, by `vec2(G0, G0)`,
+/// `vec2(G1, G1)` and so on, or a stack as deep as their arena, by `vec2(G0, 1)`, `vec2(G1, 1)` and so on.
 ///
 /// # Errors
 ///

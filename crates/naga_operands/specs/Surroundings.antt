@@ -41,7 +41,7 @@ surroundings c = record {
   kinds = c.kinds.now;
 }
 
--- a form, or if there is none that of samplers
+-- a form; there is one for each operand that is known, so that the other is never met
 abbrev pub form_in : Option TypeInner → TypeInner
 form_in (Some inner) = inner
 form_in None = Sampler false

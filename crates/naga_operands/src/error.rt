@@ -70,8 +70,8 @@ pub enum ExpressionError {
         accept: TypeInner,
         reject: TypeInner,
     },
-    /// The condition of a selection is no truth value, nor a vector of as many as the values have
-    /// components.
+    /// The condition of a selection is neither a truth value nor a vector of as many as the values have
+    /// components; or the values are neither scalars nor vectors.
     SelectConditionNotABool {
         /// The type of the condition.
         actual: TypeInner,
@@ -99,7 +99,7 @@ pub enum ExpressionError {
     InvalidImageFormat(StorageFormat),
     /// Never returned: image atomics are not checked here.
     InvalidImageStorageAccess(StorageAccess),
-    /// A derivative is taken of something that is no floating-point number of 32 or 64 bits, nor a
+    /// A derivative is taken of something that is no floating-point number of at least 32 bits, nor a
     /// vector of such.
     InvalidDerivative,
     /// An image of layers has no index of one, or another image has.
@@ -157,7 +157,8 @@ pub enum ExpressionError {
     WrongArgumentCount(MathFunction),
     /// The argument of this index has a wrong type.
     InvalidArgumentType(MathFunction, u32, Handle<ExpressionTag>),
-    /// A workgroup can't load a value of this type together.
+    /// A workgroup can't load a value of this type together, which has no fixed size or isn't
+    /// constructible.
     InvalidWorkGroupUniformLoadResultType(Handle<TypeTag>),
     /// The expression needs capabilities that aren't given.
     MissingCapabilities(Capabilities),
@@ -167,7 +168,7 @@ pub enum ExpressionError {
     UnsupportedWidth(MathFunction, ScalarKind, u8),
     /// An operand of a cooperative multiplication is no cooperative matrix of its role.
     InvalidCooperativeOperand(Handle<ExpressionTag>),
-    /// An integer is shifted by at least as many bits as it has.
+    /// An integer is shifted by a constant of at least as many bits as it has, or that has such a component.
     ShiftAmountTooLarge {
         /// The type of what is shifted.
         lhs_type: TypeInner,
@@ -176,7 +177,7 @@ pub enum ExpressionError {
     },
     /// An integer is divided by a constant that is zero, or has a component that is.
     DivideByZero,
-    /// A request for memory was refused, for the types in an error.
+    /// A request for memory was refused, for the types or the text in an error.
     OutOfMemory,
 }
 

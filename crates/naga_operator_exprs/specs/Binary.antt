@@ -97,7 +97,7 @@ operands_fit ShiftRight x y = can_shift (vector_size_and_scalar x) (vector_size_
 abbrev pub bits_per_byte : ℕ
 bits_per_byte = 8
 
--- integers are not shifted by as many bits as they have
+-- by how much a form is not shifted: an integer by as many bits as it has, or more
 abbrev pub forbidden_shift : Option (Option VectorSize × ScalarType) → Option Forbidden
 forbidden_shift (Some x) = only_if (is_integer x.1.kind) (Some (AtLeast (bits_per_byte * x.1.width)))
 forbidden_shift None = None

@@ -72,7 +72,7 @@ abbrev pub is_vector_of_bools : Option (Option VectorSize × ScalarType) → Tru
 is_vector_of_bools (Some found) = is_some found.0 && is_bool found.1.kind
 is_vector_of_bools None = false
 
--- the argument of a query of truth values is a vector of such, and that of a query of numbers a floating-point number or a vector of such
+-- the refusal of an argument, unless that of a query of truth values is a vector of such, and that of a query of numbers a floating-point number or a vector of such
 abbrev pub bad_argument : RelationalFunction → ℕ → TypeInner → Option ExpressionError
 bad_argument All e inner = unless (is_vector_of_bools (vector_size_and_scalar inner)) (refusal.InvalidBooleanVector e)
 bad_argument Any e inner = unless (is_vector_of_bools (vector_size_and_scalar inner)) (refusal.InvalidBooleanVector e)

@@ -193,8 +193,9 @@ fn refuse_constant(
 /// # Errors
 ///
 /// - `InvalidBinaryOperandTypes` if the operator doesn't take such a pair of values.
-/// - `ShiftAmountTooLarge` if integers are shifted by a constant that is at least the number of their bits.
-/// - `DivideByZero` if integers are divided by a constant that is 0.
+/// - `ShiftAmountTooLarge` if integers are shifted by a constant that is at least the number of their bits,
+///   or has such a component.
+/// - `DivideByZero` if integers are divided by a constant that is 0, or has such a component.
 /// - `OutOfMemory` if memory was refused for a struct in one of these.
 pub fn validate_binary(
     context: FunctionContext<'_>,

@@ -77,8 +77,8 @@ fn chooses(
 /// # Errors
 ///
 /// - `SelectValuesTypeMismatch` if the two values have different types.
-/// - `SelectConditionNotABool` if the condition is no truth value, or no vector of as many truth values
-///   as the values have components.
+/// - `SelectConditionNotABool` if the condition is neither a truth value nor a vector of as many truth
+///   values as the values have components, or if the values are neither scalars nor vectors.
 /// - `OutOfMemory` if memory was refused for a struct in one of these.
 pub fn validate_select(
     context: FunctionContext<'_>,
