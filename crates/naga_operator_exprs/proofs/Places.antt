@@ -1,5 +1,5 @@
 -- What expressions refer to exists, and comes before them.
-use Rattle.std.proofs.Common.{◌≡◌, ◌+◌, ◌<◌, ℕ, All, Contains, List, Option, Some, IfSome, length, slice_get, sym, ap, subst, arith, ◌∙◌, refl}
+use Rattle.std.proofs.Common.{◌≡◌, ◌<◌, ℕ, Contains, Some, IfSome, length, slice_get, arith}
 use Rattle.std.proofs.lemmas.List.Elements.{All-weaker}
 use Rattle.std.specs.List.{flat_map}
 use Rattle.naga_ir.proofs.Handles.{global_references_ok}

@@ -1,5 +1,5 @@
 -- Where the integers of an expression come from.
-use Rattle.std.proofs.Common.{◌≡◌, ◌<◌, ◌≤◌, ℕ, ℤ, suc, zero, Contains, List, [], ◌∷◌, Option, Some, length, slice_get, sym, ap, subst, arith, ◌∙◌, refl}
+use Rattle.std.proofs.Common.{◌≡◌, ◌<◌, ◌≤◌, ℕ, ℤ, Contains, List, Some, slice_get, sym, ap, subst, arith, ◌∙◌, refl}
 use Rattle.naga_ir.specs.References.{operands}
 use Rattle.naga_ir.specs.declared.expression.Expression.{Expression}
 use Rattle.naga_ir.specs.declared.expression.Expression.TheVariants as form
@@ -9,8 +9,8 @@ use Rattle.naga_operands.specs.Surroundings.{AreSound, ExpressionSurroundings}
 use Rattle.naga_operator_exprs.proofs.Places.{initialiser_before, initialiser_there, operand_before, operand_exists}
 use Rattle.naga_operator_exprs.specs.Integers.{HasInteger, IsOwnInteger, beside, component, expression_at, initialiser, itself, literal_value, splatted, zero_value}
 use Rattle.naga_operator_exprs.specs.declared.integers.Place.{Place}
-use Rattle.naga_operator_exprs.specs.declared.integers.Place.TheVariants.{InFunction, InModule}
-use Rattle.naga_operator_exprs.specs.steps.Places.{HasNoSource, HasNoSourceAt, IsSource, IsSourceOrItself, PlaceExists, rank}
+use Rattle.naga_operator_exprs.specs.declared.integers.Place.TheVariants.{InModule}
+use Rattle.naga_operator_exprs.specs.steps.Places.{HasNoSource, IsSource, IsSourceOrItself, PlaceExists, rank}
 
 operand_of_splat : (size : VectorSize) (value : ℕ) → Contains (operands (form.Splat size value)) value
 unfolding operands

@@ -1,6 +1,5 @@
 -- The whole numbers in a constant expression.
 use Rattle.std.specs.Prelude.{◌≡◌, ◌==◌, leb, ℕ, ℤ, pos, negsuc, Bool as Truth, true, false, Option, Some, None, Contains, List, slice_get}
-use Rattle.naga_ir.specs.ItemReferences.{global_lists}
 use Rattle.naga_ir.specs.declared.expression.Expression.{Expression}
 use Rattle.naga_ir.specs.declared.expression.Expression.TheVariants as form
 use Rattle.naga_ir.specs.declared.expression.Literal.{Literal}

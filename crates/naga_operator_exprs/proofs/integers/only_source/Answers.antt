@@ -1,4 +1,4 @@
-use Rattle.std.proofs.Common.{◌≡◌, ℕ, Some, Contains, List, get_or, length, refl, sym, ap, subst, arith, ◌∙◌, [], ◌∷◌}
+use Rattle.std.proofs.Common.{◌≡◌, ℕ, Some, Contains, List, get_or, length, sym, ap, subst, arith, ◌∙◌, [], ◌∷◌}
 use Rattle.naga_operands.specs.Surroundings.{surroundings}
 use Rattle.naga_operator_exprs.proofs.Places.{constant_exists}
 use Rattle.naga_operator_exprs.proofs.Sources.{component_source, constant_source, splat_source}
