@@ -1,5 +1,5 @@
 -- What has to be known of the operands of an expression that can be judged.
-use Rattle.std.proofs.Common.{◌≡◌, ◌<◌, ℕ, All, Contains, List, [], ◌∷◌, Option, Some, length, map, option_to_list, refl, sym, ap, subst, arith, ◌∙◌}
+use Rattle.std.proofs.Common.{◌≡◌, ◌<◌, ℕ, All, Contains, List, [], ◌∷◌, Some, length, map, refl, sym, ap, subst, arith, ◌∙◌}
 use Rattle.std.proofs.lemmas.List.Elements.{All-contains, Contains-append_left}
 use Rattle.naga_arena.proofs.Elements.{contains-map}
 use Rattle.naga_ir.proofs.ReferredTo.{type_in}
@@ -8,7 +8,6 @@ use Rattle.naga_ir.specs.ItemReferences.{expression_references, named_references
 use Rattle.naga_ir.specs.References.{named_type, operands}
 use Rattle.naga_ir.specs.declared.expression.Expression.{Expression}
 use Rattle.naga_ir.specs.declared.expression.Expression.TheVariants as form
-use Rattle.naga_ir.specs.declared.reference.Reference.{Reference}
 use Rattle.naga_ir.specs.declared.reference.Reference.TheVariants as to
 use Rattle.naga_operands.specs.Surroundings.{CanJudge, ExpressionSurroundings}
 
