@@ -1,0 +1,2 @@
+mod HoldsBefore
+mod Judged

@@ -1,0 +1,33 @@
+use Rattle.std.proofs.Common.{◌≡◌, ◌<◌, ◌≤◌, ℕ, All, List, Some, length, slice_get, arith, sym, subst, rules}
+use Rattle.naga_expression_tests.proofs.Judged.{can_judge, function_ok}
+use Rattle.naga_expression_tests.proofs.tests.judge.Goals as goal
+use Rattle.naga_ir.specs.ItemReferences.{global_lists}
+use Rattle.naga_operands.specs.Surroundings.{ArgumentsExist, ExpressionSurroundings, ResultIsKnown}
+use Rattle.naga_typing.specs.Resolutions.{ResolutionExists}
+
+pub kinds_of-requires : goal.kinds_of-requires
+kinds_of-requires g c =
+    let two : 1 < length c.args.«module».now.functions = search rules in
+    function_ok c.args.«module».now c.index-function.result.now 1 two (search rules) c.assert_accepted.ensures
+
+pub validate_expression-requires-clause-can_judge : goal.validate_expression-requires-clause-can_judge
+validate_expression-requires-clause-can_judge g c =
+    let m = c.args.«module».now in
+    let f = c.index-function.result.now in
+    let s : ExpressionSurroundings = record {
+      capabilities = c.args.ctx.capabilities.0;
+      resolved = c.args.ctx.overrides_resolved;
+      subgroup_stages = c.args.ctx.subgroup_stages;
+      «module» = m;
+      function = f;
+      types = c.args.types.now.types;
+      infos = c.args.info.now.lists;
+      kinds = c.expect-kinds.result;
+    } in
+    let two : 1 < length m.functions = search rules in
+    let types : All (ResolutionExists (global_lists m)) c.args.types.now.types = search rules in
+    let typed : c.new-root.result ≤ length c.args.types.now.types = search rules in
+    let kinds : c.new-root.result ≤ length c.expect-kinds.result = search rules in
+    let arguments : ArgumentsExist s c.new-root.result = search rules in
+    let called : ResultIsKnown s c.index-expression.result.now = search rules in
+    can_judge s c.new-root.result c.index-expression.result.now c.assert_accepted.ensures (function_ok m f 1 two (search rules) c.assert_accepted.ensures) (search rules) types c.requires.flags typed kinds arguments called

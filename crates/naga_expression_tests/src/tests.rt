@@ -1,0 +1,243 @@
+//! The tests of `naga_exprs::expression`: each expression is the last of a function of a small module.
+
+ghost use Rattle.std.specs.Prelude.{◌≡◌, ◌<◌, ◌≤◌, ℕ, All, IfOk, IsTrue, Some, length, slice_get};
+ghost use Rattle.naga_exprs.specs.ExpressionRule.{IsCovered};
+ghost use Rattle.naga_ir.specs.Handles.{FunctionReferencesOk, HandlesAccepted};
+ghost use Rattle.naga_ir.specs.ItemReferences.{global_lists};
+ghost use Rattle.naga_ir.specs.declared.expression.Expression.TheVariants as form;
+ghost use Rattle.naga_typing.specs.Resolutions.{ResolutionExists};
+
+mod forms;
+mod operands;
+
+use bitflags::Flags;
+use naga_exprs::expression::validate_expression;
+use naga_exprs::{ExprContext, ExpressionError, FunctionInfo, ModuleInfo};
+use naga_flags::flags::{Capabilities, ShaderStages, TypeFlags};
+use naga_handles::handles::validate_module_handles;
+use naga_ir::expression::Expression;
+use naga_ir::handle::Handle;
+use naga_ir::ir::{Function, Module};
+use naga_ir::memory::OutOfMemory;
+use naga_ir::types::{ArraySize, TypeInner};
+use naga_ir::unique_arena::UniqueArena;
+use naga_text::text::read_text;
+use naga_typing::expression_kind::ExpressionKindTracker;
+use naga_typing::plain_typing::PlainTyping;
+use naga_typing::typifier::TypeResolution;
+use operands::{ITEMS, add_function, types_of};
+use std::alloc::Global;
+use std::fmt::Debug;
+use std::process::Abort;
+
+/// Makes sure that a value is as wanted, for one row of a table.
+fn assert_same_for<R: Debug, T: Debug + PartialEq>(rt: &impl Abort, row: &R, got: &T, want: &T) {
+    assert!(rt; *got == *want, "{row:?}: {got:?}, and not {want:?}");
+}
+
+/// What a type may be used for, as far as expressions are judged by it.
+fn flags_of(inner: &TypeInner) -> TypeFlags {
+    match inner {
+        TypeInner::Array { size, .. } => match size {
+            ArraySize::Constant(_) => TypeFlags::all(),
+            ArraySize::Pending(_) => TypeFlags::SIZED.union(TypeFlags::DATA),
+            ArraySize::Dynamic => TypeFlags::DATA,
+        },
+        TypeInner::Atomic(_) => TypeFlags::SIZED.union(TypeFlags::DATA),
+        TypeInner::Pointer { .. } | TypeInner::ValuePointer { .. } => {
+            TypeFlags::SIZED.union(TypeFlags::COPY)
+        }
+        TypeInner::Scalar(_)
+        | TypeInner::Vector { .. }
+        | TypeInner::Matrix { .. }
+        | TypeInner::Struct { .. } => TypeFlags::all(),
+        _ => TypeFlags::empty(),
+    }
+}
+
+/// What is known of types, and of one function, which fragment shaders may use.
+fn known(alloc: Global, types: &UniqueArena) -> Result<ModuleInfo, OutOfMemory>
+    ensures flags { IfOk result (λ info. length info.lists.type_flags ≡ length types.now) }
+    ensures functions { IfOk result (λ info. length info.lists.functions ≡ 1) }
+{
+    let mut info = ModuleInfo::new(alloc);
+    let types = types.as_slice();
+    for index in 0..types.len() {
+        info.push_type(flags_of(&types[index].inner))?;
+    }
+    info.push_function(FunctionInfo::new(alloc, ShaderStages::FRAGMENT))?;
+    Ok(info)
+}
+
+/// Makes sure that the handles of a module are right.
+fn assert_accepted(rt: &impl Abort, alloc: Global, module: &Module)
+    ensures { HandlesAccepted «module».now }
+{
+    assert!(rt; validate_module_handles(alloc, module).is_ok());
+}
+
+/// Whether a resolution is a handle of a type that is there.
+fn exists(resolution: &TypeResolution, module: &Module) -> bool
+    ensures { IsTrue result → ResolutionExists (global_lists «module».now) resolution.now }
+{
+    match resolution {
+        TypeResolution::Handle(handle) => handle.index() < module.types.len(),
+        TypeResolution::Value(_) => false,
+    }
+}
+
+/// Whether all of these are so.
+fn all_exist(resolutions: &[TypeResolution], module: &Module) -> bool
+    ensures { IsTrue result → All (ResolutionExists (global_lists «module».now)) resolutions.now }
+{
+    for index in 0..resolutions.len() {
+        if !exists(&resolutions[index], module) {
+            return false;
+        }
+    }
+    true
+}
+
+/// Whether an expression is no argument that a function with so many has not.
+fn argument_exists(expression: &Expression, count: usize) -> bool
+    ensures { IsTrue result → (i : ℕ) → expression.now ≡ form.FunctionArgument i → i < count }
+{
+    match expression {
+        Expression::FunctionArgument(index) => (*index as usize) < count,
+        _ => true,
+    }
+}
+
+/// Whether all arguments exist that the expressions before a place name.
+fn arguments_exist(function: &Function, root: usize) -> bool
+    requires { root ≤ length function.now.expressions }
+    ensures { IsTrue result → (e i : ℕ) → e < root → slice_get function.now.expressions e ≡ Some (form.FunctionArgument i) → i < length function.now.arguments }
+{
+    let expressions = function.expressions.as_slice();
+    for index in 0..root {
+        if !argument_exists(&expressions[index], function.arguments.len()) {
+            return false;
+        }
+    }
+    true
+}
+
+/// Whether an expression is no result of another function than the first.
+fn is_known(expression: &Expression) -> bool
+    ensures { IsTrue result → (f : ℕ) → expression.now ≡ form.CallResult f → f < 1 }
+{
+    match expression {
+        Expression::CallResult(function) => function.index() == 0,
+        _ => true,
+    }
+}
+
+/// Whether the form of an expression can be judged.
+fn is_covered(expression: &Expression) -> bool
+    ensures { IsTrue result → IsCovered expression.now }
+{
+    !matches!(
+        expression,
+        Expression::ImageSample { .. }
+            | Expression::ImageLoad { .. }
+            | Expression::ImageQuery { .. }
+            | Expression::Math { .. }
+            | Expression::RayQueryProceedResult
+            | Expression::RayQueryGetIntersection { .. }
+            | Expression::RayQueryVertexPositions { .. }
+            | Expression::SubgroupBallotResult
+            | Expression::SubgroupOperationResult { .. }
+            | Expression::CooperativeLoad { .. }
+            | Expression::CooperativeMultiplyAdd { .. }
+    )
+}
+
+/// The kinds of a function's expressions.
+fn kinds_of(
+    alloc: Global,
+    module: &Module,
+    function: &Function,
+) -> Result<ExpressionKindTracker, OutOfMemory>
+    requires { FunctionReferencesOk «module».now function.now }
+    ensures { IfOk result (λ kinds. length kinds ≡ length function.now.expressions) }
+{
+    ExpressionKindTracker::from_arena(alloc, &function.expressions)
+}
+
+/// What is said of the last expression of a module's second function.
+fn judge(
+    rt: &(impl AllocGlobal + Abort),
+    ctx: ExprContext<'_, PlainTyping>,
+    module: &Module,
+    types: &FunctionInfo,
+    info: &ModuleInfo,
+) -> Result<ShaderStages, ExpressionError>
+    requires flags { length «module».now.types ≤ length info.now.lists.type_flags }
+    requires functions { length info.now.lists.functions ≡ 1 }
+{
+    assert_accepted(rt, rt.alloc(), module);
+    assert!(rt; module.functions.len() == 2);
+    let function = &module.functions[Handle::new(1)];
+    let count = function.expressions.len();
+    assert!(rt; 0 < count);
+    let root = Handle::new((count - 1) as u32);
+    let expression = &function.expressions[root];
+    assert!(rt; is_covered(expression));
+    assert!(rt; is_known(expression));
+    assert!(rt; arguments_exist(function, count - 1));
+    assert!(rt; all_exist(types.types.as_slice(), module));
+    assert!(rt; count - 1 <= types.types.len());
+    let kinds = kinds_of(rt.alloc(), module, function).expect(rt, "memory");
+    validate_expression(
+        rt.alloc(),
+        ctx,
+        root,
+        expression,
+        function,
+        module,
+        types,
+        info,
+        &kinds,
+    )
+}
+
+/// What is said of an expression among the operands.
+fn said_of(
+    rt: &(impl AllocGlobal + Abort),
+    ctx: ExprContext<'_, PlainTyping>,
+    expression: Expression,
+) -> Result<ShaderStages, ExpressionError> {
+    let mut contents = read_text(rt.alloc(), ITEMS.as_bytes()).expect(rt, "readable");
+    add_function(rt, rt.alloc(), &mut contents.module, expression).expect(rt, "memory");
+    let types = types_of(rt.alloc()).expect(rt, "memory");
+    let info = known(rt.alloc(), &contents.module.types).expect(rt, "memory");
+    judge(rt, ctx, &contents.module, &types, &info)
+}
+
+/// Makes sure of what is said of an expression, with what a shader may use by default.
+fn assert_said(
+    rt: &(impl AllocGlobal + Abort),
+    expression: Expression,
+    want: &Result<ShaderStages, ExpressionError>,
+) {
+    let ctx = ExprContext {
+        capabilities: Capabilities::default(),
+        overrides_resolved: false,
+        subgroup_stages: ShaderStages::all(),
+        typing: &PlainTyping,
+    };
+    assert_same_for(rt, &"expression", &said_of(rt, ctx, expression), want);
+}
+
+/// Makes sure that an expression is accepted, or that it is not.
+fn assert_accepted_if(rt: &(impl AllocGlobal + Abort), expression: Expression, ok: bool) {
+    let ctx = ExprContext {
+        capabilities: Capabilities::default(),
+        overrides_resolved: false,
+        subgroup_stages: ShaderStages::all(),
+        typing: &PlainTyping,
+    };
+    let shown = format!(in rt.alloc(); "{expression:?}").expect(rt, "memory");
+    let said = said_of(rt, ctx, expression);
+    assert!(rt; said.is_ok() == ok, "{shown}: {said:?}");
+}
