@@ -8,9 +8,7 @@ ghost use Rattle.naga_access_exprs.specs.Vectors.{swizzle_rule};
 ghost use Rattle.naga_ir.specs.Handles.{GlobalReferencesOk};
 ghost use Rattle.naga_ir.specs.ItemReferences.{global_lists};
 ghost use Rattle.naga_operands.specs.Surroundings.{AreSound, surroundings};
-ghost use Rattle.naga_operands.specs.Words.{is_scalar_that};
 ghost use Rattle.naga_types.specs.Judging.{granted};
-ghost use Rattle.naga_types.specs.TypeRule.{is_integer};
 ghost use Rattle.naga_typing.specs.Context.{ReferencesExist};
 ghost use Rattle.naga_typing.specs.Index.{IsLength};
 ghost use Rattle.naga_typing.specs.Resolutions.{PartsExist};
@@ -20,10 +18,11 @@ use naga_ir::expression::SwizzleComponent;
 use naga_ir::handle::Handle;
 use naga_ir::ir::Module;
 use naga_ir::tags::ExpressionTag;
-use naga_ir::types::{ArraySize, ScalarKind, TypeInner, VectorSize};
+use naga_ir::types::{ArraySize, TypeInner, VectorSize};
 use naga_ir::unique_arena::UniqueArena;
 use naga_operands::context::{FunctionContext, every_stage};
 use naga_operands::error::ExpressionError;
+use naga_operands::type_methods::is_integer_scalar;
 use naga_typing::context::{ConstValueError, get_const_val_from, to_ctx};
 use naga_typing::index::{
     IndexableLength, IndexableLengthError, indexable_length_pending, indexable_length_resolved,
@@ -49,28 +48,6 @@ fn has_parts(inner: &TypeInner) -> bool
         | TypeInner::Sampler { .. }
         | TypeInner::AccelerationStructure { .. }
         | TypeInner::RayQuery { .. } => false,
-    }
-}
-
-/// Whether a form is that of one integer, of any width.
-fn is_integer_scalar(inner: &TypeInner) -> bool
-    ensures { result ≡ is_scalar_that (λ scalar. is_integer scalar.kind) inner.now }
-{
-    match inner {
-        TypeInner::Scalar(scalar) => matches!(scalar.kind, ScalarKind::Sint | ScalarKind::Uint),
-        TypeInner::Vector { .. }
-        | TypeInner::Matrix { .. }
-        | TypeInner::CooperativeMatrix { .. }
-        | TypeInner::Atomic(_)
-        | TypeInner::Pointer { .. }
-        | TypeInner::ValuePointer { .. }
-        | TypeInner::Array { .. }
-        | TypeInner::Struct { .. }
-        | TypeInner::Image { .. }
-        | TypeInner::Sampler { .. }
-        | TypeInner::AccelerationStructure { .. }
-        | TypeInner::RayQuery { .. }
-        | TypeInner::BindingArray { .. } => false,
     }
 }
 

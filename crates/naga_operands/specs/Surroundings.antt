@@ -83,3 +83,7 @@ pub record CanJudge (s : ExpressionSurroundings) (root : ℕ) (x : Expression) :
   pub kinds : All (λ o. o < length s.kinds) (operands x)
   pub arguments : ArgumentsExist s root
   pub called : ResultIsKnown s x
+
+-- an expression can be judged at some place
+abbrev pub IsJudgeable : ExpressionSurroundings → Expression → Type 0
+IsJudgeable s x = (root : ℕ) × CanJudge s root x

@@ -1,5 +1,6 @@
 -- What the rules of several forms ask of operands.
-use Rattle.std.specs.Prelude.{◌||◌, Bool as Truth, true, false, Option, Some, None}
+use Rattle.std.specs.Prelude.{◌||◌, ◌&&◌, ◌==◌, ℕ, Bool as Truth, true, false, Option, Some, None}
+use Rattle.naga_ir_types.specs.Sizes.{components}
 use Rattle.naga_ir_types.specs.contracts.types.TypeInnerPartialEq.TheImpl as of_inner
 use Rattle.naga_ir_types.specs.declared.types.Scalar.{Scalar as ScalarType}
 use Rattle.naga_ir_types.specs.declared.types.ScalarKind.{ScalarKind}
@@ -35,22 +36,23 @@ has_scalar is None = false
 abbrev pub consists_of : (ScalarType → Truth) → TypeInner → Truth
 consists_of is inner = has_scalar is (vector_size_and_scalar inner)
 
+-- how many components a scalar or a vector has
+abbrev pub component_count : Option VectorSize → ℕ
+component_count None = 1
+component_count (Some size) = components size
+
+-- there is a scalar that is so, and as many components
+abbrev pub has_components : ℕ → (ScalarType → Truth) → Option (Option VectorSize × ScalarType) → Truth
+has_components count is (Some found) = component_count found.0 == count && is found.1
+has_components count is None = false
+
+-- a form is that of so many scalars that are so: of one, or of a vector
+abbrev pub is_of : ℕ → (ScalarType → Truth) → TypeInner → Truth
+is_of count is inner = has_components count is (vector_size_and_scalar inner)
+
 -- a form is a scalar that is so
 abbrev pub is_scalar_that : (ScalarType → Truth) → TypeInner → Truth
-is_scalar_that is (Scalar scalar) = is scalar
-is_scalar_that is (Vector size scalar) = false
-is_scalar_that is (Matrix columns rows scalar) = false
-is_scalar_that is (CooperativeMatrix columns rows scalar role) = false
-is_scalar_that is (Atomic scalar) = false
-is_scalar_that is (Pointer base space) = false
-is_scalar_that is (ValuePointer size scalar space) = false
-is_scalar_that is (Array base size stride) = false
-is_scalar_that is (Struct members span) = false
-is_scalar_that is (Image dim arrayed class) = false
-is_scalar_that is (Sampler comparison) = false
-is_scalar_that is (AccelerationStructure vertex_return) = false
-is_scalar_that is (RayQuery vertex_return) = false
-is_scalar_that is (BindingArray base size) = false
+is_scalar_that is inner = is_of 1 is inner
 
 -- a kind is that of truth values
 abbrev pub is_bool : ScalarKind → Truth

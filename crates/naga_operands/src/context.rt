@@ -4,7 +4,6 @@ ghost use Rattle.std.specs.Prelude.{◌≡◌, ◌<◌, length};
 ghost use Rattle.naga_ir.specs.ItemReferences.{global_lists};
 ghost use Rattle.naga_operands.specs.Stages as stages;
 ghost use Rattle.naga_operands.specs.Surroundings.{AreSound, flags_at, form_at, surroundings};
-ghost use Rattle.naga_operands.specs.Words as words;
 ghost use Rattle.naga_typing.specs.Context.{ReferencesExist};
 
 use bitflags::Flags;
@@ -13,7 +12,7 @@ use naga_infos::module_info::{FunctionInfo, ModuleInfo};
 use naga_ir::handle::Handle;
 use naga_ir::ir::{Function, Module};
 use naga_ir::tags::{ExpressionTag, TypeTag};
-use naga_ir::types::{Scalar, TypeInner, VectorSize};
+use naga_ir::types::TypeInner;
 use naga_typing::expression_kind::ExpressionKindTracker;
 
 /// What an expression of a function is judged by, beside its form and the typing.
@@ -53,29 +52,6 @@ impl<'a> FunctionContext<'a> {
         ensures { result.0 ≡ flags_at (surroundings self.entry) ty }
     {
         self.mod_info[ty]
-    }
-}
-
-/// The scalar of a scalar or a vector, beside the number of components of a vector: naga's
-/// `TypeInner::vector_size_and_scalar`. Other types have none.
-pub fn vector_size_and_scalar(inner: &TypeInner) -> Option<(Option<VectorSize>, Scalar)>
-    ensures { result ≡ words.vector_size_and_scalar inner.now }
-{
-    match *inner {
-        TypeInner::Scalar(scalar) => Some((None, scalar)),
-        TypeInner::Vector { size, scalar } => Some((Some(size), scalar)),
-        TypeInner::Matrix { .. }
-        | TypeInner::CooperativeMatrix { .. }
-        | TypeInner::Atomic(_)
-        | TypeInner::Pointer { .. }
-        | TypeInner::ValuePointer { .. }
-        | TypeInner::Array { .. }
-        | TypeInner::Struct { .. }
-        | TypeInner::Image { .. }
-        | TypeInner::Sampler { .. }
-        | TypeInner::AccelerationStructure { .. }
-        | TypeInner::RayQuery { .. }
-        | TypeInner::BindingArray { .. } => None,
     }
 }
 

@@ -3,3 +3,4 @@
 
 pub mod context;
 pub mod error;
+pub mod type_methods;

@@ -9,28 +9,16 @@ ghost use Rattle.naga_operator_exprs.specs.Binary as rule;
 ghost use Rattle.naga_types.specs.TypeRule.{is_integer};
 
 use crate::integers::{Forbidden, Place, has_forbidden};
-use crate::product::{can_multiply, is_number};
+use crate::product::can_multiply;
 use naga_flags::flags::ShaderStages;
 use naga_ir::expression::BinaryOperator;
 use naga_ir::handle::Handle;
 use naga_ir::tags::ExpressionTag;
 use naga_ir::types::{Scalar, ScalarKind, TypeInner};
-use naga_operands::context::{FunctionContext, every_stage, vector_size_and_scalar};
+use naga_operands::context::{FunctionContext, every_stage};
 use naga_operands::error::ExpressionError;
+use naga_operands::type_methods::{is_integer, is_number, vector_size_and_scalar};
 use naga_types::type_methods::is_sized;
-
-/// Whether scalars of a kind are integers with a width of their own.
-fn is_integer(kind: ScalarKind) -> bool
-    ensures { result ≡ is_integer kind }
-{
-    match kind {
-        ScalarKind::Sint | ScalarKind::Uint => true,
-        ScalarKind::Float
-        | ScalarKind::Bool
-        | ScalarKind::AbstractInt
-        | ScalarKind::AbstractFloat => false,
-    }
-}
 
 /// Whether a type is a scalar that is a number with a width of its own, or a vector of such.
 fn consists_of_numbers(inner: &TypeInner) -> bool

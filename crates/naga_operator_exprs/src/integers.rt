@@ -10,8 +10,8 @@ ghost use Rattle.naga_operator_exprs.specs.steps.Places.{AreComponents, HasNoSou
 use naga_ir::expression::{Expression, Literal};
 use naga_ir::handle::Handle;
 use naga_ir::tags::{ExpressionTag, TypeTag};
-use naga_ir::types::ScalarKind;
-use naga_operands::context::{FunctionContext, vector_size_and_scalar};
+use naga_operands::context::FunctionContext;
+use naga_operands::type_methods::{is_integer, vector_size_and_scalar};
 
 /// What a constant on the right of an operator must not be.
 #[derive(Clone, Copy, Debug, PartialEq, Eq)]
@@ -180,7 +180,7 @@ fn is_integer_zero(context: FunctionContext<'_>, ty: Handle<TypeTag>) -> bool
     ensures { result ≡ spec.is_integer_zero (surroundings context.entry) ty }
 {
     match vector_size_and_scalar(&context.module.types[ty].inner) {
-        Some((_, scalar)) => matches!(scalar.kind, ScalarKind::Sint | ScalarKind::Uint),
+        Some((_, scalar)) => is_integer(scalar.kind),
         None => false,
     }
 }

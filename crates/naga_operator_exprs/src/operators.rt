@@ -12,8 +12,9 @@ use naga_ir::expression::{RelationalFunction, UnaryOperator};
 use naga_ir::handle::Handle;
 use naga_ir::tags::ExpressionTag;
 use naga_ir::types::{Scalar, ScalarKind, TypeInner, VectorSize};
-use naga_operands::context::{FunctionContext, every_stage, vector_size_and_scalar};
+use naga_operands::context::{FunctionContext, every_stage};
 use naga_operands::error::ExpressionError;
+use naga_operands::type_methods::vector_size_and_scalar;
 
 /// Whether an operator on one value takes values of a kind.
 fn takes(op: UnaryOperator, kind: ScalarKind) -> bool

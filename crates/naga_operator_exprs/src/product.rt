@@ -7,19 +7,9 @@ ghost use Rattle.naga_ir_types.specs.declared.types.Scalar.{Scalar};
 ghost use Rattle.naga_ir_types.specs.declared.types.TypeInner.TheVariants as form;
 ghost use Rattle.naga_ir_types.specs.declared.types.VectorSize.{VectorSize};
 ghost use Rattle.naga_operator_exprs.specs.Product as rule;
-ghost use Rattle.naga_operands.specs.Words.{is_number};
 
 use naga_ir::types::{Scalar, ScalarKind, TypeInner, VectorSize};
-
-/// Whether scalars of a kind are numbers with a width of their own.
-pub(crate) fn is_number(kind: ScalarKind) -> bool
-    ensures { result ≡ is_number kind }
-{
-    match kind {
-        ScalarKind::Sint | ScalarKind::Uint | ScalarKind::Float => true,
-        ScalarKind::Bool | ScalarKind::AbstractInt | ScalarKind::AbstractFloat => false,
-    }
-}
+use naga_operands::type_methods::is_number;
 
 /// Whether a scalar on the left and a form on the right multiply, widths aside.
 fn scalar_times(scalar: Scalar, right: &TypeInner) -> bool
