@@ -109,19 +109,7 @@ part_limit_in (Some inner) = part_limit inner
 -- the limit of the known indexes into a form: into a pointer it is that of what it points to
 abbrev pub index_limit : List «Type» → TypeInner → Option ℕ
 index_limit types (Pointer base space) = part_limit_in (inner_in types (Handle base))
-index_limit types (Vector size scalar) = part_limit (Vector size scalar)
-index_limit types (ValuePointer size scalar space) = part_limit (ValuePointer size scalar space)
-index_limit types (Matrix columns rows scalar) = part_limit (Matrix columns rows scalar)
-index_limit types (Array base size stride) = part_limit (Array base size stride)
-index_limit types (BindingArray base size) = part_limit (BindingArray base size)
-index_limit types (Struct members span) = part_limit (Struct members span)
-index_limit types (Scalar scalar) = None
-index_limit types (CooperativeMatrix columns rows scalar role) = None
-index_limit types (Atomic scalar) = None
-index_limit types (Image dim arrayed class) = None
-index_limit types (Sampler comparison) = None
-index_limit types (AccelerationStructure vertex_return) = None
-index_limit types (RayQuery vertex_return) = None
+index_limit types inner = part_limit inner
 
 -- the refusal of a known index, unless its base has a limit and the index is below it
 abbrev pub not_below : ℕ → ℕ → Option ℕ → Option ExpressionError

@@ -1,14 +1,16 @@
 -- The rules of loads and of the lengths of arrays.
-use Rattle.std.specs.Prelude.{ℕ, Bool as Truth, true, false, List, [], ◌∷◌, Option, Some, None, Result}
+use Rattle.std.specs.Prelude.{ℕ, Bool as Truth, true, false, List, [], ◌∷◌, Option, Some, None, Result, is_some, option_and_then}
 use Rattle.naga_flags.specs.Bits.{DATA, SIZED, union_of}
 use Rattle.naga_flags.specs.Flags.{has}
 use Rattle.naga_flags.specs.declared.flags.ShaderStages.{ShaderStages}
+use Rattle.naga_ir_types.specs.TypeWords.{scalar_of}
 use Rattle.naga_ir_types.specs.declared.types.«Type».{«Type»}
 use Rattle.naga_ir_types.specs.declared.types.ArraySize.{ArraySize}
 use Rattle.naga_ir_types.specs.declared.types.ArraySize.TheVariants.{Constant, Pending, Dynamic}
+use Rattle.naga_ir_types.specs.declared.types.Scalar.{Scalar as ScalarType}
 use Rattle.naga_ir_types.specs.declared.types.TypeInner.{TypeInner}
 use Rattle.naga_ir_types.specs.declared.types.TypeInner.TheVariants.{Scalar, Vector, Matrix, CooperativeMatrix, Atomic, Pointer, ValuePointer, Array, Struct, Image, Sampler, AccelerationStructure, RayQuery, BindingArray}
-use Rattle.naga_operands.specs.Stages.{every_stage}
+use Rattle.naga_operands.specs.Stages.{compute_stage, every_stage}
 use Rattle.naga_operands.specs.Surroundings.{ExpressionSurroundings, flags_at, form_at}
 use Rattle.naga_operands.specs.declared.error.ExpressionError.{ExpressionError}
 use Rattle.naga_operands.specs.declared.error.ExpressionError.TheVariants as refusal
@@ -85,3 +87,24 @@ points_to_dynamic types (BindingArray base size) = false
 -- the rule of the length of an array
 abbrev pub array_length_rule : ExpressionSurroundings → ℕ → Result ShaderStages ExpressionError
 array_length_rule s array = granted (unless (points_to_dynamic s.«module».types (form_at s array)) (refusal.InvalidArrayType array)) every_stage
+
+-- the scalar of what a form points to, if that is a scalar, a vector or a matrix of either kind
+abbrev pub target_scalar : List «Type» → TypeInner → Option ScalarType
+target_scalar types (Pointer base space) = option_and_then scalar_of (inner_in types (Handle base))
+target_scalar types (ValuePointer size scalar space) = Some scalar
+target_scalar types (Scalar scalar) = None
+target_scalar types (Vector size scalar) = None
+target_scalar types (Matrix columns rows scalar) = None
+target_scalar types (CooperativeMatrix columns rows scalar role) = None
+target_scalar types (Atomic scalar) = None
+target_scalar types (Array base size stride) = None
+target_scalar types (Struct members span) = None
+target_scalar types (Image dim arrayed class) = None
+target_scalar types (Sampler comparison) = None
+target_scalar types (AccelerationStructure vertex_return) = None
+target_scalar types (RayQuery vertex_return) = None
+target_scalar types (BindingArray base size) = None
+
+-- the rule of a load of a cooperative matrix, which only compute shaders may use
+abbrev pub cooperative_load_rule : ExpressionSurroundings → ℕ → Result ShaderStages ExpressionError
+cooperative_load_rule s pointer = granted (unless (is_some (target_scalar s.«module».types (form_at s pointer))) (refusal.InvalidPointerType pointer)) compute_stage

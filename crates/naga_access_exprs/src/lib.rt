@@ -3,3 +3,4 @@
 
 pub mod access;
 pub mod memory;
+pub mod ray_query;

@@ -1,8 +1,8 @@
-//! The rules of loads and of the lengths of arrays.
+//! The rules of loads, of cooperative matrices too, and of the lengths of arrays.
 
 ghost use Rattle.std.specs.Prelude.{◌≡◌, ◌<◌, Some, length};
 ghost use Rattle.naga_access_exprs.specs.Memory as rule;
-ghost use Rattle.naga_access_exprs.specs.Memory.{array_length_rule, load_rule};
+ghost use Rattle.naga_access_exprs.specs.Memory.{array_length_rule, cooperative_load_rule, load_rule};
 ghost use Rattle.naga_operands.specs.Surroundings.{AreSound, surroundings};
 ghost use Rattle.naga_typing.specs.Resolutions.{PartsExist};
 
@@ -10,7 +10,8 @@ use bitflags::Flags;
 use naga_flags::flags::{ShaderStages, TypeFlags};
 use naga_ir::handle::Handle;
 use naga_ir::tags::ExpressionTag;
-use naga_ir::types::{ArraySize, TypeInner};
+use naga_ir::types::{ArraySize, Scalar, TypeInner};
+use naga_ir::unique_arena::UniqueArena;
 use naga_operands::context::{FunctionContext, every_stage};
 use naga_operands::error::ExpressionError;
 
@@ -102,4 +103,47 @@ pub fn validate_array_length(
         return Err(ExpressionError::InvalidArrayType(array));
     }
     Ok(every_stage())
+}
+
+/// The scalar of what a type points to, if that is a scalar, a vector or a matrix of either kind.
+fn target_scalar(inner: &TypeInner, types: &UniqueArena) -> Option<Scalar>
+    requires { PartsExist types.now inner.now }
+    ensures { result ≡ rule.target_scalar types.now inner.now }
+{
+    match inner {
+        TypeInner::Pointer { base, .. } => types[*base].inner.scalar(),
+        TypeInner::ValuePointer { scalar, .. } => Some(*scalar),
+        TypeInner::Scalar(_)
+        | TypeInner::Vector { .. }
+        | TypeInner::Matrix { .. }
+        | TypeInner::CooperativeMatrix { .. }
+        | TypeInner::Atomic(_)
+        | TypeInner::Array { .. }
+        | TypeInner::Struct { .. }
+        | TypeInner::Image { .. }
+        | TypeInner::Sampler { .. }
+        | TypeInner::AccelerationStructure { .. }
+        | TypeInner::RayQuery { .. }
+        | TypeInner::BindingArray { .. } => None,
+    }
+}
+
+/// The stages that may use a cooperative matrix from memory (SPIR-V "OpCooperativeMatrixLoadKHR"): compute
+/// shaders.
+///
+/// # Errors
+///
+/// `InvalidPointerType` if the operand is no pointer to a scalar, a vector or a matrix. A value pointer is one.
+pub fn validate_cooperative_load(
+    context: FunctionContext<'_>,
+    pointer: Handle<ExpressionTag>,
+) -> Result<ShaderStages, ExpressionError>
+    requires sound { AreSound (surroundings context) }
+    requires pointer { pointer < length context.info.now.types }
+    ensures { result ≡ cooperative_load_rule (surroundings context.entry) pointer }
+{
+    if target_scalar(context.type_of(pointer), &context.module.types).is_none() {
+        return Err(ExpressionError::InvalidPointerType(pointer));
+    }
+    Ok(ShaderStages::COMPUTE)
 }

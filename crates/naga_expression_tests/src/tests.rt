@@ -7,8 +7,10 @@ ghost use Rattle.naga_ir.specs.ItemReferences.{global_lists};
 ghost use Rattle.naga_ir.specs.declared.expression.Expression.TheVariants as form;
 ghost use Rattle.naga_typing.specs.Resolutions.{ResolutionExists};
 
-mod forms;
+mod access;
 mod operands;
+mod operators;
+mod values;
 
 use bitflags::Flags;
 use naga_exprs::expression::validate_expression;
@@ -142,13 +144,6 @@ fn is_covered(expression: &Expression) -> bool
             | Expression::ImageLoad { .. }
             | Expression::ImageQuery { .. }
             | Expression::Math { .. }
-            | Expression::RayQueryProceedResult
-            | Expression::RayQueryGetIntersection { .. }
-            | Expression::RayQueryVertexPositions { .. }
-            | Expression::SubgroupBallotResult
-            | Expression::SubgroupOperationResult { .. }
-            | Expression::CooperativeLoad { .. }
-            | Expression::CooperativeMultiplyAdd { .. }
     )
 }
 
@@ -214,30 +209,58 @@ fn said_of(
     judge(rt, ctx, &contents.module, &types, &info)
 }
 
-/// Makes sure of what is said of an expression, with what a shader may use by default.
+/// All stages may use the expression.
+fn accepted() -> Result<ShaderStages, ExpressionError> {
+    Ok(ShaderStages::all())
+}
+
+/// Makes sure of what is said of an expression, by what it is judged by.
+fn assert_said_in(
+    rt: &(impl AllocGlobal + Abort),
+    ctx: ExprContext<'_, PlainTyping>,
+    expression: Expression,
+    want: &Result<ShaderStages, ExpressionError>,
+) {
+    let shown = format!(in rt.alloc(); "{expression:?}").expect(rt, "memory");
+    assert_same_for(rt, &shown, &said_of(rt, ctx, expression), want);
+}
+
+/// Makes sure of what is said of an expression if shaders may use these capabilities.
+fn assert_said_under(
+    rt: &(impl AllocGlobal + Abort),
+    capabilities: Capabilities,
+    expression: Expression,
+    want: &Result<ShaderStages, ExpressionError>,
+) {
+    let ctx = ExprContext {
+        capabilities,
+        overrides_resolved: false,
+        subgroup_stages: ShaderStages::COMPUTE_LIKE,
+        typing: &PlainTyping,
+    };
+    assert_said_in(rt, ctx, expression, want);
+}
+
+/// Makes sure of what is said of an expression with what shaders may use by default.
 fn assert_said(
+    rt: &(impl AllocGlobal + Abort),
+    expression: Expression,
+    want: &Result<ShaderStages, ExpressionError>,
+) {
+    assert_said_under(rt, Capabilities::default(), expression, want);
+}
+
+/// The same if overrides must have their values.
+fn assert_said_resolved(
     rt: &(impl AllocGlobal + Abort),
     expression: Expression,
     want: &Result<ShaderStages, ExpressionError>,
 ) {
     let ctx = ExprContext {
         capabilities: Capabilities::default(),
-        overrides_resolved: false,
-        subgroup_stages: ShaderStages::all(),
+        overrides_resolved: true,
+        subgroup_stages: ShaderStages::COMPUTE_LIKE,
         typing: &PlainTyping,
     };
-    assert_same_for(rt, &"expression", &said_of(rt, ctx, expression), want);
-}
-
-/// Makes sure that an expression is accepted, or that it is not.
-fn assert_accepted_if(rt: &(impl AllocGlobal + Abort), expression: Expression, ok: bool) {
-    let ctx = ExprContext {
-        capabilities: Capabilities::default(),
-        overrides_resolved: false,
-        subgroup_stages: ShaderStages::all(),
-        typing: &PlainTyping,
-    };
-    let shown = format!(in rt.alloc(); "{expression:?}").expect(rt, "memory");
-    let said = said_of(rt, ctx, expression);
-    assert!(rt; said.is_ok() == ok, "{shown}: {said:?}");
+    assert_said_in(rt, ctx, expression, want);
 }

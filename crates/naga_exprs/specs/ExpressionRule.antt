@@ -1,7 +1,8 @@
 -- The rule of an expression of a function, by its form.
 use Rattle.std.specs.Prelude.{◌≡◌, Result, Ok, ⊤}
 use Rattle.naga_access_exprs.specs.Accesses.{IsAccessResult, access_index_rule}
-use Rattle.naga_access_exprs.specs.Memory.{array_length_rule, load_rule}
+use Rattle.naga_access_exprs.specs.Memory.{array_length_rule, cooperative_load_rule, load_rule}
+use Rattle.naga_access_exprs.specs.RayQueries.{ray_query_get_intersection_rule, ray_query_vertex_positions_rule}
 use Rattle.naga_access_exprs.specs.Vectors.{swizzle_rule}
 use Rattle.naga_flags.specs.declared.flags.ShaderStages.{ShaderStages}
 use Rattle.naga_ir.specs.declared.expression.Expression.{Expression}
@@ -11,10 +12,11 @@ use Rattle.naga_operands.specs.Stages.{every_stage}
 use Rattle.naga_operands.specs.Surroundings.{ExpressionSurroundings}
 use Rattle.naga_operands.specs.declared.error.ExpressionError.{ExpressionError}
 use Rattle.naga_operator_exprs.specs.Binary.{IsBinaryResult}
+use Rattle.naga_operator_exprs.specs.Cooperative.{cooperative_multiply_add_rule}
 use Rattle.naga_operator_exprs.specs.Operators.{as_rule, derivative_rule, relational_rule, select_rule, unary_rule}
 use Rattle.naga_value_exprs.specs.Values.{argument_rule, call_stages, composition_rule, literal_value_rule, splat_rule, workgroup_load_rule, zero_value_rule}
 
--- the forms that can be judged: all but those of images, math, ray queries, subgroups and cooperative matrices
+-- the forms that can be judged: all but those of images and of mathematical functions
 abbrev pub IsCovered : Expression → Type 0
 IsCovered (form.Literal value) = ⊤
 IsCovered (form.Constant c) = ⊤
@@ -43,13 +45,13 @@ IsCovered (form.ImageSample image sampler gather coordinate array_index offset l
 IsCovered (form.ImageLoad image coordinate array_index sample level) = ⊥
 IsCovered (form.ImageQuery image query) = ⊥
 IsCovered (form.Math fun arg arg1 arg2 arg3) = ⊥
-IsCovered form.RayQueryProceedResult = ⊥
-IsCovered (form.RayQueryGetIntersection query committed) = ⊥
-IsCovered (form.RayQueryVertexPositions query committed) = ⊥
-IsCovered form.SubgroupBallotResult = ⊥
-IsCovered (form.SubgroupOperationResult ty) = ⊥
-IsCovered (form.CooperativeLoad pointer stride) = ⊥
-IsCovered (form.CooperativeMultiplyAdd a b c) = ⊥
+IsCovered form.RayQueryProceedResult = ⊤
+IsCovered (form.RayQueryGetIntersection query committed) = ⊤
+IsCovered (form.RayQueryVertexPositions query committed) = ⊤
+IsCovered form.SubgroupBallotResult = ⊤
+IsCovered (form.SubgroupOperationResult ty) = ⊤
+IsCovered (form.CooperativeLoad pointer stride) = ⊤
+IsCovered (form.CooperativeMultiplyAdd a b c) = ⊤
 
 -- the stages that may use an expression, or the first condition of its form that it breaks
 abbrev pub IsMeant : ExpressionSurroundings → Expression → Result ShaderStages ExpressionError → Type 0
@@ -80,13 +82,13 @@ IsMeant s (form.ImageSample image sampler gather coordinate array_index offset l
 IsMeant s (form.ImageLoad image coordinate array_index sample level) meant = ⊥
 IsMeant s (form.ImageQuery image query) meant = ⊥
 IsMeant s (form.Math fun arg arg1 arg2 arg3) meant = ⊥
-IsMeant s form.RayQueryProceedResult meant = ⊥
-IsMeant s (form.RayQueryGetIntersection query committed) meant = ⊥
-IsMeant s (form.RayQueryVertexPositions query committed) meant = ⊥
-IsMeant s form.SubgroupBallotResult meant = ⊥
-IsMeant s (form.SubgroupOperationResult ty) meant = ⊥
-IsMeant s (form.CooperativeLoad pointer stride) meant = ⊥
-IsMeant s (form.CooperativeMultiplyAdd a b c) meant = ⊥
+IsMeant s form.RayQueryProceedResult meant = meant ≡ Ok every_stage
+IsMeant s (form.RayQueryGetIntersection query committed) meant = meant ≡ ray_query_get_intersection_rule s query
+IsMeant s (form.RayQueryVertexPositions query committed) meant = meant ≡ ray_query_vertex_positions_rule s query
+IsMeant s form.SubgroupBallotResult meant = meant ≡ Ok s.subgroup_stages
+IsMeant s (form.SubgroupOperationResult ty) meant = meant ≡ Ok s.subgroup_stages
+IsMeant s (form.CooperativeLoad pointer stride) meant = meant ≡ cooperative_load_rule s pointer
+IsMeant s (form.CooperativeMultiplyAdd a b c) meant = meant ≡ cooperative_multiply_add_rule s a b c
 
 -- what a call returns for an expression: what is meant, out of memory aside
 abbrev pub IsExpressionResult : ExpressionSurroundings → Expression → Result ShaderStages ExpressionError → Type 0

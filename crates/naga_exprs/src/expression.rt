@@ -4,7 +4,10 @@ ghost use Rattle.naga_exprs.specs.ExpressionRule.{IsCovered, IsExpressionResult}
 ghost use Rattle.naga_operands.specs.Surroundings.{CanJudge, surroundings};
 
 use naga_access_exprs::access::{validate_access, validate_access_index, validate_swizzle};
-use naga_access_exprs::memory::{validate_array_length, validate_load};
+use naga_access_exprs::memory::{validate_array_length, validate_cooperative_load, validate_load};
+use naga_access_exprs::ray_query::{
+    validate_ray_query_get_intersection, validate_ray_query_vertex_positions,
+};
 use naga_flags::flags::ShaderStages;
 use naga_infos::context::ExprContext;
 use naga_infos::module_info::{FunctionInfo, ModuleInfo};
@@ -15,6 +18,7 @@ use naga_ir::tags::ExpressionTag;
 use naga_operands::context::{FunctionContext, every_stage};
 use naga_operands::error::ExpressionError;
 use naga_operator_exprs::binary::validate_binary;
+use naga_operator_exprs::cooperative::validate_cooperative_multiply_add;
 use naga_operator_exprs::operators::{
     validate_as, validate_derivative, validate_relational, validate_select, validate_unary,
 };
@@ -55,7 +59,8 @@ fn validate_form(
         | Expression::Override(_)
         | Expression::GlobalVariable(_)
         | Expression::LocalVariable(_)
-        | Expression::AtomicResult { .. } => Ok(every_stage()),
+        | Expression::AtomicResult { .. }
+        | Expression::RayQueryProceedResult => Ok(every_stage()),
         Expression::Load { pointer } => validate_load(context, *pointer),
         Expression::Unary { op, expr } => validate_unary(context, *op, *expr),
         Expression::Binary { op, left, right } => validate_binary(context, *op, *left, *right),
@@ -79,14 +84,20 @@ fn validate_form(
         Expression::ImageSample { .. }
         | Expression::ImageLoad { .. }
         | Expression::ImageQuery { .. }
-        | Expression::Math { .. }
-        | Expression::RayQueryProceedResult
-        | Expression::RayQueryGetIntersection { .. }
-        | Expression::RayQueryVertexPositions { .. }
-        | Expression::SubgroupBallotResult
-        | Expression::SubgroupOperationResult { .. }
-        | Expression::CooperativeLoad { .. }
-        | Expression::CooperativeMultiplyAdd { .. } => unreachable!(),
+        | Expression::Math { .. } => unreachable!(),
+        Expression::RayQueryGetIntersection { query, .. } => {
+            validate_ray_query_get_intersection(context, *query)
+        }
+        Expression::RayQueryVertexPositions { query, .. } => {
+            validate_ray_query_vertex_positions(context, *query)
+        }
+        Expression::SubgroupBallotResult | Expression::SubgroupOperationResult { .. } => {
+            Ok(context.subgroup_stages)
+        }
+        Expression::CooperativeLoad { pointer, .. } => validate_cooperative_load(context, *pointer),
+        Expression::CooperativeMultiplyAdd { a, b, c } => {
+            validate_cooperative_multiply_add(context, *a, *b, *c)
+        }
     }
 }
 
@@ -95,8 +106,8 @@ fn validate_form(
 /// The handles of the module and of the function are right, and `mod_info` says of each type what it may
 /// be used for. All that the expression refers to exists. Its operands come before `root`, and `info` and
 /// `kinds` know them; what the types in `info` refer to exists. Each `FunctionArgument` before `root` names
-/// an argument. If the expression is the result of a call, `mod_info` knows the function. Forms of images,
-/// mathematical functions, ray queries, subgroups and cooperative matrices can't be judged yet.
+/// an argument. If the expression is the result of a call, `mod_info` knows the function. Forms of images
+/// and of mathematical functions can't be judged yet.
 ///
 /// Accepting takes no memory. The cost is linear in the expression's own components, but for the search for
 /// forbidden integers on the right of a division or a shift. It goes through the compositions that a constant

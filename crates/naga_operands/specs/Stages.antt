@@ -11,6 +11,10 @@ every_stage = record { 0 = union_of (VERTEX ∷ fragment ∷ COMPUTE ∷ MESH �
 abbrev pub fragment_stage : ShaderStages
 fragment_stage = record { 0 = fragment }
 
+-- compute shaders alone have cooperative matrices
+abbrev pub compute_stage : ShaderStages
+compute_stage = record { 0 = COMPUTE }
+
 -- the stages with workgroups
 abbrev pub workgroup_stages : ShaderStages
 workgroup_stages = record { 0 = compute_like }

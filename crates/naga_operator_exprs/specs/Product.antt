@@ -3,12 +3,11 @@ use Rattle.std.specs.Prelude.{◌==◌, ◌&&◌, ◌||◌, ℕ, Bool as Truth, 
 use Rattle.naga_ir_types.specs.Sizes.{components}
 use Rattle.naga_ir_types.specs.TypeWords.{scalar_of}
 use Rattle.naga_ir_types.specs.contracts.types.ScalarPartialEq.TheImpl as of_scalar
-use Rattle.naga_ir_types.specs.contracts.types.VectorSizePartialEq.TheImpl as of_size
 use Rattle.naga_ir_types.specs.declared.types.Scalar.{Scalar as ScalarType}
 use Rattle.naga_ir_types.specs.declared.types.TypeInner.{TypeInner}
 use Rattle.naga_ir_types.specs.declared.types.TypeInner.TheVariants.{Scalar, Vector, Matrix, CooperativeMatrix, Atomic, Pointer, ValuePointer, Array, Struct, Image, Sampler, AccelerationStructure, RayQuery, BindingArray}
-use Rattle.naga_ir_types.specs.declared.types.VectorSize.{VectorSize}
 use Rattle.naga_operands.specs.Words.{is_number}
+use Rattle.naga_types.specs.Composing.{is_vector_of}
 use Rattle.naga_types.specs.Judging.{only_if}
 use Rattle.naga_types.specs.TypeRule.{is_float}
 
@@ -73,26 +72,9 @@ is_matrix (BindingArray base size) = false
 abbrev pub multiply_by_dimensions : TypeInner → TypeInner → Truth
 multiply_by_dimensions x y = (is_matrix x || is_matrix y) && agree (columns_of_left x) (rows_of_right y)
 
--- a form is a vector of this size and scalar
-abbrev pub is_vector_of : VectorSize → ScalarType → TypeInner → Truth
-is_vector_of size scalar (Vector n s) = of_size.ghosts.eq size n && of_scalar.ghosts.eq scalar s
-is_vector_of size scalar (Scalar s) = false
-is_vector_of size scalar (Matrix columns rows s) = false
-is_vector_of size scalar (CooperativeMatrix columns rows s role) = false
-is_vector_of size scalar (Atomic s) = false
-is_vector_of size scalar (Pointer base space) = false
-is_vector_of size scalar (ValuePointer n s space) = false
-is_vector_of size scalar (Array base n stride) = false
-is_vector_of size scalar (Struct members span) = false
-is_vector_of size scalar (Image dim arrayed class) = false
-is_vector_of size scalar (Sampler comparison) = false
-is_vector_of size scalar (AccelerationStructure vertex_return) = false
-is_vector_of size scalar (RayQuery vertex_return) = false
-is_vector_of size scalar (BindingArray base n) = false
-
 -- two factors are vectors of one size and scalar, which multiply by components
 abbrev pub multiply_by_components : TypeInner → TypeInner → Truth
-multiply_by_components (Vector size scalar) y = is_vector_of size scalar y
+multiply_by_components (Vector size scalar) y = is_vector_of size scalar (Some y)
 multiply_by_components (Scalar scalar) y = false
 multiply_by_components (Matrix columns rows scalar) y = false
 multiply_by_components (CooperativeMatrix columns rows scalar role) y = false

@@ -42,7 +42,7 @@ fn vector_times(size: VectorSize, scalar: Scalar, right: &TypeInner) -> bool
         TypeInner::Vector {
             size: other_size,
             scalar: other,
-        } => size == *other_size && scalar == *other,
+        } => *other_size == size && *other == scalar,
         TypeInner::Matrix { rows, .. } => scalar.kind == ScalarKind::Float && size == *rows,
         TypeInner::CooperativeMatrix { .. }
         | TypeInner::Atomic(_)

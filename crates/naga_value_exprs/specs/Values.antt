@@ -1,6 +1,6 @@
 -- The rules of values that stand by themselves, are made from others, or come from elsewhere.
-use Rattle.std.specs.Prelude.{ltb, ℕ, List, [], ◌∷◌, Option, Some, None, Result, length, slice_get}
-use Rattle.naga_const_exprs.specs.ConstExpression.{is_scalar, literal_rule, refused_inside}
+use Rattle.std.specs.Prelude.{ltb, true, ℕ, List, [], ◌∷◌, Option, Some, None, Result, length, slice_get}
+use Rattle.naga_const_exprs.specs.ConstExpression.{literal_rule, refused_inside}
 use Rattle.naga_flags.specs.Bits.{CONSTRUCTIBLE, SIZED, union_of}
 use Rattle.naga_flags.specs.Flags.{has}
 use Rattle.naga_flags.specs.declared.flags.ShaderStages.{ShaderStages}
@@ -8,6 +8,7 @@ use Rattle.naga_infos.specs.declared.module_info.FunctionInfo.{FunctionInfo}
 use Rattle.naga_ir.specs.declared.expression.Literal.{Literal}
 use Rattle.naga_operands.specs.Stages.{every_stage, workgroup_stages}
 use Rattle.naga_operands.specs.Surroundings.{ExpressionSurroundings, flags_at, form_at}
+use Rattle.naga_operands.specs.Words.{is_scalar_that}
 use Rattle.naga_operands.specs.declared.error.ExpressionError.{ExpressionError}
 use Rattle.naga_operands.specs.declared.error.ExpressionError.TheVariants as refusal
 use Rattle.naga_types.specs.Composing.{compose_rule, resolutions_at}
@@ -27,7 +28,7 @@ composition_rule s ty components = granted (refused_inside refusal.Compose (comp
 
 -- the rule of a splat: its operand is a scalar
 abbrev pub splat_rule : ExpressionSurroundings → ℕ → Result ShaderStages ExpressionError
-splat_rule s value = granted (unless (is_scalar (Some (form_at s value))) (refusal.InvalidSplatType value)) every_stage
+splat_rule s value = granted (unless (is_scalar_that (λ scalar. true) (form_at s value)) (refusal.InvalidSplatType value)) every_stage
 
 -- the rule of an argument: the function has so many
 abbrev pub argument_rule : ExpressionSurroundings → ℕ → Result ShaderStages ExpressionError

@@ -1,8 +1,7 @@
 //! The rules of literals, zero values, compositions, splats and arguments, and of the results of calls
 //! and of loads for a whole workgroup.
 
-ghost use Rattle.std.specs.Prelude.{◌≡◌, ◌<◌, All, Some, length};
-ghost use Rattle.naga_const_exprs.specs.ConstExpression.{is_scalar};
+ghost use Rattle.std.specs.Prelude.{◌≡◌, ◌<◌, All, length};
 ghost use Rattle.naga_operands.specs.Surroundings.{AreSound, surroundings};
 ghost use Rattle.naga_value_exprs.specs.Values as rule;
 
@@ -12,9 +11,9 @@ use naga_flags::flags::{ShaderStages, TypeFlags};
 use naga_ir::expression::Literal;
 use naga_ir::handle::Handle;
 use naga_ir::tags::{ExpressionTag, FunctionTag, TypeTag};
-use naga_ir::types::TypeInner;
 use naga_operands::context::{FunctionContext, every_stage};
 use naga_operands::error::ExpressionError;
+use naga_operands::type_methods::vector_size_and_scalar;
 use naga_types::compose::validate_compose_at;
 use naga_typing::context::to_ctx;
 
@@ -76,28 +75,6 @@ pub fn validate_composition(
     Ok(every_stage())
 }
 
-/// Whether a form is that of scalars.
-fn is_scalar_form(inner: &TypeInner) -> bool
-    ensures { result ≡ is_scalar (Some inner.now) }
-{
-    match inner {
-        TypeInner::Scalar(_) => true,
-        TypeInner::Vector { .. }
-        | TypeInner::Matrix { .. }
-        | TypeInner::CooperativeMatrix { .. }
-        | TypeInner::Atomic(_)
-        | TypeInner::Pointer { .. }
-        | TypeInner::ValuePointer { .. }
-        | TypeInner::Array { .. }
-        | TypeInner::Struct { .. }
-        | TypeInner::Image { .. }
-        | TypeInner::Sampler { .. }
-        | TypeInner::AccelerationStructure { .. }
-        | TypeInner::RayQuery { .. }
-        | TypeInner::BindingArray { .. } => false,
-    }
-}
-
 /// The stages that may use a splat.
 ///
 /// # Errors
@@ -111,10 +88,10 @@ pub fn validate_splat(
     requires value { value < length context.info.now.types }
     ensures { result ≡ rule.splat_rule (surroundings context.entry) value }
 {
-    if !is_scalar_form(context.type_of(value)) {
-        return Err(ExpressionError::InvalidSplatType(value));
+    match vector_size_and_scalar(context.type_of(value)) {
+        Some((None, _)) => Ok(every_stage()),
+        Some((Some(_), _)) | None => Err(ExpressionError::InvalidSplatType(value)),
     }
-    Ok(every_stage())
 }
 
 /// The stages that may use an argument.

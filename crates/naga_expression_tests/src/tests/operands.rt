@@ -4,11 +4,12 @@ use naga_exprs::FunctionInfo;
 use naga_flags::flags::ShaderStages;
 use naga_ir::expression::{Expression, Literal};
 use naga_ir::handle::Handle;
-use naga_ir::ir::{Function, FunctionArgument, Module};
+use naga_ir::ir::{Function, FunctionArgument, GlobalVariable, LocalVariable, Module};
 use naga_ir::list::List;
 use naga_ir::memory::OutOfMemory;
 use naga_ir::span::Span;
 use naga_ir::tags::ExpressionTag;
+use naga_ir::types::AddressSpace;
 use naga_typing::typifier::TypeResolution;
 use std::alloc::Global;
 use std::process::Abort;
@@ -45,6 +46,30 @@ type valuepointer 2 float 4 function
 type valuepointer 0 float 4 function
 type scalar sint 8
 type matrix 2 2 sint 4
+type vector 2 sint 4
+type vector 3 sint 4
+type image 2 0 float
+type image 1 0 float
+type image 3 0 float
+type image cube 0 float
+type image 2 1 float
+type image 2 0 floatms
+type image 2 0 uint
+type image 2 0 depth
+type image 2 0 depthms
+type image 2 0 storage
+type image 2 0 external
+type sampler 0
+type sampler 1
+type bindingarray 33 2
+type rayquery 0
+type rayquery 1
+type pointer 47 function
+type pointer 48 function
+type pointer 47 private
+type coop 8 8 float 4 A
+type coop 8 8 float 4 B
+type coop 8 8 float 4 C
 expr lit u32 4
 expr lit u32 31
 expr lit u32 32
@@ -123,53 +148,140 @@ pub(super) const I64: u32 = 29;
 
 pub(super) const INT_MATRIX: u32 = 30;
 
+pub(super) const IVEC2: u32 = 31;
+
+pub(super) const IVEC3: u32 = 32;
+
+pub(super) const IMAGE: u32 = 33;
+
+pub(super) const IMAGE_1D: u32 = 34;
+
+pub(super) const IMAGE_3D: u32 = 35;
+
+pub(super) const CUBE: u32 = 36;
+
+pub(super) const LAYERS: u32 = 37;
+
+pub(super) const SAMPLES: u32 = 38;
+
+pub(super) const INTEGERS: u32 = 39;
+
+pub(super) const DEPTHS: u32 = 40;
+
+pub(super) const DEPTH_SAMPLES: u32 = 41;
+
+pub(super) const STORED: u32 = 42;
+
+pub(super) const EXTERNAL: u32 = 43;
+
+pub(super) const SAMPLER: u32 = 44;
+
+pub(super) const COMPARING: u32 = 45;
+
+pub(super) const IMAGES: u32 = 46;
+
+pub(super) const RAY: u32 = 47;
+
+pub(super) const RAY_WITH_VERTICES: u32 = 48;
+
+pub(super) const TO_RAY: u32 = 49;
+
+pub(super) const TO_VERTICES: u32 = 50;
+
+pub(super) const TO_PRIVATE_RAY: u32 = 51;
+
+pub(super) const LEFT: u32 = 52;
+
+pub(super) const RIGHT: u32 = 53;
+
+pub(super) const SUM: u32 = 54;
+
 /// The number of types, and of arguments.
-const TYPES: u32 = 31;
+pub(super) const TYPES: u32 = 55;
 
-// Then follow operands whose values are known.
-pub(super) const FOUR: u32 = 31;
+// Then follow operands whose values are known, and images.
+pub(super) const FOUR: u32 = 55;
 
-pub(super) const THREE: u32 = 32;
+pub(super) const THREE: u32 = 56;
 
-pub(super) const TWO: u32 = 33;
+pub(super) const TWO: u32 = 57;
 
-pub(super) const MINUS_ONE: u32 = 34;
+pub(super) const MINUS_ONE: u32 = 58;
 
-pub(super) const LONG_ZERO: u32 = 35;
+pub(super) const LONG_ZERO: u32 = 59;
 
-pub(super) const NINE: u32 = 36;
+pub(super) const NINE: u32 = 60;
 
-pub(super) const NAMED_4: u32 = 37;
+pub(super) const NAMED_4: u32 = 61;
 
-pub(super) const NAMED_31: u32 = 38;
+pub(super) const NAMED_31: u32 = 62;
 
-pub(super) const NAMED_32: u32 = 39;
+pub(super) const NAMED_32: u32 = 63;
 
-pub(super) const ZERO: u32 = 40;
+pub(super) const ZERO: u32 = 64;
 
-pub(super) const NAMED_ZERO: u32 = 41;
+pub(super) const NAMED_ZERO: u32 = 65;
 
-pub(super) const ONE: u32 = 42;
+pub(super) const ONE: u32 = 66;
 
-pub(super) const LONG_3: u32 = 43;
+pub(super) const LONG_3: u32 = 67;
 
-pub(super) const ZERO_LONG: u32 = 44;
+pub(super) const ZERO_LONG: u32 = 68;
 
-pub(super) const SIXTY_THREE: u32 = 45;
+pub(super) const SIXTY_THREE: u32 = 69;
 
-pub(super) const FIFTEEN: u32 = 46;
+pub(super) const FIFTEEN: u32 = 70;
 
-pub(super) const SIXTEEN: u32 = 47;
+pub(super) const SIXTEEN: u32 = 71;
 
-pub(super) const ONE_AND_32: u32 = 48;
+pub(super) const ONE_AND_32: u32 = 72;
 
-pub(super) const LONGS_WITH_ZERO: u32 = 49;
+pub(super) const LONGS_WITH_ZERO: u32 = 73;
+
+pub(super) const OFFSET: u32 = 74;
+
+pub(super) const GLOBAL_IMAGE: u32 = 75;
+
+pub(super) const GLOBAL_IMAGES: u32 = 76;
+
+pub(super) const SECOND_IMAGE: u32 = 77;
+
+pub(super) const PART_OF_IMAGE: u32 = 78;
 
 /// The types of these.
 const VALUES: &[u32] = &[
     U32, U32, U32, I32, I64, U32, U32, U32, U32, I32, I32, U32, U64, U64, U32, U32, U32, UVEC2,
-    LONGS,
+    LONGS, IVEC2, IMAGE, IMAGES, IMAGE, IMAGE,
 ];
+
+/// The operand of an index.
+pub(super) fn at(index: u32) -> Handle<ExpressionTag> {
+    Handle::new(index % 100)
+}
+
+/// An access to an operand at a known index.
+pub(super) fn part(base: u32, index: u32) -> Expression {
+    Expression::AccessIndex {
+        base: at(base),
+        index,
+    }
+}
+
+/// A value of two components.
+pub(super) fn pair(
+    alloc: Global,
+    ty: u32,
+    components: [u32; 2],
+) -> Result<Expression, OutOfMemory> {
+    let mut list = List::new(alloc);
+    for component in components {
+        list.push(at(component))?;
+    }
+    Ok(Expression::Compose {
+        ty: Handle::new(ty % 100),
+        components: list,
+    })
+}
 
 /// Adds an expression to a function.
 fn append(
@@ -195,19 +307,7 @@ fn add_arguments(rt: &impl Abort, function: &mut Function) -> Result<(), OutOfMe
     Ok(())
 }
 
-/// A value of two components.
-fn pair(alloc: Global, ty: u32, components: [u32; 2]) -> Result<Expression, OutOfMemory> {
-    let mut list = List::new(alloc);
-    for component in components {
-        list.push(Handle::new(component % 100))?;
-    }
-    Ok(Expression::Compose {
-        ty: Handle::new(ty % 100),
-        components: list,
-    })
-}
-
-/// Adds the operands whose values are known.
+/// Adds the operands whose values are known, and the images.
 fn add_values(rt: &impl Abort, alloc: Global, function: &mut Function) -> Result<(), OutOfMemory> {
     for expression in [
         Expression::Literal(Literal::U32(4)),
@@ -229,8 +329,28 @@ fn add_values(rt: &impl Abort, alloc: Global, function: &mut Function) -> Result
         Expression::Literal(Literal::U32(16)),
         pair(alloc, UVEC2, [ONE, NAMED_32])?,
         pair(alloc, LONGS, [LONG_3, ZERO_LONG])?,
+        pair(alloc, IVEC2, [MINUS_ONE, MINUS_ONE])?,
+        Expression::GlobalVariable(Handle::new(0)),
+        Expression::GlobalVariable(Handle::new(1)),
+        part(GLOBAL_IMAGES, 1),
+        part(GLOBAL_IMAGE, 1),
     ] {
         append(rt, function, expression)?;
+    }
+    Ok(())
+}
+
+/// Adds a variable that holds an image, and one that holds several.
+fn add_variables(rt: &impl Abort, module: &mut Module) -> Result<(), OutOfMemory> {
+    for ty in [IMAGE, IMAGES] {
+        assert!(rt; module.global_variables.len() < 100);
+        let variable = GlobalVariable {
+            name: None,
+            space: AddressSpace::Handle,
+            ty: Handle::new(ty % 100),
+            init: None,
+        };
+        module.global_variables.append(variable, Span::default())?;
     }
     Ok(())
 }
@@ -242,10 +362,17 @@ pub(super) fn add_function(
     module: &mut Module,
     expression: Expression,
 ) -> Result<(), OutOfMemory> {
+    add_variables(rt, module)?;
     let mut function = Function::new(alloc);
     add_arguments(rt, &mut function)?;
     add_values(rt, alloc, &mut function)?;
     append(rt, &mut function, expression)?;
+    let local = LocalVariable {
+        name: None,
+        ty: Handle::new(F32),
+        init: None,
+    };
+    function.local_variables.append(local, Span::default())?;
     assert!(rt; module.functions.is_empty());
     module
         .functions

@@ -1,0 +1,86 @@
+//! The rules of what is asked of ray queries.
+
+ghost use Rattle.std.specs.Prelude.{◌≡◌, ◌<◌, Some, length};
+ghost use Rattle.naga_access_exprs.specs.RayQueries as rule;
+ghost use Rattle.naga_operands.specs.Surroundings.{AreSound, surroundings};
+ghost use Rattle.naga_typing.specs.Resolutions.{PartsExist};
+
+use naga_flags::flags::ShaderStages;
+use naga_ir::handle::Handle;
+use naga_ir::tags::ExpressionTag;
+use naga_ir::types::{AddressSpace, TypeInner};
+use naga_ir::unique_arena::UniqueArena;
+use naga_operands::context::{FunctionContext, every_stage};
+use naga_operands::error::ExpressionError;
+
+/// Whether a type is that of ray queries, and of such that give the vertices of a hit if these are asked
+/// for.
+fn is_ray_query(inner: &TypeInner, vertices: bool) -> bool
+    ensures { result ≡ rule.is_ray_query vertices (Some inner.now) }
+{
+    match inner {
+        TypeInner::RayQuery { vertex_return } => *vertex_return || !vertices,
+        TypeInner::Scalar(_)
+        | TypeInner::Vector { .. }
+        | TypeInner::Matrix { .. }
+        | TypeInner::CooperativeMatrix { .. }
+        | TypeInner::Atomic(_)
+        | TypeInner::Pointer { .. }
+        | TypeInner::ValuePointer { .. }
+        | TypeInner::Array { .. }
+        | TypeInner::Struct { .. }
+        | TypeInner::Image { .. }
+        | TypeInner::Sampler { .. }
+        | TypeInner::AccelerationStructure { .. }
+        | TypeInner::BindingArray { .. } => false,
+    }
+}
+
+/// Whether a type is a pointer to a ray query of the function.
+fn points_to_ray_query(inner: &TypeInner, types: &UniqueArena, vertices: bool) -> bool
+    requires { PartsExist types.now inner.now }
+    ensures { result ≡ rule.points_to_ray_query types.now vertices inner.now }
+{
+    let TypeInner::Pointer { base, space } = inner else {
+        return false;
+    };
+    matches!(space, AddressSpace::Function) && is_ray_query(&types[*base].inner, vertices)
+}
+
+/// The stages that may use what a ray has hit.
+///
+/// # Errors
+///
+/// `InvalidRayQueryType` if the operand is no pointer to a ray query of the function.
+pub fn validate_ray_query_get_intersection(
+    context: FunctionContext<'_>,
+    query: Handle<ExpressionTag>,
+) -> Result<ShaderStages, ExpressionError>
+    requires sound { AreSound (surroundings context) }
+    requires query { query < length context.info.now.types }
+    ensures { result ≡ rule.ray_query_get_intersection_rule (surroundings context.entry) query }
+{
+    if !points_to_ray_query(context.type_of(query), &context.module.types, false) {
+        return Err(ExpressionError::InvalidRayQueryType(query));
+    }
+    Ok(every_stage())
+}
+
+/// The stages that may use the vertices of the triangle that a ray has hit.
+///
+/// # Errors
+///
+/// `InvalidRayQueryType` if the operand is no pointer to a ray query of the function that gives vertices.
+pub fn validate_ray_query_vertex_positions(
+    context: FunctionContext<'_>,
+    query: Handle<ExpressionTag>,
+) -> Result<ShaderStages, ExpressionError>
+    requires sound { AreSound (surroundings context) }
+    requires query { query < length context.info.now.types }
+    ensures { result ≡ rule.ray_query_vertex_positions_rule (surroundings context.entry) query }
+{
+    if !points_to_ray_query(context.type_of(query), &context.module.types, true) {
+        return Err(ExpressionError::InvalidRayQueryType(query));
+    }
+    Ok(every_stage())
+}

@@ -1,0 +1,38 @@
+-- The rule of `a * b + c` of cooperative matrices.
+use Rattle.std.specs.Prelude.{ℕ, Bool as Truth, false, [], ◌∷◌, Option, Result}
+use Rattle.naga_flags.specs.declared.flags.ShaderStages.{ShaderStages}
+use Rattle.naga_ir_types.specs.contracts.types.CooperativeRolePartialEq.TheImpl as of_role
+use Rattle.naga_ir_types.specs.declared.types.CooperativeRole.{CooperativeRole}
+use Rattle.naga_ir_types.specs.declared.types.CooperativeRole.TheVariants.{A, B, C}
+use Rattle.naga_ir_types.specs.declared.types.TypeInner.{TypeInner}
+use Rattle.naga_ir_types.specs.declared.types.TypeInner.TheVariants.{Scalar, Vector, Matrix, CooperativeMatrix, Atomic, Pointer, ValuePointer, Array, Struct, Image, Sampler, AccelerationStructure, RayQuery, BindingArray}
+use Rattle.naga_operands.specs.Stages.{compute_stage}
+use Rattle.naga_operands.specs.Surroundings.{ExpressionSurroundings, form_at}
+use Rattle.naga_operands.specs.declared.error.ExpressionError.{ExpressionError}
+use Rattle.naga_operands.specs.declared.error.ExpressionError.TheVariants.{InvalidCooperativeOperand}
+use Rattle.naga_types.specs.Judging.{judged, unless}
+
+-- a form is a cooperative matrix of a role
+abbrev pub has_role : CooperativeRole → TypeInner → Truth
+has_role wanted (CooperativeMatrix columns rows scalar role) = of_role.ghosts.eq role wanted
+has_role wanted (Scalar scalar) = false
+has_role wanted (Vector size scalar) = false
+has_role wanted (Matrix columns rows scalar) = false
+has_role wanted (Atomic scalar) = false
+has_role wanted (Pointer base space) = false
+has_role wanted (ValuePointer size scalar space) = false
+has_role wanted (Array base size stride) = false
+has_role wanted (Struct members span) = false
+has_role wanted (Image dim arrayed class) = false
+has_role wanted (Sampler comparison) = false
+has_role wanted (AccelerationStructure vertex_return) = false
+has_role wanted (RayQuery vertex_return) = false
+has_role wanted (BindingArray base size) = false
+
+-- the refusal of an operand of `a * b + c`, unless it has its role
+abbrev pub lacks_role : ExpressionSurroundings → CooperativeRole → ℕ → Option ExpressionError
+lacks_role s role operand = unless (has_role role (form_at s operand)) (InvalidCooperativeOperand operand)
+
+-- the rule of `a * b + c` of cooperative matrices, which only compute shaders may use
+abbrev pub cooperative_multiply_add_rule : ExpressionSurroundings → ℕ → ℕ → ℕ → Result ShaderStages ExpressionError
+cooperative_multiply_add_rule s a b c = judged (lacks_role s A a ∷ lacks_role s B b ∷ lacks_role s C c ∷ []) compute_stage
