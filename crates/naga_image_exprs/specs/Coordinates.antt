@@ -1,0 +1,60 @@
+-- What the rules of images ask of coordinates, and of the indexes of layers, samples and levels.
+use Rattle.std.specs.Prelude.{◌&&◌, ◌==◌, ℕ, Bool as Truth, [], ◌∷◌, Option, Some, None, is_some}
+use Rattle.std.specs.Bool.{beq}
+use Rattle.naga_flags.specs.Width.{width_32}
+use Rattle.naga_ir_types.specs.declared.types.ImageDimension.{ImageDimension}
+use Rattle.naga_ir_types.specs.declared.types.ImageDimension.TheVariants.{D1, D2, D3, Cube}
+use Rattle.naga_ir_types.specs.declared.types.ScalarKind.{ScalarKind}
+use Rattle.naga_ir_types.specs.declared.types.ScalarKind.TheVariants.{Sint, Uint, Float, Bool, AbstractInt, AbstractFloat}
+use Rattle.naga_ir_types.specs.declared.types.TypeInner.{TypeInner}
+use Rattle.naga_operands.specs.Surroundings.{ExpressionSurroundings, form_at}
+use Rattle.naga_operands.specs.Words.{is_of, is_scalar_that}
+use Rattle.naga_operands.specs.declared.error.ExpressionError.{ExpressionError}
+use Rattle.naga_operands.specs.declared.error.ExpressionError.TheVariants as refusal
+use Rattle.naga_types.specs.Judging.{first, unless}
+use Rattle.naga_types.specs.TypeRule.{is_float, is_integer}
+
+-- how many numbers the coordinates of an image of this dimension are
+abbrev pub coordinate_count : ImageDimension → ℕ
+coordinate_count D1 = 1
+coordinate_count D2 = 2
+coordinate_count D3 = 3
+coordinate_count Cube = 3
+
+-- a kind is that of signed integers
+abbrev pub is_signed : ScalarKind → Truth
+is_signed Sint = true
+is_signed Uint = false
+is_signed Float = false
+is_signed Bool = false
+is_signed AbstractInt = false
+is_signed AbstractFloat = false
+
+-- a form is that of so many floating-point numbers
+abbrev pub are_floats : ℕ → TypeInner → Truth
+are_floats count inner = is_of count (λ scalar. is_float scalar.kind) inner
+
+-- a form is that of so many signed integers
+abbrev pub are_signed : ℕ → TypeInner → Truth
+are_signed count inner = is_of count (λ scalar. is_signed scalar.kind) inner
+
+-- a form is that of integers, of any width
+abbrev pub is_integer_scalar : TypeInner → Truth
+is_integer_scalar inner = is_scalar_that (λ scalar. is_integer scalar.kind) inner
+
+-- a form is that of integers of 32 bits
+abbrev pub is_index : TypeInner → Truth
+is_index inner = is_scalar_that (λ scalar. is_integer scalar.kind && scalar.width == width_32) inner
+
+-- the refusal of an operand, unless its form is so, or there is none
+abbrev pub unless_operand : ExpressionSurroundings → (TypeInner → Truth) → Option ℕ → (ℕ → ExpressionError) → Option ExpressionError
+unless_operand s is None error = None
+unless_operand s is (Some e) error = unless (is (form_at s e)) (error e)
+
+-- the refusal of a layer, unless one is chosen of an image that has several, and none of another
+abbrev pub misplaced_layer : Truth → Option ℕ → Option ExpressionError
+misplaced_layer arrayed array_index = unless (beq arrayed (is_some array_index)) refusal.InvalidImageArrayIndex
+
+-- the refusal of a layer, unless it is chosen of an image that has several, and its index is of a form that is so
+abbrev pub bad_layer : ExpressionSurroundings → (TypeInner → Truth) → Truth → Option ℕ → Option ExpressionError
+bad_layer s is arrayed array_index = first (misplaced_layer arrayed array_index ∷ unless_operand s is array_index refusal.InvalidImageArrayIndexType ∷ [])

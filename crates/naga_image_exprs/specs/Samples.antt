@@ -1,0 +1,229 @@
+-- The rule of samples of images.
+use Rattle.std.specs.Prelude.{◌≡◌, ◌&&◌, ◌||◌, ℕ, Bool as Truth, true, false, not, List, [], ◌∷◌, Option, Some, None, Result, Ok, Err, String, is_some, slice_get}
+use Rattle.std.specs.Bool.{beq}
+use Rattle.std.specs.declared.alloc.Global.{Global}
+use Rattle.naga_flags.specs.declared.flags.ShaderStages.{ShaderStages}
+use Rattle.naga_image_exprs.specs.Coordinates.{are_floats, are_signed, bad_layer, coordinate_count, is_integer_scalar}
+use Rattle.naga_image_exprs.specs.Resources.{and_then, image_type, resource_type, sampler_comparison}
+use Rattle.naga_image_exprs.specs.declared.resource.ImageType.{ImageType}
+use Rattle.naga_image_exprs.specs.declared.sample.Sample.{Sample}
+use Rattle.naga_ir.specs.declared.expression.SampleLevel.{SampleLevel}
+use Rattle.naga_ir.specs.declared.expression.SampleLevel.TheVariants.{Auto, Zero, Exact, Bias, Gradient}
+use Rattle.naga_ir.specs.declared.expression.SwizzleComponent.{SwizzleComponent}
+use Rattle.naga_ir.specs.declared.expression.SwizzleComponent.TheVariants.{X, Y, Z, W}
+use Rattle.naga_ir_types.specs.declared.types.ImageClass.{ImageClass}
+use Rattle.naga_ir_types.specs.declared.types.ImageClass.TheVariants.{Sampled, Depth, Storage, External}
+use Rattle.naga_ir_types.specs.declared.types.ImageDimension.{ImageDimension}
+use Rattle.naga_ir_types.specs.declared.types.ImageDimension.TheVariants.{D1, D2, D3, Cube}
+use Rattle.naga_ir_types.specs.declared.types.TypeInner.{TypeInner}
+use Rattle.naga_operands.specs.Results.{IsReturned}
+use Rattle.naga_operands.specs.Stages.{every_stage, fragment_stage}
+use Rattle.naga_operands.specs.Surroundings.{ExpressionSurroundings, form_at}
+use Rattle.naga_operands.specs.declared.error.ExpressionError.{ExpressionError}
+use Rattle.naga_operands.specs.declared.error.ExpressionError.TheVariants as refusal
+use Rattle.naga_types.specs.Judging.{first, judged, unless}
+use Rattle.naga_types.specs.TypeRule.{is_float, is_integer}
+use Rattle.naga_typing.specs.Kinds.{is_const}
+
+-- what is sampled, and whether the sampler compares: both are resources, the one an image and the other a sampler
+abbrev pub sampled : ExpressionSurroundings → ℕ → ℕ → Result (ImageType × Truth) ExpressionError
+sampled s image sampler =
+    and_then (resource_type s image) (λ image_ty.
+    and_then (resource_type s sampler) (λ sampler_ty.
+    and_then (sampler_comparison s sampler_ty) (λ comparison.
+    and_then (image_type s image_ty) (λ found. Ok (found, comparison)))))
+
+-- a class can be sampled, or gathered from: what is gathered may be integers, and nothing is multisampled
+abbrev pub can_sample : ImageClass → Truth → Truth
+can_sample (Sampled kind multi) gathers = not multi && (is_float kind || is_integer kind && gathers)
+can_sample (Depth multi) gathers = not multi
+can_sample (Storage format access) gathers = false
+can_sample External gathers = true
+
+-- the refusal of a class, unless it can be sampled
+abbrev pub bad_class : ImageClass → Option SwizzleComponent → Option ExpressionError
+bad_class class gather = unless (can_sample class (is_some gather)) (refusal.InvalidImageClass class)
+
+-- a class is that of depths
+abbrev pub is_depth : ImageClass → Truth
+is_depth (Depth multi) = true
+is_depth (Sampled kind multi) = false
+is_depth (Storage format access) = false
+is_depth External = false
+
+-- the refusal of a sampler, unless it compares exactly if there is a reference, and then depths
+abbrev pub bad_comparison : ImageClass → Truth → Option ℕ → Option ExpressionError
+bad_comparison class comparison depth_ref =
+    unless (beq comparison (is_some depth_ref) && (not comparison || is_depth class)) (refusal.ComparisonSamplingMismatch class comparison (is_some depth_ref))
+
+-- the refusal of coordinates, unless they are floating-point numbers, as many as an image of this dimension wants
+abbrev pub bad_coordinate : ExpressionSurroundings → ImageDimension → ℕ → Option ExpressionError
+bad_coordinate s dim coordinate = unless (are_floats (coordinate_count dim) (form_at s coordinate)) (refusal.InvalidImageCoordinateType dim coordinate)
+
+-- the refusal of an offset, unless it is known when the shader is compiled, and signed integers, as many as the coordinates
+abbrev pub bad_offset : ExpressionSurroundings → ImageDimension → Option ℕ → Option ExpressionError
+bad_offset s dim None = None
+bad_offset s dim (Some e) =
+    first
+    (unless (is_const (slice_get s.kinds e)) refusal.InvalidSampleOffsetExprType ∷
+    unless (are_signed (coordinate_count dim) (form_at s e)) (refusal.InvalidSampleOffset dim e) ∷
+    [])
+
+-- a level is chosen by derivatives, or is the first
+abbrev pub is_plain : SampleLevel → Truth
+is_plain Auto = true
+is_plain Zero = true
+is_plain (Exact e) = false
+is_plain (Bias e) = false
+is_plain (Gradient x y) = false
+
+-- the refusal of a reference, unless it is a floating-point number, and the level is not given by an operand
+abbrev pub bad_depth_reference : ExpressionSurroundings → Option ℕ → SampleLevel → Option ExpressionError
+bad_depth_reference s None level = None
+bad_depth_reference s (Some e) level =
+    first
+    (unless (are_floats 1 (form_at s e)) (refusal.InvalidDepthReference e) ∷
+    unless (is_plain level) refusal.InvalidDepthSampleLevel ∷
+    [])
+
+-- texels of an image of this dimension can be gathered
+abbrev pub can_gather : ImageDimension → Truth
+can_gather D2 = true
+can_gather Cube = true
+can_gather D1 = false
+can_gather D3 = false
+
+-- a component is the first
+abbrev pub is_first_component : SwizzleComponent → Truth
+is_first_component X = true
+is_first_component Y = false
+is_first_component Z = false
+is_first_component W = false
+
+-- a level is the first
+abbrev pub is_first_level : SampleLevel → Truth
+is_first_level Zero = true
+is_first_level Auto = false
+is_first_level (Exact e) = false
+is_first_level (Bias e) = false
+is_first_level (Gradient x y) = false
+
+-- the refusal of a gather, unless it is in a plane or a cube, of the first component if there are depths, and of the first level
+abbrev pub bad_gather : ImageType → Option SwizzleComponent → SampleLevel → Option ExpressionError
+bad_gather image None level = None
+bad_gather image (Some component) level =
+    first
+    (unless (can_gather image.dim) (refusal.InvalidGatherDimension image.dim) ∷
+    unless (not (is_depth image.class) || is_first_component component) (refusal.InvalidGatherComponent component) ∷
+    unless (is_first_level level) refusal.InvalidGatherLevel ∷
+    [])
+
+-- a class is that of floating-point numbers, not multisampled
+abbrev pub is_filtered : ImageClass → Truth
+is_filtered (Sampled kind multi) = is_float kind && not multi
+is_filtered (Depth multi) = false
+is_filtered (Storage format access) = false
+is_filtered External = false
+
+-- a class is that of images from outside
+abbrev pub is_external : ImageClass → Truth
+is_external External = true
+is_external (Sampled kind multi) = false
+is_external (Depth multi) = false
+is_external (Storage format access) = false
+
+-- an image has two dimensions
+abbrev pub is_plane : ImageDimension → Truth
+is_plane D2 = true
+is_plane D1 = false
+is_plane D3 = false
+is_plane Cube = false
+
+-- coordinates can be clamped in an image of two dimensions, of floating-point numbers or from outside, at the first level, and with nothing beside them: no gather, layer, offset or reference
+abbrev pub can_clamp : ImageType → Sample → Truth
+can_clamp image sample =
+    (is_filtered image.class || is_external image.class) && (is_plane image.dim && (is_first_level sample.level
+    && (not (is_some sample.gather) && (not (is_some sample.array_index) && (not (is_some sample.offset) && not (is_some sample.depth_ref))))))
+
+-- the refusal to clamp, which carries a text, unless that is not asked for, or can be done
+abbrev pub bad_clamp : String Global → ImageType → Sample → Option ExpressionError
+bad_clamp text image sample = unless (not sample.clamp_to_edge || can_clamp image sample) (refusal.InvalidSampleClampCoordinateToEdge text)
+
+-- the refusal of an image from outside, unless coordinates in it are clamped
+abbrev pub bad_external : ImageClass → Truth → Option ExpressionError
+bad_external class clamp_to_edge = unless (not (is_external class) || clamp_to_edge) (refusal.InvalidImageClass class)
+
+-- values of a form number the levels of an image of a class: integers those of depths, and floating-point numbers all others
+abbrev pub numbers_levels : ImageClass → TypeInner → Truth
+numbers_levels (Depth multi) inner = is_integer_scalar inner
+numbers_levels (Sampled kind multi) inner = are_floats 1 inner
+numbers_levels (Storage format access) inner = are_floats 1 inner
+numbers_levels External inner = are_floats 1 inner
+
+-- the refusal of the number of a level, unless it is an integer for depths, and a floating-point number for others
+abbrev pub bad_exact : ExpressionSurroundings → ImageClass → ℕ → Option ExpressionError
+bad_exact s class e = unless (numbers_levels class (form_at s e)) (refusal.InvalidSampleLevelExactType e)
+
+-- an image has one dimension
+abbrev pub is_line : ImageDimension → Truth
+is_line D1 = true
+is_line D2 = false
+is_line D3 = false
+is_line Cube = false
+
+-- the refusal of the bias of a level, unless it is a floating-point number, and the image one of such, of more than one dimension
+abbrev pub bad_bias : ExpressionSurroundings → ImageType → ℕ → Option ExpressionError
+bad_bias s image e =
+    first
+    (unless (are_floats 1 (form_at s e)) (refusal.InvalidSampleLevelBiasType e) ∷
+    unless (is_filtered image.class) (refusal.InvalidImageClass image.class) ∷
+    unless (not (is_line image.dim)) (refusal.InvalidSampleLevelBiasDimension image.dim) ∷
+    [])
+
+-- the refusal of a derivative, unless it is like coordinates
+abbrev pub bad_derivative : ExpressionSurroundings → ImageDimension → ℕ → Option ExpressionError
+bad_derivative s dim e = unless (are_floats (coordinate_count dim) (form_at s e)) (refusal.InvalidSampleLevelGradientType dim e)
+
+-- the refusal of a level, by what it is given by
+abbrev pub bad_level : ExpressionSurroundings → ImageType → SampleLevel → Option ExpressionError
+bad_level s image Auto = None
+bad_level s image Zero = None
+bad_level s image (Exact e) = bad_exact s image.class e
+bad_level s image (Bias e) = bad_bias s image e
+bad_level s image (Gradient x y) = first (bad_derivative s image.dim x ∷ bad_derivative s image.dim y ∷ [])
+
+-- the stages that may sample at a level: fragments alone have derivatives of their own
+abbrev pub level_stages : SampleLevel → ShaderStages
+level_stages Auto = fragment_stage
+level_stages Zero = every_stage
+level_stages (Exact e) = every_stage
+level_stages (Bias e) = fragment_stage
+level_stages (Gradient x y) = every_stage
+
+-- the conditions of a sample of this image by a sampler that compares or doesn't, if a refusal to clamp carries this text
+abbrev pub sample_conditions : ExpressionSurroundings → String Global → Sample → ImageType → Truth → List (Option ExpressionError)
+sample_conditions s text sample image comparison =
+    bad_layer s is_integer_scalar image.arrayed sample.array_index ∷
+    bad_class image.class sample.gather ∷
+    bad_comparison image.class comparison sample.depth_ref ∷
+    bad_coordinate s image.dim sample.coordinate ∷
+    bad_offset s image.dim sample.offset ∷
+    bad_depth_reference s sample.depth_ref sample.level ∷
+    bad_gather image sample.gather sample.level ∷
+    bad_clamp text image sample ∷
+    bad_external image.class sample.clamp_to_edge ∷
+    bad_level s image sample.level ∷
+    []
+
+-- the rule of a sample, if a refusal to clamp carries this text
+abbrev pub image_sample_rule : ExpressionSurroundings → String Global → Sample → Result ShaderStages ExpressionError
+image_sample_rule s text sample =
+    and_then (sampled s sample.image sample.sampler) (λ found. judged (sample_conditions s text sample found.0 found.1) (level_stages sample.level))
+
+-- what is meant by the rule of a sample, whose refusal to clamp carries some text
+abbrev pub IsImageSampleMeant : ExpressionSurroundings → Sample → Result ShaderStages ExpressionError → Type 0
+IsImageSampleMeant s sample meant = (text : String Global) × (meant ≡ image_sample_rule s text sample)
+
+-- a call returns what is meant by the rule of a sample, out of memory aside
+abbrev pub IsImageSampleReturned : ExpressionSurroundings → Sample → Result ShaderStages ExpressionError → Type 0
+IsImageSampleReturned s sample result = (meant : Result ShaderStages ExpressionError) × IsImageSampleMeant s sample meant × IsReturned meant result

@@ -1,0 +1,3 @@
+-- What private functions alone ask of one another, and promise.
+pub mod Clamps
+pub mod Known

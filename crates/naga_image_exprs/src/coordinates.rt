@@ -1,0 +1,105 @@
+//! What the rules of images ask of coordinates, and of the indexes of layers, samples and levels.
+
+ghost use Rattle.std.specs.Prelude.{◌≡◌, ◌<◌, IfSome, length};
+ghost use Rattle.naga_image_exprs.specs.Coordinates as rule;
+ghost use Rattle.naga_operands.specs.Surroundings.{AreSound, surroundings};
+ghost use Rattle.naga_types.specs.Judging.{granted};
+
+use naga_ir::handle::Handle;
+use naga_ir::tags::ExpressionTag;
+use naga_ir::types::{ImageDimension, Scalar, ScalarKind, TypeInner};
+use naga_operands::context::FunctionContext;
+use naga_operands::error::ExpressionError;
+use naga_operands::type_methods::{component_count, is_integer_scalar, vector_size_and_scalar};
+
+/// How many numbers the coordinates of an image of this dimension are.
+pub(crate) fn coordinate_count(dim: ImageDimension) -> u8
+    ensures { result ≡ rule.coordinate_count dim }
+{
+    match dim {
+        ImageDimension::D1 => 1,
+        ImageDimension::D2 => 2,
+        ImageDimension::D3 | ImageDimension::Cube => 3,
+    }
+}
+
+/// Whether a type is that of so many floating-point numbers: of one, or of a vector.
+pub(crate) fn are_floats(inner: &TypeInner, count: u8) -> bool
+    ensures { result ≡ rule.are_floats count inner.now }
+{
+    match vector_size_and_scalar(inner) {
+        Some((size, scalar)) => component_count(size) == count && scalar.kind == ScalarKind::Float,
+        None => false,
+    }
+}
+
+/// Whether a type is that of so many signed integers: of one, or of a vector.
+pub(crate) fn are_signed(inner: &TypeInner, count: u8) -> bool
+    ensures { result ≡ rule.are_signed count inner.now }
+{
+    match vector_size_and_scalar(inner) {
+        Some((size, scalar)) => component_count(size) == count && scalar.kind == ScalarKind::Sint,
+        None => false,
+    }
+}
+
+/// Whether a type is that of integers of 32 bits.
+pub(crate) fn is_index(inner: &TypeInner) -> bool
+    ensures { result ≡ rule.is_index inner.now }
+{
+    match vector_size_and_scalar(inner) {
+        Some((None, scalar)) => scalar == Scalar::I32 || scalar == Scalar::U32,
+        Some((Some(_), _)) | None => false,
+    }
+}
+
+/// Checks that a layer is chosen of an image that has several, and of no other.
+fn check_layer(
+    arrayed: bool,
+    array_index: Option<Handle<ExpressionTag>>,
+) -> Result<(), ExpressionError>
+    ensures { result ≡ granted (rule.misplaced_layer arrayed array_index) tt }
+{
+    if arrayed != array_index.is_some() {
+        return Err(ExpressionError::InvalidImageArrayIndex);
+    }
+    Ok(())
+}
+
+/// Checks the index of the layer that is sampled, which may be an integer of any width.
+pub(crate) fn check_sampled_layer(
+    context: FunctionContext<'_>,
+    arrayed: bool,
+    array_index: Option<Handle<ExpressionTag>>,
+) -> Result<(), ExpressionError>
+    requires sound { AreSound (surroundings context) }
+    requires known { IfSome array_index (λ e. e < length context.info.now.types) }
+    ensures { result ≡ granted (rule.bad_layer (surroundings context.entry) rule.is_integer_scalar arrayed array_index) tt }
+{
+    check_layer(arrayed, array_index)?;
+    match array_index {
+        Some(index) if !is_integer_scalar(context.type_of(index)) => {
+            Err(ExpressionError::InvalidImageArrayIndexType(index))
+        }
+        Some(_) | None => Ok(()),
+    }
+}
+
+/// Checks the index of the layer of which a texel is loaded: an integer of 32 bits.
+pub(crate) fn check_loaded_layer(
+    context: FunctionContext<'_>,
+    arrayed: bool,
+    array_index: Option<Handle<ExpressionTag>>,
+) -> Result<(), ExpressionError>
+    requires sound { AreSound (surroundings context) }
+    requires known { IfSome array_index (λ e. e < length context.info.now.types) }
+    ensures { result ≡ granted (rule.bad_layer (surroundings context.entry) rule.is_index arrayed array_index) tt }
+{
+    check_layer(arrayed, array_index)?;
+    match array_index {
+        Some(index) if !is_index(context.type_of(index)) => {
+            Err(ExpressionError::InvalidImageArrayIndexType(index))
+        }
+        Some(_) | None => Ok(()),
+    }
+}

@@ -1,0 +1,9 @@
+//! The rules of expressions of functions that read images or ask about them.
+#![tactic(auto)]
+
+pub mod clamp;
+pub mod coordinates;
+pub mod load;
+pub mod query;
+pub mod resource;
+pub mod sample;

@@ -1,0 +1,117 @@
+//! The rule of loads of texels.
+
+ghost use Rattle.std.specs.Prelude.{◌≡◌, ◌<◌, IfSome, length};
+ghost use Rattle.naga_image_exprs.specs.Loads as rule;
+ghost use Rattle.naga_ir.specs.declared.expression.Expression.TheVariants as form;
+ghost use Rattle.naga_operands.specs.Surroundings.{AreSound, IsJudgeable, surroundings};
+ghost use Rattle.naga_types.specs.Judging.{granted};
+
+use crate::coordinates::{check_loaded_layer, is_index};
+use crate::resource::image_at;
+use naga_flags::flags::ShaderStages;
+use naga_ir::handle::Handle;
+use naga_ir::tags::ExpressionTag;
+use naga_ir::types::ImageDimension;
+use naga_operands::context::{FunctionContext, every_stage};
+use naga_operands::error::ExpressionError;
+use naga_operands::type_methods::is_integer_scalar;
+use naga_types::type_methods::image_storage_coordinates;
+
+/// Checks that coordinates are those of an image of this dimension, in texels.
+fn check_coordinate(
+    context: FunctionContext<'_>,
+    dim: ImageDimension,
+    coordinate: Handle<ExpressionTag>,
+) -> Result<(), ExpressionError>
+    requires sound { AreSound (surroundings context) }
+    requires known { coordinate < length context.info.now.types }
+    ensures { result ≡ granted (rule.bad_coordinate (surroundings context.entry) dim coordinate) tt }
+{
+    match image_storage_coordinates(context.type_of(coordinate)) {
+        Some(found) if found == dim => Ok(()),
+        Some(_) | None => Err(ExpressionError::InvalidImageCoordinateType(dim, coordinate)),
+    }
+}
+
+/// Checks that a sample is chosen of a multisampled image, by an integer of 32 bits, and of no other.
+fn check_sample(
+    context: FunctionContext<'_>,
+    multisampled: bool,
+    sample: Option<Handle<ExpressionTag>>,
+) -> Result<(), ExpressionError>
+    requires sound { AreSound (surroundings context) }
+    requires known { IfSome sample (λ e. e < length context.info.now.types) }
+    ensures { result ≡ granted (rule.bad_sample (surroundings context.entry) multisampled sample) tt }
+{
+    match (sample, multisampled) {
+        (None, false) => Ok(()),
+        (Some(sample), true) => {
+            if !is_index(context.type_of(sample)) {
+                return Err(ExpressionError::InvalidImageOtherIndexType(sample));
+            }
+            Ok(())
+        }
+        (Some(_), false) => Err(ExpressionError::InvalidImageSampleSelector),
+        (None, true) => Err(ExpressionError::MissingImageSampleSelector),
+    }
+}
+
+/// Checks that a level is chosen of an image that may have several, by an integer, and of no other.
+fn check_level(
+    context: FunctionContext<'_>,
+    mipmapped: bool,
+    level: Option<Handle<ExpressionTag>>,
+) -> Result<(), ExpressionError>
+    requires sound { AreSound (surroundings context) }
+    requires known { IfSome level (λ e. e < length context.info.now.types) }
+    ensures { result ≡ granted (rule.bad_level (surroundings context.entry) mipmapped level) tt }
+{
+    match (level, mipmapped) {
+        (None, false) => Ok(()),
+        (Some(level), true) => {
+            if !is_integer_scalar(context.type_of(level)) {
+                return Err(ExpressionError::InvalidImageArrayIndexType(level));
+            }
+            Ok(())
+        }
+        (Some(_), false) => Err(ExpressionError::InvalidImageLevelSelector),
+        (None, true) => Err(ExpressionError::MissingImageLevelSelector),
+    }
+}
+
+/// The stages that may use a load of a texel (WGSL "textureLoad").
+///
+/// # Errors
+///
+/// - `ExpectedGlobalVariable` if what is loaded from is no variable of the module, no argument, and no
+///   element of such a variable. `ExpectedBindingArrayType` if it is an element of a variable that is no
+///   binding array.
+/// - `ExpectedImageType` if it is no image.
+/// - `InvalidImageCoordinateType` if the coordinates are not as many integers as the image has dimensions.
+///   Nothing is loaded from cubes.
+/// - `InvalidImageArrayIndex` if the image has layers and none is chosen, or the other way round.
+///   `InvalidImageArrayIndexType` if the index of the layer is no integer of 32 bits.
+/// - `InvalidImageSampleSelector` if a sample is chosen of an image that isn't multisampled, and
+///   `MissingImageSampleSelector` if none is chosen of one that is. `InvalidImageOtherIndexType` if the
+///   index of the sample is no integer of 32 bits.
+/// - `InvalidImageLevelSelector` if a level is chosen of an image that can't have several, and
+///   `MissingImageLevelSelector` if none is chosen of one that can. `InvalidImageArrayIndexType` if the
+///   number of the level is no integer.
+pub fn validate_image_load(
+    context: FunctionContext<'_>,
+    image: Handle<ExpressionTag>,
+    coordinate: Handle<ExpressionTag>,
+    array_index: Option<Handle<ExpressionTag>>,
+    sample: Option<Handle<ExpressionTag>>,
+    level: Option<Handle<ExpressionTag>>,
+) -> Result<ShaderStages, ExpressionError>
+    requires { IsJudgeable (surroundings context) (form.ImageLoad image coordinate array_index sample level) }
+    ensures { result ≡ rule.image_load_rule (surroundings context.entry) image coordinate array_index sample level }
+{
+    let found = image_at(context, image)?;
+    check_coordinate(context, found.dim, coordinate)?;
+    check_loaded_layer(context, found.arrayed, array_index)?;
+    check_sample(context, found.class.is_multisampled(), sample)?;
+    check_level(context, found.class.is_mipmapped(), level)?;
+    Ok(every_stage())
+}
