@@ -8,8 +8,11 @@ ghost use Rattle.naga_ir.specs.declared.expression.Expression.TheVariants as for
 ghost use Rattle.naga_typing.specs.Resolutions.{ResolutionExists};
 
 mod access;
+mod images;
 mod operands;
 mod operators;
+mod refused_memory;
+mod samples;
 mod values;
 
 use bitflags::Flags;
@@ -138,13 +141,7 @@ fn is_known(expression: &Expression) -> bool
 fn is_covered(expression: &Expression) -> bool
     ensures { IsTrue result → IsCovered expression.now }
 {
-    !matches!(
-        expression,
-        Expression::ImageSample { .. }
-            | Expression::ImageLoad { .. }
-            | Expression::ImageQuery { .. }
-            | Expression::Math { .. }
-    )
+    !matches!(expression, Expression::Math { .. })
 }
 
 /// The kinds of a function's expressions.
@@ -159,6 +156,9 @@ fn kinds_of(
     ExpressionKindTracker::from_arena(alloc, &function.expressions)
 }
 
+/// What is said of an expression, unless memory was refused before it was judged.
+type Said = Result<Result<ShaderStages, ExpressionError>, OutOfMemory>;
+
 /// What is said of the last expression of a module's second function.
 fn judge(
     rt: &(impl AllocGlobal + Abort),
@@ -166,7 +166,7 @@ fn judge(
     module: &Module,
     types: &FunctionInfo,
     info: &ModuleInfo,
-) -> Result<ShaderStages, ExpressionError>
+) -> Said
     requires flags { length «module».now.types ≤ length info.now.lists.type_flags }
     requires functions { length info.now.lists.functions ≡ 1 }
 {
@@ -182,8 +182,8 @@ fn judge(
     assert!(rt; arguments_exist(function, count - 1));
     assert!(rt; all_exist(types.types.as_slice(), module));
     assert!(rt; count - 1 <= types.types.len());
-    let kinds = kinds_of(rt.alloc(), module, function).expect(rt, "memory");
-    validate_expression(
+    let kinds = kinds_of(rt.alloc(), module, function)?;
+    Ok(validate_expression(
         rt.alloc(),
         ctx,
         root,
@@ -193,7 +193,20 @@ fn judge(
         types,
         info,
         &kinds,
-    )
+    ))
+}
+
+/// What is said of an expression among the operands, which are added to a module of their types.
+fn said_in(
+    rt: &(impl AllocGlobal + Abort),
+    ctx: ExprContext<'_, PlainTyping>,
+    module: &mut Module,
+    expression: Expression,
+) -> Said {
+    add_function(rt, rt.alloc(), module, expression)?;
+    let types = types_of(rt.alloc())?;
+    let info = known(rt.alloc(), &module.types)?;
+    judge(rt, ctx, module, &types, &info)
 }
 
 /// What is said of an expression among the operands.
@@ -201,12 +214,24 @@ fn said_of(
     rt: &(impl AllocGlobal + Abort),
     ctx: ExprContext<'_, PlainTyping>,
     expression: Expression,
-) -> Result<ShaderStages, ExpressionError> {
-    let mut contents = read_text(rt.alloc(), ITEMS.as_bytes()).expect(rt, "readable");
-    add_function(rt, rt.alloc(), &mut contents.module, expression).expect(rt, "memory");
-    let types = types_of(rt.alloc()).expect(rt, "memory");
-    let info = known(rt.alloc(), &contents.module.types).expect(rt, "memory");
-    judge(rt, ctx, &contents.module, &types, &info)
+) -> Said {
+    match read_text(rt.alloc(), ITEMS.as_bytes()) {
+        Ok(mut contents) => said_in(rt, ctx, &mut contents.module, expression),
+        Err(_) => Err(OutOfMemory),
+    }
+}
+
+/// What expressions are judged by.
+fn context(
+    capabilities: Capabilities,
+    overrides_resolved: bool,
+) -> ExprContext<'static, PlainTyping> {
+    ExprContext {
+        capabilities,
+        overrides_resolved,
+        subgroup_stages: ShaderStages::COMPUTE_LIKE,
+        typing: &PlainTyping,
+    }
 }
 
 /// All stages may use the expression.
@@ -222,7 +247,8 @@ fn assert_said_in(
     want: &Result<ShaderStages, ExpressionError>,
 ) {
     let shown = format!(in rt.alloc(); "{expression:?}").expect(rt, "memory");
-    assert_same_for(rt, &shown, &said_of(rt, ctx, expression), want);
+    let said = said_of(rt, ctx, expression).expect(rt, "memory");
+    assert_same_for(rt, &shown, &said, want);
 }
 
 /// Makes sure of what is said of an expression if shaders may use these capabilities.
@@ -232,13 +258,7 @@ fn assert_said_under(
     expression: Expression,
     want: &Result<ShaderStages, ExpressionError>,
 ) {
-    let ctx = ExprContext {
-        capabilities,
-        overrides_resolved: false,
-        subgroup_stages: ShaderStages::COMPUTE_LIKE,
-        typing: &PlainTyping,
-    };
-    assert_said_in(rt, ctx, expression, want);
+    assert_said_in(rt, context(capabilities, false), expression, want);
 }
 
 /// Makes sure of what is said of an expression with what shaders may use by default.
@@ -256,11 +276,5 @@ fn assert_said_resolved(
     expression: Expression,
     want: &Result<ShaderStages, ExpressionError>,
 ) {
-    let ctx = ExprContext {
-        capabilities: Capabilities::default(),
-        overrides_resolved: true,
-        subgroup_stages: ShaderStages::COMPUTE_LIKE,
-        typing: &PlainTyping,
-    };
-    assert_said_in(rt, ctx, expression, want);
+    assert_said_in(rt, context(Capabilities::default(), true), expression, want);
 }

@@ -5,6 +5,9 @@ use Rattle.naga_access_exprs.specs.Memory.{array_length_rule, cooperative_load_r
 use Rattle.naga_access_exprs.specs.RayQueries.{ray_query_get_intersection_rule, ray_query_vertex_positions_rule}
 use Rattle.naga_access_exprs.specs.Vectors.{swizzle_rule}
 use Rattle.naga_flags.specs.declared.flags.ShaderStages.{ShaderStages}
+use Rattle.naga_image_exprs.specs.Loads.{image_load_rule}
+use Rattle.naga_image_exprs.specs.Queries.{image_query_rule}
+use Rattle.naga_image_exprs.specs.Samples.{IsImageSampleMeant}
 use Rattle.naga_ir.specs.declared.expression.Expression.{Expression}
 use Rattle.naga_ir.specs.declared.expression.Expression.TheVariants as form
 use Rattle.naga_operands.specs.Results.{IsReturned}
@@ -16,7 +19,7 @@ use Rattle.naga_operator_exprs.specs.Cooperative.{cooperative_multiply_add_rule}
 use Rattle.naga_operator_exprs.specs.Operators.{as_rule, derivative_rule, relational_rule, select_rule, unary_rule}
 use Rattle.naga_value_exprs.specs.Values.{argument_rule, call_stages, composition_rule, literal_value_rule, splat_rule, workgroup_load_rule, zero_value_rule}
 
--- the forms that can be judged: all but those of images and of mathematical functions
+-- the forms that can be judged: all but mathematical functions
 abbrev pub IsCovered : Expression → Type 0
 IsCovered (form.Literal value) = ⊤
 IsCovered (form.Constant c) = ⊤
@@ -41,9 +44,9 @@ IsCovered (form.CallResult f) = ⊤
 IsCovered (form.AtomicResult ty comparison) = ⊤
 IsCovered (form.WorkGroupUniformLoadResult ty) = ⊤
 IsCovered (form.ArrayLength expr) = ⊤
-IsCovered (form.ImageSample image sampler gather coordinate array_index offset level depth_ref clamp_to_edge) = ⊥
-IsCovered (form.ImageLoad image coordinate array_index sample level) = ⊥
-IsCovered (form.ImageQuery image query) = ⊥
+IsCovered (form.ImageSample image sampler gather coordinate array_index offset level depth_ref clamp_to_edge) = ⊤
+IsCovered (form.ImageLoad image coordinate array_index sample level) = ⊤
+IsCovered (form.ImageQuery image query) = ⊤
 IsCovered (form.Math fun arg arg1 arg2 arg3) = ⊥
 IsCovered form.RayQueryProceedResult = ⊤
 IsCovered (form.RayQueryGetIntersection query committed) = ⊤
@@ -78,9 +81,12 @@ IsMeant s (form.CallResult f) meant = meant ≡ Ok (call_stages s f)
 IsMeant s (form.AtomicResult ty comparison) meant = meant ≡ Ok every_stage
 IsMeant s (form.WorkGroupUniformLoadResult ty) meant = meant ≡ workgroup_load_rule s ty
 IsMeant s (form.ArrayLength expr) meant = meant ≡ array_length_rule s expr
-IsMeant s (form.ImageSample image sampler gather coordinate array_index offset level depth_ref clamp_to_edge) meant = ⊥
-IsMeant s (form.ImageLoad image coordinate array_index sample level) meant = ⊥
-IsMeant s (form.ImageQuery image query) meant = ⊥
+IsMeant s (form.ImageSample image sampler gather coordinate array_index offset level depth_ref clamp_to_edge) meant =
+    IsImageSampleMeant s
+    (record { image = image; sampler = sampler; gather = gather; coordinate = coordinate; array_index = array_index; offset = offset; level = level; depth_ref = depth_ref; clamp_to_edge = clamp_to_edge })
+    meant
+IsMeant s (form.ImageLoad image coordinate array_index sample level) meant = meant ≡ image_load_rule s image coordinate array_index sample level
+IsMeant s (form.ImageQuery image query) meant = meant ≡ image_query_rule s image query
 IsMeant s (form.Math fun arg arg1 arg2 arg3) meant = ⊥
 IsMeant s form.RayQueryProceedResult meant = meant ≡ Ok every_stage
 IsMeant s (form.RayQueryGetIntersection query committed) meant = meant ≡ ray_query_get_intersection_rule s query

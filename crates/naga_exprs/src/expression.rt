@@ -1,7 +1,7 @@
 //! The rule of one expression of a function (naga's `Validator::validate_expression`).
 
 ghost use Rattle.naga_exprs.specs.ExpressionRule.{IsCovered, IsExpressionResult};
-ghost use Rattle.naga_operands.specs.Surroundings.{CanJudge, surroundings};
+ghost use Rattle.naga_operands.specs.Surroundings.{CanJudge, IsJudgeable, surroundings};
 
 use naga_access_exprs::access::{validate_access, validate_access_index, validate_swizzle};
 use naga_access_exprs::memory::{validate_array_length, validate_cooperative_load, validate_load};
@@ -9,6 +9,9 @@ use naga_access_exprs::ray_query::{
     validate_ray_query_get_intersection, validate_ray_query_vertex_positions,
 };
 use naga_flags::flags::ShaderStages;
+use naga_image_exprs::load::validate_image_load;
+use naga_image_exprs::query::validate_image_query;
+use naga_image_exprs::sample::{Sample, validate_image_sample};
 use naga_infos::context::ExprContext;
 use naga_infos::module_info::{FunctionInfo, ModuleInfo};
 use naga_ir::expression::Expression;
@@ -32,71 +35,100 @@ use std::alloc::Global;
 
 /// The stages that may use an expression, by the rule of its form.
 fn validate_form(
+    alloc: Global,
     context: FunctionContext<'_>,
-    root: Handle<ExpressionTag>,
     expression: &Expression,
 ) -> Result<ShaderStages, ExpressionError>
-    requires can_judge { CanJudge (surroundings context) root expression.now }
+    requires can_judge { IsJudgeable (surroundings context) expression.now }
     requires covered { IsCovered expression.now }
     ensures { IsExpressionResult (surroundings context.entry) expression.now result }
 {
-    match expression {
-        Expression::Access { base, index } => validate_access(context, *base, *index),
-        Expression::AccessIndex { base, index } => validate_access_index(context, *base, *index),
-        Expression::Splat { value, .. } => validate_splat(context, *value),
+    match *expression {
+        Expression::Access { base, index } => validate_access(context, base, index),
+        Expression::AccessIndex { base, index } => validate_access_index(context, base, index),
+        Expression::Splat { value, .. } => validate_splat(context, value),
         Expression::Swizzle {
             size,
             vector,
-            pattern,
-        } => validate_swizzle(context, *size, *vector, pattern),
-        Expression::Literal(literal) => validate_literal_value(context, *literal),
-        Expression::ZeroValue(ty) => validate_zero_value(context, *ty),
-        Expression::Compose { ty, components } => {
-            validate_composition(context, *ty, components.as_slice())
-        }
-        Expression::FunctionArgument(index) => validate_function_argument(context, *index),
+            ref pattern,
+        } => validate_swizzle(context, size, vector, pattern),
+        Expression::Literal(literal) => validate_literal_value(context, literal),
         Expression::Constant(_)
         | Expression::Override(_)
         | Expression::GlobalVariable(_)
         | Expression::LocalVariable(_)
         | Expression::AtomicResult { .. }
         | Expression::RayQueryProceedResult => Ok(every_stage()),
-        Expression::Load { pointer } => validate_load(context, *pointer),
-        Expression::Unary { op, expr } => validate_unary(context, *op, *expr),
-        Expression::Binary { op, left, right } => validate_binary(context, *op, *left, *right),
+        Expression::ZeroValue(ty) => validate_zero_value(context, ty),
+        Expression::Compose { ty, ref components } => {
+            validate_composition(context, ty, components.as_slice())
+        }
+        Expression::FunctionArgument(index) => validate_function_argument(context, index),
+        Expression::Load { pointer } => validate_load(context, pointer),
+        Expression::ImageSample {
+            image,
+            sampler,
+            gather,
+            coordinate,
+            array_index,
+            offset,
+            level,
+            depth_ref,
+            clamp_to_edge,
+        } => {
+            let sample = Sample {
+                image,
+                sampler,
+                gather,
+                coordinate,
+                array_index,
+                offset,
+                level,
+                depth_ref,
+                clamp_to_edge,
+            };
+            validate_image_sample(alloc, context, sample)
+        }
+        Expression::ImageLoad {
+            image,
+            coordinate,
+            array_index,
+            sample,
+            level,
+        } => validate_image_load(context, image, coordinate, array_index, sample, level),
+        Expression::ImageQuery { image, query } => validate_image_query(context, image, query),
+        Expression::Unary { op, expr } => validate_unary(context, op, expr),
+        Expression::Binary { op, left, right } => validate_binary(context, op, left, right),
         Expression::Select {
             condition,
             accept,
             reject,
-        } => validate_select(context, *condition, *accept, *reject),
-        Expression::Derivative { expr } => validate_derivative(context, *expr),
-        Expression::Relational { fun, argument } => validate_relational(context, *fun, *argument),
+        } => validate_select(context, condition, accept, reject),
+        Expression::Derivative { expr } => validate_derivative(context, expr),
+        Expression::Relational { fun, argument } => validate_relational(context, fun, argument),
+        Expression::Math { .. } => unreachable!(),
         Expression::As {
             expr,
             kind,
             convert,
-        } => validate_as(context, *expr, *kind, *convert),
-        Expression::CallResult(function) => Ok(validate_call_result(context, *function)),
+        } => validate_as(context, expr, kind, convert),
+        Expression::CallResult(function) => Ok(validate_call_result(context, function)),
         Expression::WorkGroupUniformLoadResult { ty } => {
-            validate_workgroup_uniform_load_result(context, *ty)
+            validate_workgroup_uniform_load_result(context, ty)
         }
-        Expression::ArrayLength(array) => validate_array_length(context, *array),
-        Expression::ImageSample { .. }
-        | Expression::ImageLoad { .. }
-        | Expression::ImageQuery { .. }
-        | Expression::Math { .. } => unreachable!(),
+        Expression::ArrayLength(array) => validate_array_length(context, array),
         Expression::RayQueryGetIntersection { query, .. } => {
-            validate_ray_query_get_intersection(context, *query)
+            validate_ray_query_get_intersection(context, query)
         }
         Expression::RayQueryVertexPositions { query, .. } => {
-            validate_ray_query_vertex_positions(context, *query)
+            validate_ray_query_vertex_positions(context, query)
         }
         Expression::SubgroupBallotResult | Expression::SubgroupOperationResult { .. } => {
             Ok(context.subgroup_stages)
         }
-        Expression::CooperativeLoad { pointer, .. } => validate_cooperative_load(context, *pointer),
+        Expression::CooperativeLoad { pointer, .. } => validate_cooperative_load(context, pointer),
         Expression::CooperativeMultiplyAdd { a, b, c } => {
-            validate_cooperative_multiply_add(context, *a, *b, *c)
+            validate_cooperative_multiply_add(context, a, b, c)
         }
     }
 }
@@ -121,7 +153,7 @@ fn validate_form(
 /// That of the first condition of its form that the expression breaks; the forms' own functions list
 /// them. `OutOfMemory` if memory was refused for a struct that an error holds.
 pub fn validate_expression<T: Typing>(
-    _alloc: Global,
+    alloc: Global,
     ctx: ExprContext<'_, T>,
     root: Handle<ExpressionTag>,
     expression: &Expression,
@@ -163,5 +195,5 @@ pub fn validate_expression<T: Typing>(
         mod_info,
         kinds,
     };
-    validate_form(context, root, expression)
+    validate_form(alloc, context, expression)
 }
