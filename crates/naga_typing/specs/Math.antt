@@ -217,9 +217,13 @@ signature math.Determinant = record (one is_square) { result = scalar_type }
 signature math.Pack2x16float = record (one (same (Vector Bi f32_scalar))) { result = λ first. Some (Scalar u32_scalar) }
 signature math.Unpack2x16float = record (one (same (Scalar u32_scalar))) { result = λ first. Some (Vector Bi f32_scalar) }
 
--- each further argument is as its rule says beside the first, and there are no more arguments than rules
+-- each further argument is as its rule says beside the first
+abbrev pub are_taken : List (TypeInner → TypeInner → Truth) → TypeInner → List TypeInner → Truth
+are_taken rules first further = list_all (λ pair. pair.0 first pair.1) (zip rules further)
+
+-- so it is, and there are no more arguments than rules
 abbrev pub takes_each : List (TypeInner → TypeInner → Truth) → TypeInner → List TypeInner → Truth
-takes_each rules first further = leb (length further) (length rules) && list_all (λ pair. pair.0 first pair.1) (zip rules further)
+takes_each rules first further = leb (length further) (length rules) && are_taken rules first further
 
 -- a function takes arguments of these types, which may be the first of several: the first is as it takes it, and so is each further one beside the first
 abbrev pub takes : Signature → List TypeInner → Truth

@@ -31,7 +31,7 @@ use Rattle.naga_ir_types.specs.declared.types.TypeInner.{TypeInner}
 use Rattle.naga_ir_types.specs.declared.types.TypeInner.TheVariants.{Scalar, Vector, Matrix, CooperativeMatrix, Array, Struct}
 use Rattle.naga_ir_types.specs.declared.types.VectorSize.{VectorSize}
 use Rattle.naga_ir_types.proofs.PartLemmas.{base_is, members_are}
-use Rattle.naga_typing.specs.Math.{argument_type, math_type, result_type, scalar_type, signature, transposed}
+use Rattle.naga_typing.specs.Math.{argument_type, arguments, has_no_gap, math_type, result_type, scalar_type, signature, transposed}
 use Rattle.naga_typing.specs.PlainTyping.{ResolveResult, binary_of, cast_of, element_of, math_of, of_form, part_of, plain_resolves, product_of, relational_of, same_type, splat_of, swizzle_of, truths_of, type_of_constant, type_of_member, type_of_override, value_of}
 use Rattle.naga_typing.specs.Resolutions.{AllPartsExist, IsProperResolution, PartsExist, ResolutionExists, TypesExist, inner_in, operand}
 use Rattle.naga_typing.specs.Typings.{CanResolve, IsLawful, counts_in_sight}
@@ -148,7 +148,9 @@ module _ (g : GlobalLists) where
   of_result_type fun (first ∷ further) = of_choice _ _ (of_signature fun first)
 
   of_math : (fun : MathFunction) (first : TypeInner) (second third fourth : Option TypeInner) → IsLawfulResult g (value_of (math_type fun first second third fourth))
-  of_math fun first second third fourth = of_value _ (of_choice _ _ (of_result_type fun _))
+  of_math fun first second third fourth =
+      let types = arguments first second third fourth in
+      of_value (math_type fun first second third fourth) (of_choice (has_no_gap second third fourth) (result_type fun types) (of_result_type fun types))
 
   of_product : (left right : ResolveResult) (x y : TypeInner) → IsLawfulResult g left → IsLawfulResult g right → IsLawfulResult g (product_of left right x y)
   of_product left right (Scalar s) (Vector size scalar) l r = r

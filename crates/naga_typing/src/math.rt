@@ -7,11 +7,11 @@ ghost use Rattle.naga_ir_types.specs.contracts.types.ScalarKindPartialEq.TheImpl
 ghost use Rattle.naga_typing.specs.Math as spec;
 ghost use Rattle.naga_typing.specs.steps.Math.{concluded, kinds_of, meaning, takes_first, takes_further};
 
-use naga_ir::expression::MathFunction as Math;
-use naga_ir::types::{Scalar, ScalarKind, TypeInner, VectorSize};
 use ConclusionRule::{ArgumentType, ScalarOfArgument, Transposed};
 use FirstArgument::{Matrix, ScalarOrVector, SquareMatrix, Vector, VectorOfThree};
 use FurtherArgument::{ExactlyU32, Same, SameOrScalar, ScalarOfFirst};
+use naga_ir::expression::MathFunction as Math;
+use naga_ir::types::{Scalar, ScalarKind, TypeInner, VectorSize};
 
 /// Kinds of scalars.
 #[derive(Clone, Copy)]
@@ -79,8 +79,11 @@ struct Signature {
 }
 
 const FLOATS: FirstArgument = ScalarOrVector(ScalarSet::Float);
+
 const FLOAT_VECTORS: FirstArgument = Vector(ScalarSet::Float);
+
 const NUMBERS: FirstArgument = ScalarOrVector(ScalarSet::Number);
+
 const INTEGERS: FirstArgument = ScalarOrVector(ScalarSet::Integer);
 
 /// A row of the table of functions.
@@ -221,7 +224,10 @@ impl ScalarSet {
         match self {
             ScalarSet::Float => matches!(kind, ScalarKind::Float),
             ScalarSet::Number => {
-                matches!(kind, ScalarKind::Sint | ScalarKind::Uint | ScalarKind::Float)
+                matches!(
+                    kind,
+                    ScalarKind::Sint | ScalarKind::Uint | ScalarKind::Float
+                )
             }
             ScalarSet::Signed => matches!(kind, ScalarKind::Float | ScalarKind::Sint),
             ScalarSet::Integer => matches!(kind, ScalarKind::Sint | ScalarKind::Uint),
@@ -307,8 +313,8 @@ fn takes_each(rules: &[FurtherArgument], first: &TypeInner, further: &[&TypeInne
     if further.len() > rules.len() {
         return false;
     }
-    for (rule, inner) in rules.iter().zip(further) {
-        if !rule.takes(first, inner) {
+    for (index, inner) in further.iter().enumerate() {
+        if !rules[index].takes(first, inner) {
             return false;
         }
     }

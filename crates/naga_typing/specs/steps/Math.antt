@@ -1,5 +1,5 @@
 -- What the rows of the code's table of mathematical functions mean.
-use Rattle.std.specs.Prelude.{Bool as Truth, List, Option, Some, is_some, map}
+use Rattle.std.specs.Prelude.{Bool as Truth, List, Option, Some, map}
 use Rattle.naga_ir_types.specs.declared.types.ScalarKind.{ScalarKind}
 use Rattle.naga_ir_types.specs.declared.types.TypeInner.{TypeInner}
 use Rattle.naga_ir_types.specs.declared.types.TypeInner.TheVariants.{Scalar, Vector}
