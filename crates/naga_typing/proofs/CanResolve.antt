@@ -46,9 +46,11 @@ module _ (m : Module) (x : Expression) (earlier : List TypeResolution) (can : Ca
   global_variable_exists v e = All-contains InSight (expression_references x) (to.GlobalVariable v) can.references (item_in x (to.GlobalVariable v) (variable_named v e))
 
   -- each operand has a type
+  pub all_earlier : All (λ (o : ℕ). o < length earlier) (operands x)
+  all_earlier = all-unmap InSight to.Expression (operands x) (all-left InSight (map to.Expression (operands x)) (named_references x) can.references)
+
   pub operands_earlier : (o : ℕ) → Contains (operands x) o → o < length earlier
-  operands_earlier o names =
-      All-contains (λ (o : ℕ). o < length earlier) (operands x) o (all-unmap InSight to.Expression (operands x) (all-left InSight (map to.Expression (operands x)) (named_references x) can.references)) names
+  operands_earlier o names = All-contains (λ (o : ℕ). o < length earlier) (operands x) o all_earlier names
 
 module _ (m : Module) (count n local_variables : ℕ) where
   abbrev Before : Reference → Type 0

@@ -12,6 +12,7 @@ pub mod Layouts
 pub mod LeafAlignments
 pub mod LeafLemmas
 pub mod Lengths
+pub mod MathOperands
 pub mod Pointers
 pub mod Powers
 pub mod Resolutions

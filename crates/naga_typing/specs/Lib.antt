@@ -10,12 +10,14 @@
 -- Typings.CanResolve, IsLawful: what a typing may rely on, and what it promises
 -- Typings.AreResolved: what the types of a module's global expressions are
 -- PlainTyping.plain_resolves: what `PlainTyping` promises beside
+-- Math.signature: what each mathematical function takes and returns, by `PlainTyping`
 pub mod Constants
 pub mod Context
 pub mod Index
 pub mod Kinds
 pub mod Layout
 pub mod Leaves
+pub mod Math
 pub mod PlainLaws
 pub mod PlainTyping
 pub mod Resolutions

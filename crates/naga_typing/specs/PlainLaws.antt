@@ -1,6 +1,6 @@
 -- `PlainTyping` keeps the laws of typings. The proof is among the definitions, since an `impl` cites it.
 use Rattle.std.proofs.Common.{◌≡◌, ◌<◌, ℕ, List, Option, Some, None, Ok, Err, All, length, get_or, map, slice_get, refl, ap, subst, arith}
-use Rattle.std.specs.Prelude.{⊤}
+use Rattle.std.specs.Prelude.{Bool, true, false, if◌then◌else◌, IfSome, [], ◌∷◌, ⊤}
 use Rattle.std.specs.Option.{option_and_then, option_map}
 use Rattle.std.proofs.lemmas.Option.{same_Some, slice_get-get_or}
 use Rattle.std.proofs.lemmas.List.Elements.{All-contains, All-nil}
@@ -14,6 +14,8 @@ use Rattle.naga_ir.specs.declared.expression.BinaryOperator.{BinaryOperator}
 use Rattle.naga_ir.specs.declared.expression.BinaryOperator.TheVariants.{Multiply, Equal, NotEqual, Less, LessEqual, Greater, GreaterEqual}
 use Rattle.naga_ir.specs.declared.expression.Expression.{Expression}
 use Rattle.naga_ir.specs.declared.expression.Expression.TheVariants as form
+use Rattle.naga_ir.specs.declared.expression.MathFunction.{MathFunction}
+use Rattle.naga_ir.specs.declared.expression.MathFunction.TheVariants as math
 use Rattle.naga_ir.specs.declared.expression.RelationalFunction.{RelationalFunction}
 use Rattle.naga_ir.specs.declared.expression.RelationalFunction.TheVariants.{All as OfAll, Any, IsNan, IsInf}
 use Rattle.naga_ir.specs.declared.ir.Constant.{Constant}
@@ -26,10 +28,11 @@ use Rattle.naga_ir_types.specs.declared.types.Scalar.{Scalar as ScalarType}
 use Rattle.naga_ir_types.specs.declared.types.ScalarKind.{ScalarKind}
 use Rattle.naga_ir_types.specs.declared.types.StructMember.{StructMember}
 use Rattle.naga_ir_types.specs.declared.types.TypeInner.{TypeInner}
-use Rattle.naga_ir_types.specs.declared.types.TypeInner.TheVariants.{Scalar, Vector, Matrix, Array, Struct}
+use Rattle.naga_ir_types.specs.declared.types.TypeInner.TheVariants.{Scalar, Vector, Matrix, CooperativeMatrix, Array, Struct}
 use Rattle.naga_ir_types.specs.declared.types.VectorSize.{VectorSize}
 use Rattle.naga_ir_types.proofs.PartLemmas.{base_is, members_are}
-use Rattle.naga_typing.specs.PlainTyping.{ResolveResult, binary_of, cast_of, element_of, of_form, part_of, plain_resolves, product_of, relational_of, same_type, splat_of, swizzle_of, truths_of, type_of_constant, type_of_member, type_of_override}
+use Rattle.naga_typing.specs.Math.{argument_type, arguments, has_no_gap, math_type, result_type, scalar_type, signature, transposed}
+use Rattle.naga_typing.specs.PlainTyping.{ResolveResult, binary_of, cast_of, element_of, math_of, of_form, part_of, plain_resolves, product_of, relational_of, same_type, splat_of, swizzle_of, truths_of, type_of_constant, type_of_member, type_of_override, value_of}
 use Rattle.naga_typing.specs.Resolutions.{AllPartsExist, IsProperResolution, PartsExist, ResolutionExists, TypesExist, inner_in, operand}
 use Rattle.naga_typing.specs.Typings.{CanResolve, IsLawful, counts_in_sight}
 use Rattle.naga_typing.specs.declared.typifier.ResolveError.TheVariants.{IncompatibleOperands, NotResolvable, OutOfMemory}
@@ -42,6 +45,10 @@ IsLawfulResult g (Ok r) = ResolutionExists g r × IsProperResolution r
 IsLawfulResult g (Err IncompatibleOperands) = ⊤
 IsLawfulResult g (Err NotResolvable) = ⊤
 IsLawfulResult g (Err OutOfMemory) = ⊥
+
+-- a form keeps them as the result
+abbrev IsLawfulForm : GlobalLists → TypeInner → Type 0
+IsLawfulForm g inner = IsLawfulResult g (Ok (Value inner))
 
 module _ (g : GlobalLists) where
   of_scalar : (scalar : ScalarType) → IsLawfulResult g (Ok (Value (Scalar scalar)))
@@ -100,6 +107,50 @@ module _ (g : GlobalLists) where
   of_relational Any inner = of_scalar _
   of_relational IsNan inner = of_truths inner
   of_relational IsInf inner = of_truths inner
+
+  of_value : (inner : Option TypeInner) → IfSome inner (IsLawfulForm g) → IsLawfulResult g (value_of inner)
+  of_value None h = tt
+  of_value (Some inner) h = h
+
+  of_argument_type : (inner : TypeInner) → IfSome (argument_type inner) (IsLawfulForm g)
+  of_argument_type (Scalar scalar) = of_scalar scalar
+  of_argument_type (Vector size scalar) = of_vector size scalar
+  of_argument_type _ = tt
+
+  of_scalar_type : (inner : TypeInner) → IfSome (scalar_type inner) (IsLawfulForm g)
+  of_scalar_type (Scalar scalar) = of_scalar scalar
+  of_scalar_type (Vector size scalar) = of_scalar scalar
+  of_scalar_type (Matrix columns rows scalar) = of_scalar scalar
+  of_scalar_type (CooperativeMatrix columns rows scalar role) = of_scalar scalar
+  of_scalar_type _ = tt
+
+  of_transposed : (inner : TypeInner) → IfSome (transposed inner) (IsLawfulForm g)
+  of_transposed (Matrix columns rows scalar) = of_matrix rows columns scalar
+  of_transposed _ = tt
+
+  of_signature : (fun : MathFunction) (inner : TypeInner) → IfSome ((signature fun).result inner) (IsLawfulForm g)
+  unfolding signature
+  of_signature math.Length inner = of_scalar_type inner
+  of_signature math.Distance inner = of_scalar_type inner
+  of_signature math.Dot inner = of_scalar_type inner
+  of_signature math.Determinant inner = of_scalar_type inner
+  of_signature math.Transpose inner = of_transposed inner
+  of_signature math.Pack2x16float inner = of_scalar _
+  of_signature math.Unpack2x16float inner = of_vector _ _
+  of_signature _ inner = of_argument_type inner
+
+  of_choice : (b : Bool) (o : Option TypeInner) → IfSome o (IsLawfulForm g) → IfSome (if b then o else None) (IsLawfulForm g)
+  of_choice true o h = h
+  of_choice false o h = tt
+
+  of_result_type : (fun : MathFunction) (types : List TypeInner) → IfSome (result_type fun types) (IsLawfulForm g)
+  of_result_type fun [] = tt
+  of_result_type fun (first ∷ further) = of_choice _ _ (of_signature fun first)
+
+  of_math : (fun : MathFunction) (first : TypeInner) (second third fourth : Option TypeInner) → IsLawfulResult g (value_of (math_type fun first second third fourth))
+  of_math fun first second third fourth =
+      let types = arguments first second third fourth in
+      of_value (math_type fun first second third fourth) (of_choice (has_no_gap second third fourth) (result_type fun types) (of_result_type fun types))
 
   of_product : (left right : ResolveResult) (x y : TypeInner) → IsLawfulResult g left → IsLawfulResult g right → IsLawfulResult g (product_of left right x y)
   of_product left right (Scalar s) (Vector size scalar) l r = r
@@ -168,6 +219,9 @@ module _ (m : Module) (x : Expression) (earlier : List TypeResolution) (can : Ca
       (λ x x_exist. lawful_operand right _ (λ y y_exist. of_product g (same_type (slice_get earlier left)) (same_type (slice_get earlier right)) x y (lawful_same left) (lawful_same right)))
   lawful_binary _ left right = lawful_same left
 
+  lawful_math : (fun : MathFunction) (arg : ℕ) (arg1 arg2 arg3 : Option ℕ) → IsLawfulResult g (math_of m.types earlier fun arg arg1 arg2 arg3)
+  lawful_math fun arg arg1 arg2 arg3 = lawful_operand arg _ (λ first exist. of_math g fun first _ _ _)
+
   lawful_constant : (c : ℕ) → IsLawfulResult g (type_of_constant (slice_get m.constants c))
   lawful_constant c = by_constant (slice_get m.constants c) refl
     where
@@ -202,6 +256,7 @@ lawful m (form.Derivative expr) earlier can = lawful_same m (form.Derivative exp
 lawful m (form.Select condition accept reject) earlier can = lawful_same m (form.Select condition accept reject) earlier can accept
 lawful m (form.Binary op left right) earlier can = lawful_binary m (form.Binary op left right) earlier can op left right
 lawful m (form.Relational fun argument) earlier can = lawful_operand m (form.Relational fun argument) earlier can argument (relational_of fun) (λ inner exist. of_relational (global_lists m) fun inner)
+lawful m (form.Math fun arg arg1 arg2 arg3) earlier can = lawful_math m (form.Math fun arg arg1 arg2 arg3) earlier can fun arg arg1 arg2 arg3
 lawful m (form.As expr kind convert) earlier can = lawful_operand m (form.As expr kind convert) earlier can expr (cast_of kind convert) (λ inner exist. of_cast (global_lists m) kind convert inner)
 lawful m (form.ArrayLength expr) earlier can = of_scalar (global_lists m) _
 lawful m _ earlier can = tt

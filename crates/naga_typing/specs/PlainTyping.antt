@@ -1,10 +1,11 @@
 -- The types that `PlainTyping` resolves.
-use Rattle.std.specs.Prelude.{ℕ, List, Option, Some, None, Result, Ok, Err, slice_get, unwrap_or}
+use Rattle.std.specs.Prelude.{ℕ, List, Option, Some, None, Result, Ok, Err, option_and_then, slice_get, unwrap_or}
 use Rattle.naga_ir.specs.Literals.{literal_scalar}
 use Rattle.naga_ir.specs.declared.expression.BinaryOperator.{BinaryOperator}
 use Rattle.naga_ir.specs.declared.expression.BinaryOperator.TheVariants.{Add, Subtract, Multiply, Divide, Modulo, Equal, NotEqual, Less, LessEqual, Greater, GreaterEqual, And, ExclusiveOr, InclusiveOr, LogicalAnd, LogicalOr, ShiftLeft, ShiftRight}
 use Rattle.naga_ir.specs.declared.expression.Expression.{Expression}
 use Rattle.naga_ir.specs.declared.expression.Expression.TheVariants as form
+use Rattle.naga_ir.specs.declared.expression.MathFunction.{MathFunction}
 use Rattle.naga_ir.specs.declared.expression.RelationalFunction.{RelationalFunction}
 use Rattle.naga_ir.specs.declared.expression.RelationalFunction.TheVariants.{All, Any, IsNan, IsInf}
 use Rattle.naga_ir.specs.declared.ir.Constant.{Constant}
@@ -18,6 +19,7 @@ use Rattle.naga_ir_types.specs.declared.types.StructMember.{StructMember}
 use Rattle.naga_ir_types.specs.declared.types.TypeInner.{TypeInner}
 use Rattle.naga_ir_types.specs.declared.types.TypeInner.TheVariants.{Scalar, Vector, Matrix, CooperativeMatrix, Atomic, Pointer, ValuePointer, Array, Struct, Image, Sampler, AccelerationStructure, RayQuery, BindingArray}
 use Rattle.naga_ir_types.specs.declared.types.VectorSize.{VectorSize}
+use Rattle.naga_typing.specs.Math.{math_type, u32_scalar}
 use Rattle.naga_typing.specs.Resolutions.{operand}
 use Rattle.naga_typing.specs.declared.typifier.ResolveError.{ResolveError}
 use Rattle.naga_typing.specs.declared.typifier.ResolveError.TheVariants.{IncompatibleOperands, NotResolvable}
@@ -31,10 +33,6 @@ ResolveResult = Result TypeResolution ResolveError
 -- the type of truth values
 abbrev pub bool_scalar : ScalarType
 bool_scalar = record { kind = kind.Bool; width = 1 }
-
--- the type of unsigned integers of four bytes
-abbrev pub u32_scalar : ScalarType
-u32_scalar = record { kind = kind.Uint; width = 4 }
 
 -- the result of a rule on the form of an operand, if there is an operand
 abbrev pub of_form : Option TypeInner → (TypeInner → ResolveResult) → ResolveResult
@@ -209,6 +207,17 @@ relational_of Any inner = Ok (Value (Scalar bool_scalar))
 relational_of IsNan inner = truths_of inner
 relational_of IsInf inner = truths_of inner
 
+-- a type as a result, if there is one
+abbrev pub value_of : Option TypeInner → ResolveResult
+value_of None = Err IncompatibleOperands
+value_of (Some inner) = Ok (Value inner)
+
+-- the type of the result of a mathematical function
+abbrev pub math_of : List «Type» → List TypeResolution → MathFunction → ℕ → Option ℕ → Option ℕ → Option ℕ → ResolveResult
+math_of types earlier fun arg arg1 arg2 arg3 =
+    let at = option_and_then (operand types earlier) in
+    of_form (operand types earlier arg) (λ first. value_of (math_type fun first (at arg1) (at arg2) (at arg3)))
+
 -- the type of an expression
 unfoldable pub plain_resolves : Module → Expression → List TypeResolution → ResolveResult
 plain_resolves m (form.Literal value) earlier = Ok (Value (Scalar (literal_scalar value)))
@@ -225,6 +234,7 @@ plain_resolves m (form.Derivative expr) earlier = same_type (slice_get earlier e
 plain_resolves m (form.Select condition accept reject) earlier = same_type (slice_get earlier accept)
 plain_resolves m (form.Binary op left right) earlier = binary_of m.types earlier op left right
 plain_resolves m (form.Relational fun argument) earlier = of_form (operand m.types earlier argument) (relational_of fun)
+plain_resolves m (form.Math fun arg arg1 arg2 arg3) earlier = math_of m.types earlier fun arg arg1 arg2 arg3
 plain_resolves m (form.As expr kind convert) earlier = of_form (operand m.types earlier expr) (cast_of kind convert)
 plain_resolves m (form.ArrayLength expr) earlier = Ok (Value (Scalar u32_scalar))
 plain_resolves m (form.FunctionArgument index) earlier = Err NotResolvable
@@ -234,7 +244,6 @@ plain_resolves m (form.Load pointer) earlier = Err NotResolvable
 plain_resolves m (form.ImageSample image sampler gather coordinate array_index offset level depth_ref clamp_to_edge) earlier = Err NotResolvable
 plain_resolves m (form.ImageLoad image coordinate array_index sample level) earlier = Err NotResolvable
 plain_resolves m (form.ImageQuery image query) earlier = Err NotResolvable
-plain_resolves m (form.Math fun arg arg1 arg2 arg3) earlier = Err NotResolvable
 plain_resolves m (form.CallResult f) earlier = Err NotResolvable
 plain_resolves m (form.AtomicResult ty comparison) earlier = Err NotResolvable
 plain_resolves m (form.WorkGroupUniformLoadResult ty) earlier = Err NotResolvable

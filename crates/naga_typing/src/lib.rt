@@ -6,6 +6,7 @@ pub mod context;
 pub mod expression_kind;
 pub mod index;
 pub mod layouter;
+mod math;
 pub mod plain_typing;
 pub mod type_methods;
 pub mod typifier;

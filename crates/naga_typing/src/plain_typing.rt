@@ -1,11 +1,13 @@
 //! A typing that supports the forms whose types follow from their operands.
 
-ghost use Rattle.std.specs.Prelude.{◌≡◌, ◌<◌, All, Ok, Some, length, slice_get};
+ghost use Rattle.std.specs.Prelude.{◌≡◌, ◌<◌, All, IfSome, Ok, Some, length, option_and_then, option_map, slice_get};
+ghost use Rattle.naga_typing.specs.Math.{math_type};
 ghost use Rattle.naga_typing.specs.PlainTyping as spec;
 ghost use Rattle.naga_ir.specs.ItemReferences.{global_lists};
 ghost use Rattle.naga_typing.specs.Resolutions.{IsProperResolution, ResolutionExists, operand};
 ghost use Rattle.naga_typing.specs.Typings.{CanResolve};
 
+use crate::math::{accepts, argument_count, result_type};
 use crate::typifier::{ResolveError, TypeResolution};
 use crate::typing::Typing;
 use naga_ir::expression::{BinaryOperator, Expression, MathFunction, RelationalFunction};
@@ -18,11 +20,15 @@ use std::alloc::Global;
 /// A typing that supports the forms whose types follow from their operands.
 ///
 /// It supports literals, constants, overrides, zero values and compositions, which have a declared
-/// type; parts of vectors, matrices, arrays and structs; operators, relational functions, conversions,
-/// splats and swizzles. Operands aren't compared with one another: the type of a sum is that of its
-/// left operand, whatever the right one is. Operands from which no type follows are
-/// `IncompatibleOperands`. Loads, variables, arguments, images, rays, math functions, calls and the
+/// type; parts of vectors, matrices, arrays and structs; operators, relational and mathematical
+/// functions, conversions, splats and swizzles. Operands aren't compared with one another, but for the
+/// arguments of mathematical functions: the type of a sum is that of its left operand, whatever the
+/// right one is. Operands from which no type follows are `IncompatibleOperands`, and so are arguments
+/// that a mathematical function doesn't take. Loads, variables, arguments, images, rays, calls and the
 /// results of statements are `NotResolvable`. It takes no memory.
+///
+/// Each mathematical function has one row of types (WGSL "Numeric Built-in Functions" and those after
+/// it), of scalars of any width.
 #[derive(Clone, Copy, Debug, PartialEq, Eq)]
 pub struct PlainTyping;
 
@@ -295,15 +301,15 @@ fn binary_of(
 }
 
 impl Typing for PlainTyping {
+    ghost use Rattle.naga_typing.specs.Math.{accepts, argument_count};
     ghost use Rattle.naga_typing.specs.PlainTyping.{plain_resolves};
     ghost use Rattle.naga_typing.specs.PlainLaws.{plain_lawful};
-    ghost use Rattle.std.specs.Prelude.{false};
 
     ghost resolves = { λ _. plain_resolves };
 
-    ghost accepts_types = { λ _ _ _. false };
+    ghost accepts_types = { λ _. accepts };
 
-    ghost least_arguments = { λ _ _ _. 0 };
+    ghost least_arguments = { λ _ fun _. argument_count fun };
 
     ghost lawful = { λ _. plain_lawful };
 
@@ -320,12 +326,53 @@ impl Typing for PlainTyping {
         resolve(module, expression, earlier)
     }
 
-    fn accepts(&self, _fun: MathFunction, _types: &[&TypeInner]) -> bool {
-        false
+    fn accepts(&self, fun: MathFunction, types: &[&TypeInner]) -> bool {
+        accepts(fun, types)
     }
 
-    fn min_arguments(&self, _fun: MathFunction, _types: &[&TypeInner]) -> usize {
-        0
+    fn min_arguments(&self, fun: MathFunction, _types: &[&TypeInner]) -> usize {
+        argument_count(fun)
+    }
+}
+
+/// The form of the type of an operand that may not be given.
+fn optional_operand<'a>(
+    module: &'a Module,
+    earlier: &'a [TypeResolution],
+    handle: Option<Handle<ExpressionTag>>,
+) -> Option<&'a TypeInner>
+    requires earlier { IfSome handle (λ e. e < length earlier.now) }
+    requires exist { All (ResolutionExists (global_lists «module».now)) earlier.now }
+    ensures { option_and_then (operand «module».now.types earlier.now) handle ≡ option_map (λ t. t.now) result }
+{
+    match handle {
+        Some(handle) => Some(operand(module, earlier, handle)),
+        None => None,
+    }
+}
+
+/// The type of the result of a mathematical function.
+fn math_of(
+    fun: MathFunction,
+    first: &TypeInner,
+    second: Option<&TypeInner>,
+    third: Option<&TypeInner>,
+    fourth: Option<&TypeInner>,
+) -> Result<TypeResolution, ResolveError>
+    ensures { let seen = option_map (λ t. t.now) in result ≡ spec.value_of (math_type fun first.now (seen second.entry) (seen third.entry) (seen fourth.entry)) }
+{
+    let inner = match (second, third, fourth) {
+        (None, None, None) => result_type(fun, &[first]),
+        (Some(second), None, None) => result_type(fun, &[first, second]),
+        (Some(second), Some(third), None) => result_type(fun, &[first, second, third]),
+        (Some(second), Some(third), Some(fourth)) => {
+            result_type(fun, &[first, second, third, fourth])
+        }
+        (None, Some(_), _) | (None, None, Some(_)) | (Some(_), None, Some(_)) => None,
+    };
+    match inner {
+        Some(inner) => Ok(TypeResolution::Value(inner)),
+        None => Err(ResolveError::IncompatibleOperands),
     }
 }
 
@@ -361,6 +408,19 @@ fn resolve(
             fun,
             operand(module, earlier, argument),
         ),
+        Expression::Math {
+            fun,
+            arg,
+            arg1,
+            arg2,
+            arg3,
+        } => {
+            let first = operand(module, earlier, arg);
+            let second = optional_operand(module, earlier, arg1);
+            let third = optional_operand(module, earlier, arg2);
+            let fourth = optional_operand(module, earlier, arg3);
+            math_of(fun, first, second, third, fourth)
+        }
         Expression::As {
             expr,
             kind,
@@ -374,7 +434,6 @@ fn resolve(
         | Expression::ImageSample { .. }
         | Expression::ImageLoad { .. }
         | Expression::ImageQuery { .. }
-        | Expression::Math { .. }
         | Expression::CallResult(_)
         | Expression::AtomicResult { .. }
         | Expression::WorkGroupUniformLoadResult { .. }

@@ -1,0 +1,256 @@
+-- The mathematical functions: which arguments each takes, and which type its result has.
+use Rattle.std.specs.Prelude.{◌==◌, ◌&&◌, ◌||◌, ◌+◌, ◌++◌, leb, not, ℕ, Bool as Truth, true, false, List, [], ◌∷◌, Option, Some, None, if◌then◌else◌, is_some, length, option_map, option_to_list, zip}
+use Rattle.std.specs.List.{list_all, list_any}
+use Rattle.std.specs.Option.{option_map_or}
+use Rattle.naga_ir.specs.declared.expression.MathFunction.{MathFunction}
+use Rattle.naga_ir.specs.declared.expression.MathFunction.TheVariants as math
+use Rattle.naga_ir_types.specs.TypeWords.{scalar_of}
+use Rattle.naga_ir_types.specs.contracts.types.ScalarKindPartialEq.TheImpl as of_kind
+use Rattle.naga_ir_types.specs.contracts.types.TypeInnerPartialEq.TheImpl as of_inner
+use Rattle.naga_ir_types.specs.contracts.types.VectorSizePartialEq.TheImpl as of_size
+use Rattle.naga_ir_types.specs.declared.types.Scalar.{Scalar as ScalarType}
+use Rattle.naga_ir_types.specs.declared.types.ScalarKind.{ScalarKind}
+use Rattle.naga_ir_types.specs.declared.types.ScalarKind.TheVariants.{Sint, Uint, Float}
+use Rattle.naga_ir_types.specs.declared.types.TypeInner.{TypeInner}
+use Rattle.naga_ir_types.specs.declared.types.TypeInner.TheVariants.{Scalar, Vector, Matrix, CooperativeMatrix, Atomic, Pointer, ValuePointer, Array, Struct, Image, Sampler, AccelerationStructure, RayQuery, BindingArray}
+use Rattle.naga_ir_types.specs.declared.types.VectorSize.{VectorSize}
+use Rattle.naga_ir_types.specs.declared.types.VectorSize.TheVariants.{Bi, Tri, Quad}
+
+-- what a mathematical function takes and returns: which types its first argument may have, which types each further one may have beside such a first one, and which type the result has, by that of the first
+pub record Signature : Type 0 where
+  pub first : TypeInner → Truth
+  pub further : List (TypeInner → TypeInner → Truth)
+  pub result : TypeInner → Option TypeInner
+
+-- the scalar of a scalar or a vector, beside the number of components of a vector; other types have none
+abbrev pub vector_size_and_scalar : TypeInner → Option (Option VectorSize × ScalarType)
+vector_size_and_scalar (Scalar scalar) = Some (None, scalar)
+vector_size_and_scalar (Vector size scalar) = Some (Some size, scalar)
+vector_size_and_scalar (Matrix columns rows scalar) = None
+vector_size_and_scalar (CooperativeMatrix columns rows scalar role) = None
+vector_size_and_scalar (Atomic scalar) = None
+vector_size_and_scalar (Pointer base space) = None
+vector_size_and_scalar (ValuePointer size scalar space) = None
+vector_size_and_scalar (Array base size stride) = None
+vector_size_and_scalar (Struct members span) = None
+vector_size_and_scalar (Image dim arrayed class) = None
+vector_size_and_scalar (Sampler comparison) = None
+vector_size_and_scalar (AccelerationStructure vertex_return) = None
+vector_size_and_scalar (RayQuery vertex_return) = None
+vector_size_and_scalar (BindingArray base size) = None
+
+-- the numbers of columns and rows of a matrix, and its scalar; other types have none
+abbrev pub matrix_parts : TypeInner → Option (VectorSize × VectorSize × ScalarType)
+matrix_parts (Matrix columns rows scalar) = Some (columns, rows, scalar)
+matrix_parts (Scalar scalar) = None
+matrix_parts (Vector size scalar) = None
+matrix_parts (CooperativeMatrix columns rows scalar role) = None
+matrix_parts (Atomic scalar) = None
+matrix_parts (Pointer base space) = None
+matrix_parts (ValuePointer size scalar space) = None
+matrix_parts (Array base size stride) = None
+matrix_parts (Struct members span) = None
+matrix_parts (Image dim arrayed class) = None
+matrix_parts (Sampler comparison) = None
+matrix_parts (AccelerationStructure vertex_return) = None
+matrix_parts (RayQuery vertex_return) = None
+matrix_parts (BindingArray base size) = None
+
+-- the scalar or vector of these
+abbrev pub of_components : Option VectorSize × ScalarType → TypeInner
+of_components (None, scalar) = Scalar scalar
+of_components (Some size, scalar) = Vector size scalar
+
+-- the type of unsigned integers of four bytes
+abbrev pub u32_scalar : ScalarType
+u32_scalar = record { kind = Uint; width = 4 }
+
+-- the type of floating-point numbers of four bytes
+abbrev pub f32_scalar : ScalarType
+f32_scalar = record { kind = Float; width = 4 }
+
+-- any number of components, be it one scalar or a vector
+abbrev pub any_size : Option VectorSize → Truth
+any_size size = true
+
+-- the three components of a vector
+abbrev pub is_three : Option VectorSize → Truth
+is_three (Some Tri) = true
+is_three (Some Bi) = false
+is_three (Some Quad) = false
+is_three None = false
+
+-- a type is that of a scalar of one of these kinds, or of a vector of such, and its number of components is so
+abbrev pub consists_of : (Option VectorSize → Truth) → List ScalarKind → TypeInner → Truth
+consists_of is_so kinds inner = option_map_or (λ found. is_so found.0 && list_any (of_kind.ghosts.eq found.1.kind) kinds) (vector_size_and_scalar inner) false
+
+-- a type is a matrix
+abbrev pub is_matrix : TypeInner → Truth
+is_matrix inner = is_some (matrix_parts inner)
+
+-- a type is a matrix of as many columns as rows
+abbrev pub is_square : TypeInner → Truth
+is_square inner = option_map_or (λ parts. of_size.ghosts.eq parts.0 parts.1) (matrix_parts inner) false
+
+-- two types are equal
+abbrev pub same : TypeInner → TypeInner → Truth
+same first inner = of_inner.ghosts.eq first inner
+
+-- a type is that of the scalar of the first
+abbrev pub its_scalar : TypeInner → TypeInner → Truth
+its_scalar first inner = option_map_or (λ scalar. same (Scalar scalar) inner) (scalar_of first) false
+
+-- a type is that of the first, or that of its scalar
+abbrev pub same_or_scalar : TypeInner → TypeInner → Truth
+same_or_scalar first inner = same first inner || its_scalar first inner
+
+-- a type is this one, whatever the first is
+abbrev pub exactly : TypeInner → TypeInner → TypeInner → Truth
+exactly wanted first inner = same wanted inner
+
+-- the type of a scalar or a vector itself
+abbrev pub argument_type : TypeInner → Option TypeInner
+argument_type inner = option_map of_components (vector_size_and_scalar inner)
+
+-- the type of the scalar of a type
+abbrev pub scalar_type : TypeInner → Option TypeInner
+scalar_type inner = option_map Scalar (scalar_of inner)
+
+-- the type of a matrix whose columns and rows are swapped
+abbrev pub transposed : TypeInner → Option TypeInner
+transposed inner = option_map (λ parts. Matrix parts.1 parts.0 parts.2) (matrix_parts inner)
+
+-- scalars of one of these kinds, and vectors of such
+abbrev pub values_of : List ScalarKind → TypeInner → Truth
+values_of kinds = consists_of any_size kinds
+
+-- vectors of scalars of one of these kinds
+abbrev pub vectors_of : List ScalarKind → TypeInner → Truth
+vectors_of kinds = consists_of is_some kinds
+
+-- floating-point numbers
+abbrev pub float : List ScalarKind
+float = Float ∷ []
+
+-- numbers with a width of their own
+abbrev pub number : List ScalarKind
+number = Sint ∷ Uint ∷ Float ∷ []
+
+-- numbers with a sign
+abbrev pub signed : List ScalarKind
+signed = Float ∷ Sint ∷ []
+
+-- integers with a width of their own
+abbrev pub integer : List ScalarKind
+integer = Sint ∷ Uint ∷ []
+
+-- a function of one argument, whose type the result has
+abbrev pub one : (TypeInner → Truth) → Signature
+one first = record { first = first; further = []; result = argument_type }
+
+-- a function of two arguments of one type, which the result has too
+abbrev pub two : (TypeInner → Truth) → Signature
+two first = record { first = first; further = same ∷ []; result = argument_type }
+
+-- a function of three arguments of one type, which the result has too
+abbrev pub three : (TypeInner → Truth) → Signature
+three first = record { first = first; further = same ∷ same ∷ []; result = argument_type }
+
+-- what each function takes and returns
+unfoldable pub signature : MathFunction → Signature
+signature math.Saturate = one (values_of float)
+signature math.Cos = one (values_of float)
+signature math.Cosh = one (values_of float)
+signature math.Sin = one (values_of float)
+signature math.Sinh = one (values_of float)
+signature math.Tan = one (values_of float)
+signature math.Tanh = one (values_of float)
+signature math.Acos = one (values_of float)
+signature math.Asin = one (values_of float)
+signature math.Atan = one (values_of float)
+signature math.Asinh = one (values_of float)
+signature math.Acosh = one (values_of float)
+signature math.Atanh = one (values_of float)
+signature math.Radians = one (values_of float)
+signature math.Degrees = one (values_of float)
+signature math.Ceil = one (values_of float)
+signature math.Floor = one (values_of float)
+signature math.Round = one (values_of float)
+signature math.Fract = one (values_of float)
+signature math.Trunc = one (values_of float)
+signature math.Exp = one (values_of float)
+signature math.Exp2 = one (values_of float)
+signature math.Log = one (values_of float)
+signature math.Log2 = one (values_of float)
+signature math.Sqrt = one (values_of float)
+signature math.InverseSqrt = one (values_of float)
+signature math.QuantizeToF16 = one (values_of float)
+signature math.Length = record (one (values_of float)) { result = scalar_type }
+signature math.Normalize = one (vectors_of float)
+signature math.Atan2 = two (values_of float)
+signature math.Pow = two (values_of float)
+signature math.Step = two (values_of float)
+signature math.Reflect = two (vectors_of float)
+signature math.Distance = record (two (values_of float)) { result = scalar_type }
+signature math.Cross = two (consists_of is_three float)
+signature math.Fma = three (values_of float)
+signature math.SmoothStep = three (values_of float)
+signature math.FaceForward = three (vectors_of float)
+signature math.Mix = record (three (values_of float)) { further = same ∷ same_or_scalar ∷ [] }
+signature math.Refract = record (three (vectors_of float)) { further = same ∷ its_scalar ∷ [] }
+signature math.Abs = one (values_of number)
+signature math.Min = two (values_of number)
+signature math.Max = two (values_of number)
+signature math.Clamp = three (values_of number)
+signature math.Dot = record (two (vectors_of number)) { result = scalar_type }
+signature math.Sign = one (values_of signed)
+signature math.CountTrailingZeros = one (values_of integer)
+signature math.CountLeadingZeros = one (values_of integer)
+signature math.CountOneBits = one (values_of integer)
+signature math.ReverseBits = one (values_of integer)
+signature math.FirstTrailingBit = one (values_of integer)
+signature math.FirstLeadingBit = one (values_of integer)
+signature math.ExtractBits = record (one (values_of integer)) { further = exactly (Scalar u32_scalar) ∷ exactly (Scalar u32_scalar) ∷ [] }
+signature math.InsertBits = record (one (values_of integer)) { further = same ∷ exactly (Scalar u32_scalar) ∷ exactly (Scalar u32_scalar) ∷ [] }
+signature math.Transpose = record (one is_matrix) { result = transposed }
+signature math.Determinant = record (one is_square) { result = scalar_type }
+signature math.Pack2x16float = record (one (same (Vector Bi f32_scalar))) { result = λ first. Some (Scalar u32_scalar) }
+signature math.Unpack2x16float = record (one (same (Scalar u32_scalar))) { result = λ first. Some (Vector Bi f32_scalar) }
+
+-- each further argument is as its rule says beside the first
+abbrev pub are_taken : List (TypeInner → TypeInner → Truth) → TypeInner → List TypeInner → Truth
+are_taken rules first further = list_all (λ pair. pair.0 first pair.1) (zip rules further)
+
+-- so it is, and there are no more arguments than rules
+abbrev pub takes_each : List (TypeInner → TypeInner → Truth) → TypeInner → List TypeInner → Truth
+takes_each rules first further = leb (length further) (length rules) && are_taken rules first further
+
+-- a function takes arguments of these types, which may be the first of several: the first is as it takes it, and so is each further one beside the first
+abbrev pub takes : Signature → List TypeInner → Truth
+takes s [] = true
+takes s (first ∷ further) = s.first first && takes_each s.further first further
+
+-- the same of a function by its name
+abbrev pub accepts : MathFunction → List TypeInner → Truth
+accepts fun types = takes (signature fun) types
+
+-- how many arguments a function takes
+abbrev pub argument_count : MathFunction → ℕ
+argument_count fun = length (signature fun).further + 1
+
+-- the type of the result, if a function takes these arguments, and no others after them
+abbrev pub result_type : MathFunction → List TypeInner → Option TypeInner
+result_type fun [] = None
+result_type fun (first ∷ further) = if accepts fun (first ∷ further) && length (first ∷ further) == argument_count fun then (signature fun).result first else None
+
+-- no argument is given after one that isn't
+abbrev pub has_no_gap : {A : Type 0} → Option A → Option A → Option A → Truth
+has_no_gap second third fourth = (is_some second || not (is_some third)) && (is_some third || not (is_some fourth))
+
+-- the arguments that are given
+abbrev pub arguments : {A : Type 0} → A → Option A → Option A → Option A → List A
+arguments first second third fourth = first ∷ option_to_list second ++ (option_to_list third ++ option_to_list fourth)
+
+-- the type of the result of a function of these arguments, if there is no gap between them
+abbrev pub math_type : MathFunction → TypeInner → Option TypeInner → Option TypeInner → Option TypeInner → Option TypeInner
+math_type fun first second third fourth = if has_no_gap second third fourth then result_type fun (arguments first second third fourth) else None
