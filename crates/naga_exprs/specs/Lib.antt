@@ -1,5 +1,4 @@
 -- To read first, after those of the crates of single forms:
 -- ExpressionRule.IsMeant: the rule of an expression of a function, by its form
 -- ExpressionRule.IsExpressionResult: what a call returns for an expression, out of memory aside
--- ExpressionRule.IsCovered: the forms that can be judged so far
 pub mod ExpressionRule

@@ -1,6 +1,6 @@
 //! The rule of one expression of a function (naga's `Validator::validate_expression`).
 
-ghost use Rattle.naga_exprs.specs.ExpressionRule.{IsCovered, IsExpressionResult};
+ghost use Rattle.naga_exprs.specs.ExpressionRule.{IsExpressionResult};
 ghost use Rattle.naga_operands.specs.Surroundings.{CanJudge, IsJudgeable, surroundings};
 
 use naga_access_exprs::access::{validate_access, validate_access_index, validate_swizzle};
@@ -18,6 +18,7 @@ use naga_ir::expression::Expression;
 use naga_ir::handle::Handle;
 use naga_ir::ir::{Function, Module};
 use naga_ir::tags::ExpressionTag;
+use naga_math_exprs::math::validate_math;
 use naga_operands::context::{FunctionContext, every_stage};
 use naga_operands::error::ExpressionError;
 use naga_operator_exprs::binary::validate_binary;
@@ -34,14 +35,14 @@ use naga_value_exprs::value::{
 use std::alloc::Global;
 
 /// The stages that may use an expression, by the rule of its form.
-fn validate_form(
+fn validate_form<T: Typing>(
     alloc: Global,
+    typing: &T,
     context: FunctionContext<'_>,
     expression: &Expression,
 ) -> Result<ShaderStages, ExpressionError>
     requires can_judge { IsJudgeable (surroundings context) expression.now }
-    requires covered { IsCovered expression.now }
-    ensures { IsExpressionResult (surroundings context.entry) expression.now result }
+    ensures { IsExpressionResult (record { accepts = T.accepts_types typing.now; least_arguments = T.least_arguments typing.now }) (surroundings context.entry) expression.now result }
 {
     match *expression {
         Expression::Access { base, index } => validate_access(context, base, index),
@@ -106,7 +107,13 @@ fn validate_form(
         } => validate_select(context, condition, accept, reject),
         Expression::Derivative { expr } => validate_derivative(context, expr),
         Expression::Relational { fun, argument } => validate_relational(context, fun, argument),
-        Expression::Math { .. } => unreachable!(),
+        Expression::Math {
+            fun,
+            arg,
+            arg1,
+            arg2,
+            arg3,
+        } => validate_math(context, typing, fun, arg, arg1, arg2, arg3),
         Expression::As {
             expr,
             kind,
@@ -138,8 +145,8 @@ fn validate_form(
 /// The handles of the module and of the function are right, and `mod_info` says of each type what it may
 /// be used for. All that the expression refers to exists. Its operands come before `root`, and `info` and
 /// `kinds` know them; what the types in `info` refer to exists. Each `FunctionArgument` before `root` names
-/// an argument. If the expression is the result of a call, `mod_info` knows the function. Forms of images
-/// and of mathematical functions can't be judged yet.
+/// an argument. If the expression is the result of a call, `mod_info` knows the function. What
+/// mathematical functions take is what the typing accepts.
 ///
 /// Accepting takes no memory. The cost is linear in the expression's own components, but for the search for
 /// forbidden integers on the right of a division or a shift. It goes through the compositions that a constant
@@ -173,8 +180,7 @@ pub fn validate_expression<T: Typing>(
       infos = mod_info.now.lists;
       kinds = kinds.now;
     }) root expression.now }
-    requires covered { IsCovered expression.now }
-    ensures { IsExpressionResult (record {
+    ensures { IsExpressionResult (record { accepts = T.accepts_types ctx.entry.typing.now; least_arguments = T.least_arguments ctx.entry.typing.now }) (record {
       capabilities = ctx.entry.capabilities.0;
       resolved = ctx.entry.overrides_resolved;
       subgroup_stages = ctx.entry.subgroup_stages;
@@ -195,5 +201,5 @@ pub fn validate_expression<T: Typing>(
         mod_info,
         kinds,
     };
-    validate_form(alloc, context, expression)
+    validate_form(alloc, ctx.typing, context, expression)
 }

@@ -4,7 +4,7 @@ ghost use Rattle.std.specs.Prelude.{◌≡◌, ◌<◌, ◌≤◌, ◌⊎◌, �
 ghost use Rattle.naga_arena.specs.Memory.{UnlessOutOfMemory};
 ghost use Rattle.naga_arena.specs.Span.{inner_of};
 ghost use Rattle.naga_const_exprs.specs.ConstExpression.{literal_rule};
-ghost use Rattle.naga_exprs.specs.ExpressionRule.{IsCovered, IsExpressionResult};
+ghost use Rattle.naga_exprs.specs.ExpressionRule.{IsExpressionResult};
 ghost use Rattle.naga_flags.specs.Width.{width_rule};
 ghost use Rattle.naga_ir.specs.Handles.{HandlesAccepted};
 ghost use Rattle.naga_ir.specs.ItemReferences.{global_lists};
@@ -362,8 +362,7 @@ impl<T: Typing> Validator<T> {
           infos = mod_info.now.lists;
           kinds = kinds.now;
         }) root expression.now }
-        requires covered { IsCovered expression.now }
-        ensures { IsExpressionResult (record {
+        ensures { IsExpressionResult (record { accepts = T.accepts_types self.now.typing; least_arguments = T.least_arguments self.now.typing }) (record {
           capabilities = self.now.capabilities.0;
           resolved = overrides_resolved;
           subgroup_stages = self.now.subgroup_stages;

@@ -74,8 +74,8 @@ pub validate_workgroup_uniform_load_result-requires-clause-exists : goal.validat
 validate_workgroup_uniform_load_result-requires-clause-exists c = workgroup_load_type (surroundings c.args.context) c.requires.can_judge.0 c.args.expression.now c.requires.can_judge.1 c.in-WorkGroupUniformLoadResult.ty c.in-WorkGroupUniformLoadResult.is
 
 -- what is meant is returned as it is
-as_meant : (s : ExpressionSurroundings) (x : Expression) (result : Result ShaderStages ExpressionError) → IsMeant s x result → IsExpressionResult s x result
-as_meant s x result h = (result, h, inl refl)
+as_meant : (t : MathTyping) (s : ExpressionSurroundings) (x : Expression) (result : Result ShaderStages ExpressionError) → IsMeant t s x result → IsExpressionResult t s x result
+as_meant t s x result h = (result, h, inl refl)
 
 pub returns-in-CallResult : goal.returns-in-CallResult
 returns-in-CallResult c =
@@ -118,3 +118,6 @@ validate_image_load-requires c = judged_as _ _ _ c.in-ImageLoad.is c.requires.ca
 
 pub validate_image_query-requires : goal.validate_image_query-requires
 validate_image_query-requires c = judged_as _ _ _ c.in-ImageQuery.is c.requires.can_judge
+
+pub validate_math-requires : goal.validate_math-requires
+validate_math-requires c = judged_as _ _ _ c.in-Math.is c.requires.can_judge
