@@ -1,7 +1,6 @@
 //! The tests of `naga_exprs::expression`: each expression is the last of a function of a small module.
 
 ghost use Rattle.std.specs.Prelude.{◌≡◌, ◌<◌, ◌≤◌, ℕ, All, IfOk, IsTrue, Some, length, slice_get};
-ghost use Rattle.naga_exprs.specs.ExpressionRule.{IsCovered};
 ghost use Rattle.naga_ir.specs.Handles.{FunctionReferencesOk, HandlesAccepted};
 ghost use Rattle.naga_ir.specs.ItemReferences.{global_lists};
 ghost use Rattle.naga_ir.specs.declared.expression.Expression.TheVariants as form;
@@ -9,6 +8,7 @@ ghost use Rattle.naga_typing.specs.Resolutions.{ResolutionExists};
 
 mod access;
 mod images;
+mod math;
 mod operands;
 mod operators;
 mod refused_memory;
@@ -137,13 +137,6 @@ fn is_known(expression: &Expression) -> bool
     }
 }
 
-/// Whether the form of an expression can be judged.
-fn is_covered(expression: &Expression) -> bool
-    ensures { IsTrue result → IsCovered expression.now }
-{
-    !matches!(expression, Expression::Math { .. })
-}
-
 /// The kinds of a function's expressions.
 fn kinds_of(
     alloc: Global,
@@ -177,7 +170,6 @@ fn judge(
     assert!(rt; 0 < count);
     let root = Handle::new((count - 1) as u32);
     let expression = &function.expressions[root];
-    assert!(rt; is_covered(expression));
     assert!(rt; is_known(expression));
     assert!(rt; arguments_exist(function, count - 1));
     assert!(rt; all_exist(types.types.as_slice(), module));

@@ -1,5 +1,5 @@
 -- What has to be known of the operands of an expression that can be judged.
-use Rattle.std.proofs.Common.{◌≡◌, ◌<◌, ℕ, All, Contains, List, [], ◌∷◌, Some, length, map, refl, sym, ap, subst, arith, ◌∙◌}
+use Rattle.std.proofs.Common.{◌≡◌, ◌<◌, ℕ, All, Bool, Contains, List, [], ◌∷◌, Some, length, map, refl, sym, ap, subst, arith, ◌∙◌}
 use Rattle.std.proofs.lemmas.List.Elements.{All-contains, Contains-append_left}
 use Rattle.naga_arena.proofs.Elements.{contains-map}
 use Rattle.naga_ir.proofs.ReferredTo.{type_in}
@@ -26,6 +26,22 @@ operands_of_select condition accept reject = refl
 operands_of_array_length : (array : ℕ) → operands (form.ArrayLength array) ≡ array ∷ []
 unfolding operands
 operands_of_array_length array = refl
+
+operands_of_intersection : (query : ℕ) (committed : Bool) → operands (form.RayQueryGetIntersection query committed) ≡ query ∷ []
+unfolding operands
+operands_of_intersection query committed = refl
+
+operands_of_vertices : (query : ℕ) (committed : Bool) → operands (form.RayQueryVertexPositions query committed) ≡ query ∷ []
+unfolding operands
+operands_of_vertices query committed = refl
+
+operands_of_cooperative_load : (pointer stride : ℕ) → operands (form.CooperativeLoad pointer stride) ≡ pointer ∷ stride ∷ []
+unfolding operands
+operands_of_cooperative_load pointer stride = refl
+
+operands_of_multiply_add : (a b c : ℕ) → operands (form.CooperativeMultiplyAdd a b c) ≡ a ∷ b ∷ c ∷ []
+unfolding operands
+operands_of_multiply_add a b c = refl
 
 operands_of_composition : (ty : ℕ) (components : List ℕ) → operands (form.Compose ty components) ≡ components
 unfolding operands
@@ -64,6 +80,27 @@ reject_of_select x condition accept reject is = among x (condition ∷ accept �
 -- the operand of the length of an array
 pub of_array_length : (x : Expression) (array : ℕ) → x ≡ form.ArrayLength array → Contains (operands x) array
 of_array_length x array is = among x (array ∷ []) array (ap operands is ∙ operands_of_array_length array) (0, omega arith, refl)
+
+-- the ray query of an intersection, and of vertices
+pub of_intersection : (x : Expression) (query : ℕ) (committed : Bool) → x ≡ form.RayQueryGetIntersection query committed → Contains (operands x) query
+of_intersection x query committed is = among x (query ∷ []) query (ap operands is ∙ operands_of_intersection query committed) (0, omega arith, refl)
+
+pub of_vertices : (x : Expression) (query : ℕ) (committed : Bool) → x ≡ form.RayQueryVertexPositions query committed → Contains (operands x) query
+of_vertices x query committed is = among x (query ∷ []) query (ap operands is ∙ operands_of_vertices query committed) (0, omega arith, refl)
+
+-- the pointer of a load of a cooperative matrix
+pub of_cooperative_load : (x : Expression) (pointer stride : ℕ) → x ≡ form.CooperativeLoad pointer stride → Contains (operands x) pointer
+of_cooperative_load x pointer stride is = among x (pointer ∷ stride ∷ []) pointer (ap operands is ∙ operands_of_cooperative_load pointer stride) (0, omega arith, refl)
+
+-- the operands of `a * b + c`
+pub left_of_multiply_add : (x : Expression) (a b c : ℕ) → x ≡ form.CooperativeMultiplyAdd a b c → Contains (operands x) a
+left_of_multiply_add x a b c is = among x (a ∷ b ∷ c ∷ []) a (ap operands is ∙ operands_of_multiply_add a b c) (0, omega arith, refl)
+
+pub right_of_multiply_add : (x : Expression) (a b c : ℕ) → x ≡ form.CooperativeMultiplyAdd a b c → Contains (operands x) b
+right_of_multiply_add x a b c is = among x (a ∷ b ∷ c ∷ []) b (ap operands is ∙ operands_of_multiply_add a b c) (1, omega arith, refl)
+
+pub summand_of_multiply_add : (x : Expression) (a b c : ℕ) → x ≡ form.CooperativeMultiplyAdd a b c → Contains (operands x) c
+summand_of_multiply_add x a b c is = among x (a ∷ b ∷ c ∷ []) c (ap operands is ∙ operands_of_multiply_add a b c) (2, omega arith, refl)
 
 module _ (s : ExpressionSurroundings) (root : ℕ) (x : Expression) (can : CanJudge s root x) where
   -- the type of an operand is known

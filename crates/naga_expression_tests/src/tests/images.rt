@@ -59,9 +59,21 @@ fn a_texel_has_integer_coordinates(rt: HostRuntime) {
         (IMAGE, IVEC2, accepted()),
         (IMAGE, UVEC2, accepted()),
         (FOUR, IVEC2, Err(Error::ExpectedGlobalVariable)),
-        (SAMPLER, IVEC2, Err(Error::ExpectedImageType(Handle::new(SAMPLER)))),
-        (IMAGE, VEC2, Err(Error::InvalidImageCoordinateType(plane, at(VEC2)))),
-        (IMAGE, IVEC3, Err(Error::InvalidImageCoordinateType(plane, at(IVEC3)))),
+        (
+            SAMPLER,
+            IVEC2,
+            Err(Error::ExpectedImageType(Handle::new(SAMPLER))),
+        ),
+        (
+            IMAGE,
+            VEC2,
+            Err(Error::InvalidImageCoordinateType(plane, at(VEC2))),
+        ),
+        (
+            IMAGE,
+            IVEC3,
+            Err(Error::InvalidImageCoordinateType(plane, at(IVEC3))),
+        ),
         (
             CUBE,
             IVEC3,
@@ -78,7 +90,11 @@ fn a_texel_is_in_a_layer_of_an_image_of_layers(rt: HostRuntime) {
         (LAYERS, Some(I32), accepted()),
         (LAYERS, None, Err(Error::InvalidImageArrayIndex)),
         (IMAGE, Some(I32), Err(Error::InvalidImageArrayIndex)),
-        (LAYERS, Some(I64), Err(Error::InvalidImageArrayIndexType(at(I64)))),
+        (
+            LAYERS,
+            Some(I64),
+            Err(Error::InvalidImageArrayIndexType(at(I64))),
+        ),
     ] {
         assert_load(&rt, image, IVEC2, Chosen { layer, ..LEVEL }, &want);
     }
@@ -89,7 +105,11 @@ fn a_sample_is_chosen_of_several(rt: HostRuntime) {
     for (image, sample, want) in [
         (SAMPLES, Some(U32), accepted()),
         (SAMPLES, None, Err(Error::MissingImageSampleSelector)),
-        (SAMPLES, Some(U64), Err(Error::InvalidImageOtherIndexType(at(U64)))),
+        (
+            SAMPLES,
+            Some(U64),
+            Err(Error::InvalidImageOtherIndexType(at(U64))),
+        ),
         (IMAGE, Some(U32), Err(Error::InvalidImageSampleSelector)),
     ] {
         assert_load(&rt, image, IVEC2, Chosen { sample, ..NONE }, &want);
@@ -102,11 +122,21 @@ fn a_level_is_chosen_of_several(rt: HostRuntime) {
         sample: Some(U32),
         ..LEVEL
     };
-    assert_load(&rt, SAMPLES, IVEC2, sampled, &Err(Error::InvalidImageLevelSelector));
+    assert_load(
+        &rt,
+        SAMPLES,
+        IVEC2,
+        sampled,
+        &Err(Error::InvalidImageLevelSelector),
+    );
     for (image, level, want) in [
         (IMAGE, Some(U64), accepted()),
         (IMAGE, None, Err(Error::MissingImageLevelSelector)),
-        (IMAGE, Some(F32), Err(Error::InvalidImageArrayIndexType(at(F32)))),
+        (
+            IMAGE,
+            Some(F32),
+            Err(Error::InvalidImageArrayIndexType(at(F32))),
+        ),
         (STORED, None, accepted()),
         (STORED, Some(U32), Err(Error::InvalidImageLevelSelector)),
     ] {
@@ -133,7 +163,11 @@ fn an_image_has_what_is_asked_for(rt: HostRuntime) {
     for (image, query, want) in [
         (IMAGE, ImageQuery::Size { level: None }, accepted()),
         (IMAGE, level, accepted()),
-        (IMAGE, long_level, Err(Error::InvalidImageOtherIndexType(at(U64)))),
+        (
+            IMAGE,
+            long_level,
+            Err(Error::InvalidImageOtherIndexType(at(U64))),
+        ),
         (SAMPLES, level, no_property(true)),
         (IMAGE, ImageQuery::NumLevels, accepted()),
         (SAMPLES, ImageQuery::NumLevels, no_property(true)),

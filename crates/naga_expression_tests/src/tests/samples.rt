@@ -1,9 +1,9 @@
 //! Samples of images.
 
 use super::operands::{
-    COMPARING, CUBE, DEPTH_SAMPLES, DEPTHS, EXTERNAL, F32, FOUR, GLOBAL_IMAGE, I32, IMAGE, IMAGE_1D,
-    IMAGE_3D, INTEGERS, IVEC2, LAYERS, MINUS_ONE, OFFSET, PART_OF_IMAGE, SAMPLER, SAMPLES,
-    SECOND_IMAGE, STORED, U32, VEC2, VEC3, at,
+    COMPARING, CUBE, DEPTH_SAMPLES, DEPTHS, EXTERNAL, F32, FOUR, GLOBAL_IMAGE, I32, IMAGE,
+    IMAGE_1D, IMAGE_3D, INTEGERS, IVEC2, LAYERS, MINUS_ONE, OFFSET, PART_OF_IMAGE, SAMPLER,
+    SAMPLES, SECOND_IMAGE, STORED, U32, VEC2, VEC3, at,
 };
 use super::{accepted, assert_said};
 use naga_exprs::ExpressionError as Error;
@@ -131,7 +131,10 @@ fn an_image_is_a_variable_an_argument_or_an_element(rt: HostRuntime) {
             Err(Error::ExpectedBindingArrayType(Handle::new(IMAGE))),
         ),
         (plain(FOUR, VEC2), Err(Error::ExpectedGlobalVariable)),
-        (by(FOUR, plain(IMAGE, VEC2)), Err(Error::ExpectedGlobalVariable)),
+        (
+            by(FOUR, plain(IMAGE, VEC2)),
+            Err(Error::ExpectedGlobalVariable),
+        ),
         (
             by(IMAGE, plain(SAMPLER, VEC2)),
             Err(Error::ExpectedSamplerType(Handle::new(IMAGE))),
@@ -150,7 +153,10 @@ fn a_layer_is_chosen_of_an_image_of_layers(rt: HostRuntime) {
     for (sample, want) in [
         (layer(U32, plain(LAYERS, VEC2)), accepted()),
         (plain(LAYERS, VEC2), Err(Error::InvalidImageArrayIndex)),
-        (layer(U32, plain(IMAGE, VEC2)), Err(Error::InvalidImageArrayIndex)),
+        (
+            layer(U32, plain(IMAGE, VEC2)),
+            Err(Error::InvalidImageArrayIndex),
+        ),
         (
             layer(F32, plain(LAYERS, VEC2)),
             Err(Error::InvalidImageArrayIndexType(at(F32))),
@@ -171,9 +177,18 @@ fn images_of_some_classes_are_sampled(rt: HostRuntime) {
         },
     };
     for (sample, want) in [
-        (plain(SAMPLES, VEC2), Err(Error::InvalidImageClass(FLOAT_SAMPLES))),
-        (plain(INTEGERS, VEC2), Err(Error::InvalidImageClass(UNSIGNED))),
-        (gather(SwizzleComponent::Y, plain(INTEGERS, VEC2)), accepted()),
+        (
+            plain(SAMPLES, VEC2),
+            Err(Error::InvalidImageClass(FLOAT_SAMPLES)),
+        ),
+        (
+            plain(INTEGERS, VEC2),
+            Err(Error::InvalidImageClass(UNSIGNED)),
+        ),
+        (
+            gather(SwizzleComponent::Y, plain(INTEGERS, VEC2)),
+            accepted(),
+        ),
         (plain(STORED, VEC2), Err(Error::InvalidImageClass(stored))),
         (
             plain(DEPTH_SAMPLES, VEC2),
@@ -203,9 +218,18 @@ fn mismatch(image: ImageClass, sampler: bool, has_ref: bool) -> Result<ShaderSta
 fn depths_are_compared_with_a_reference(rt: HostRuntime) {
     let exact = SampleLevel::Exact(at(U32));
     for (sample, want) in [
-        (by(COMPARING, compared(F32, plain(DEPTHS, VEC2))), accepted()),
-        (by(COMPARING, plain(DEPTHS, VEC2)), mismatch(DEPTH, true, false)),
-        (compared(F32, plain(DEPTHS, VEC2)), mismatch(DEPTH, false, true)),
+        (
+            by(COMPARING, compared(F32, plain(DEPTHS, VEC2))),
+            accepted(),
+        ),
+        (
+            by(COMPARING, plain(DEPTHS, VEC2)),
+            mismatch(DEPTH, true, false),
+        ),
+        (
+            compared(F32, plain(DEPTHS, VEC2)),
+            mismatch(DEPTH, false, true),
+        ),
         (
             by(COMPARING, compared(F32, plain(IMAGE, VEC2))),
             mismatch(FLOATS, true, true),
@@ -215,7 +239,10 @@ fn depths_are_compared_with_a_reference(rt: HostRuntime) {
             Err(Error::InvalidDepthReference(at(I32))),
         ),
         (
-            by(COMPARING, compared(F32, at_level(exact, plain(DEPTHS, VEC2)))),
+            by(
+                COMPARING,
+                compared(F32, at_level(exact, plain(DEPTHS, VEC2))),
+            ),
             Err(Error::InvalidDepthSampleLevel),
         ),
     ] {
@@ -232,12 +259,21 @@ fn no_coordinates(dim: ImageDimension, coordinate: u32) -> Result<ShaderStages, 
 fn coordinates_are_those_of_the_dimension(rt: HostRuntime) {
     for (sample, want) in [
         (plain(IMAGE_1D, F32), accepted()),
-        (plain(IMAGE_1D, VEC2), no_coordinates(ImageDimension::D1, VEC2)),
+        (
+            plain(IMAGE_1D, VEC2),
+            no_coordinates(ImageDimension::D1, VEC2),
+        ),
         (plain(IMAGE, VEC3), no_coordinates(ImageDimension::D2, VEC3)),
-        (plain(IMAGE, IVEC2), no_coordinates(ImageDimension::D2, IVEC2)),
+        (
+            plain(IMAGE, IVEC2),
+            no_coordinates(ImageDimension::D2, IVEC2),
+        ),
         (plain(IMAGE_3D, VEC3), accepted()),
         (plain(CUBE, VEC3), accepted()),
-        (plain(CUBE, VEC2), no_coordinates(ImageDimension::Cube, VEC2)),
+        (
+            plain(CUBE, VEC2),
+            no_coordinates(ImageDimension::Cube, VEC2),
+        ),
         (moved(OFFSET, plain(IMAGE, VEC2)), accepted()),
         (
             moved(IVEC2, plain(IMAGE, VEC2)),
@@ -266,7 +302,10 @@ fn a_gather_is_in_a_plane_at_the_first_level(rt: HostRuntime) {
             Err(Error::InvalidGatherComponent(SwizzleComponent::Y)),
         ),
         (
-            gather(SwizzleComponent::X, at_level(SampleLevel::Auto, plain(IMAGE, VEC2))),
+            gather(
+                SwizzleComponent::X,
+                at_level(SampleLevel::Auto, plain(IMAGE, VEC2)),
+            ),
             Err(Error::InvalidGatherLevel),
         ),
     ] {
@@ -293,7 +332,12 @@ fn a_level_is_a_number_a_bias_or_by_derivatives(rt: HostRuntime) {
             VEC2,
             Err(Error::InvalidSampleLevelExactType(at(F32))),
         ),
-        (SampleLevel::Bias(at(F32)), IMAGE, VEC2, Ok(ShaderStages::FRAGMENT)),
+        (
+            SampleLevel::Bias(at(F32)),
+            IMAGE,
+            VEC2,
+            Ok(ShaderStages::FRAGMENT),
+        ),
         (
             SampleLevel::Bias(at(I32)),
             IMAGE,
@@ -322,8 +366,16 @@ fn derivatives_are_like_coordinates(rt: HostRuntime) {
     let plane = ImageDimension::D2;
     for (x, y, want) in [
         (VEC2, VEC2, accepted()),
-        (VEC3, VEC2, Err(Error::InvalidSampleLevelGradientType(plane, at(VEC3)))),
-        (VEC2, F32, Err(Error::InvalidSampleLevelGradientType(plane, at(F32)))),
+        (
+            VEC3,
+            VEC2,
+            Err(Error::InvalidSampleLevelGradientType(plane, at(VEC3))),
+        ),
+        (
+            VEC2,
+            F32,
+            Err(Error::InvalidSampleLevelGradientType(plane, at(F32))),
+        ),
     ] {
         let level = SampleLevel::Gradient { x: at(x), y: at(y) };
         assert_sample(&rt, at_level(level, plain(IMAGE, VEC2)), &want);
@@ -342,7 +394,10 @@ fn coordinates_are_clamped_with_nothing_beside_them(rt: HostRuntime) {
         (gather(SwizzleComponent::X, plain(IMAGE, VEC2)), "gather"),
         (layer(U32, plain(LAYERS, VEC2)), "array index"),
         (moved(OFFSET, plain(IMAGE, VEC2)), "offset"),
-        (at_level(SampleLevel::Auto, plain(IMAGE, VEC2)), "non-zero level"),
+        (
+            at_level(SampleLevel::Auto, plain(IMAGE, VEC2)),
+            "non-zero level",
+        ),
         (
             by(COMPARING, compared(F32, plain(DEPTHS, VEC2))),
             "image class `Depth { multi: false }`",
