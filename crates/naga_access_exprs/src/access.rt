@@ -11,7 +11,6 @@ ghost use Rattle.naga_operands.specs.Surroundings.{AreSound, surroundings};
 ghost use Rattle.naga_types.specs.Judging.{granted};
 ghost use Rattle.naga_typing.specs.Context.{ReferencesExist};
 ghost use Rattle.naga_typing.specs.Index.{IsLength};
-ghost use Rattle.naga_typing.specs.Resolutions.{PartsExist};
 
 use naga_flags::flags::ShaderStages;
 use naga_ir::expression::SwizzleComponent;
@@ -19,7 +18,6 @@ use naga_ir::handle::Handle;
 use naga_ir::ir::Module;
 use naga_ir::tags::ExpressionTag;
 use naga_ir::types::{ArraySize, TypeInner, VectorSize};
-use naga_ir::unique_arena::UniqueArena;
 use naga_operands::context::{FunctionContext, every_stage};
 use naga_operands::error::ExpressionError;
 use naga_operands::type_methods::is_integer_scalar;
@@ -167,12 +165,12 @@ fn part_limit(inner: &TypeInner) -> Option<usize>
 
 /// The limit of the known indexes into a form: into a pointer, that of what it points to (naga's
 /// `resolve_index_limit`).
-fn index_limit(inner: &TypeInner, types: &UniqueArena) -> Option<usize>
-    requires { PartsExist types.now inner.now }
-    ensures { result ≡ rule.index_limit types.now inner.now }
+fn index_limit(inner: &TypeInner, module: &Module) -> Option<usize>
+    requires exist { ReferencesExist (global_lists «module».now) inner.now }
+    ensures { result ≡ rule.index_limit «module».now.types inner.now }
 {
     if let TypeInner::Pointer { base, .. } = inner {
-        return part_limit(&types[*base].inner);
+        return part_limit(&module.types[*base].inner);
     }
     part_limit(inner)
 }
@@ -193,7 +191,7 @@ pub fn validate_access_index(
     requires base { base < length context.info.now.types }
     ensures { result ≡ access_index_rule (surroundings context.entry) base index }
 {
-    let Some(limit) = index_limit(context.type_of(base), &context.module.types) else {
+    let Some(limit) = index_limit(context.type_of(base), context.module) else {
         return Err(ExpressionError::InvalidBaseType(base));
     };
     if index as usize >= limit {

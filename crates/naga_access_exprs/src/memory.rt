@@ -3,22 +3,23 @@
 ghost use Rattle.std.specs.Prelude.{◌≡◌, ◌<◌, Some, length};
 ghost use Rattle.naga_access_exprs.specs.Memory as rule;
 ghost use Rattle.naga_access_exprs.specs.Memory.{array_length_rule, cooperative_load_rule, load_rule};
+ghost use Rattle.naga_ir.specs.ItemReferences.{global_lists};
 ghost use Rattle.naga_operands.specs.Surroundings.{AreSound, surroundings};
-ghost use Rattle.naga_typing.specs.Resolutions.{PartsExist};
+ghost use Rattle.naga_typing.specs.Context.{ReferencesExist};
 
 use bitflags::Flags;
 use naga_flags::flags::{ShaderStages, TypeFlags};
 use naga_ir::handle::Handle;
+use naga_ir::ir::Module;
 use naga_ir::tags::ExpressionTag;
 use naga_ir::types::{ArraySize, Scalar, TypeInner};
-use naga_ir::unique_arena::UniqueArena;
 use naga_operands::context::{FunctionContext, every_stage};
 use naga_operands::error::ExpressionError;
 
 /// Whether a value can be loaded through a form.
 fn can_load(context: FunctionContext<'_>, inner: &TypeInner) -> bool
     requires sound { AreSound (surroundings context) }
-    requires exist { PartsExist context.«module».now.types inner.now }
+    requires exist { ReferencesExist (global_lists context.«module».now) inner.now }
     ensures { result ≡ rule.can_load (surroundings context.entry) inner.now }
 {
     match inner {
@@ -106,12 +107,12 @@ pub fn validate_array_length(
 }
 
 /// The scalar of what a type points to, if that is a scalar, a vector or a matrix of either kind.
-fn target_scalar(inner: &TypeInner, types: &UniqueArena) -> Option<Scalar>
-    requires { PartsExist types.now inner.now }
-    ensures { result ≡ rule.target_scalar types.now inner.now }
+fn target_scalar(inner: &TypeInner, module: &Module) -> Option<Scalar>
+    requires exist { ReferencesExist (global_lists «module».now) inner.now }
+    ensures { result ≡ rule.target_scalar «module».now.types inner.now }
 {
     match inner {
-        TypeInner::Pointer { base, .. } => types[*base].inner.scalar(),
+        TypeInner::Pointer { base, .. } => module.types[*base].inner.scalar(),
         TypeInner::ValuePointer { scalar, .. } => Some(*scalar),
         TypeInner::Scalar(_)
         | TypeInner::Vector { .. }
@@ -142,7 +143,7 @@ pub fn validate_cooperative_load(
     requires pointer { pointer < length context.info.now.types }
     ensures { result ≡ cooperative_load_rule (surroundings context.entry) pointer }
 {
-    if target_scalar(context.type_of(pointer), &context.module.types).is_none() {
+    if target_scalar(context.type_of(pointer), context.module).is_none() {
         return Err(ExpressionError::InvalidPointerType(pointer));
     }
     Ok(ShaderStages::COMPUTE)

@@ -2,14 +2,15 @@
 
 ghost use Rattle.std.specs.Prelude.{◌≡◌, ◌<◌, Some, length};
 ghost use Rattle.naga_access_exprs.specs.RayQueries as rule;
+ghost use Rattle.naga_ir.specs.ItemReferences.{global_lists};
 ghost use Rattle.naga_operands.specs.Surroundings.{AreSound, surroundings};
-ghost use Rattle.naga_typing.specs.Resolutions.{PartsExist};
+ghost use Rattle.naga_typing.specs.Context.{ReferencesExist};
 
 use naga_flags::flags::ShaderStages;
 use naga_ir::handle::Handle;
+use naga_ir::ir::Module;
 use naga_ir::tags::ExpressionTag;
 use naga_ir::types::{AddressSpace, TypeInner};
-use naga_ir::unique_arena::UniqueArena;
 use naga_operands::context::{FunctionContext, every_stage};
 use naga_operands::error::ExpressionError;
 
@@ -37,14 +38,14 @@ fn is_ray_query(inner: &TypeInner, vertices: bool) -> bool
 }
 
 /// Whether a type is a pointer to a ray query of the function.
-fn points_to_ray_query(inner: &TypeInner, types: &UniqueArena, vertices: bool) -> bool
-    requires { PartsExist types.now inner.now }
-    ensures { result ≡ rule.points_to_ray_query types.now vertices inner.now }
+fn points_to_ray_query(inner: &TypeInner, module: &Module, vertices: bool) -> bool
+    requires exist { ReferencesExist (global_lists «module».now) inner.now }
+    ensures { result ≡ rule.points_to_ray_query «module».now.types vertices inner.now }
 {
     let TypeInner::Pointer { base, space } = inner else {
         return false;
     };
-    matches!(space, AddressSpace::Function) && is_ray_query(&types[*base].inner, vertices)
+    matches!(space, AddressSpace::Function) && is_ray_query(&module.types[*base].inner, vertices)
 }
 
 /// The stages that may use what a ray has hit.
@@ -60,7 +61,7 @@ pub fn validate_ray_query_get_intersection(
     requires query { query < length context.info.now.types }
     ensures { result ≡ rule.ray_query_get_intersection_rule (surroundings context.entry) query }
 {
-    if !points_to_ray_query(context.type_of(query), &context.module.types, false) {
+    if !points_to_ray_query(context.type_of(query), context.module, false) {
         return Err(ExpressionError::InvalidRayQueryType(query));
     }
     Ok(every_stage())
@@ -79,7 +80,7 @@ pub fn validate_ray_query_vertex_positions(
     requires query { query < length context.info.now.types }
     ensures { result ≡ rule.ray_query_vertex_positions_rule (surroundings context.entry) query }
 {
-    if !points_to_ray_query(context.type_of(query), &context.module.types, true) {
+    if !points_to_ray_query(context.type_of(query), context.module, true) {
         return Err(ExpressionError::InvalidRayQueryType(query));
     }
     Ok(every_stage())

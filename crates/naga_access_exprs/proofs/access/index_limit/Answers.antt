@@ -1,7 +1,6 @@
-use Rattle.std.proofs.Common.{Contains, subst, sym}
 use Rattle.naga_access_exprs.proofs.access.index_limit.Goals as goal
-use Rattle.naga_ir_types.specs.Parts.{parts}
-use Rattle.naga_typing.proofs.Pointers.{parts_of_pointer}
+use Rattle.naga_ir.specs.ItemReferences.{global_lists}
+use Rattle.naga_typing.proofs.Pointers.{pointer_base_exists}
 
 pub index-requires : goal.index-requires
-index-requires c = c.requires c.in-Pointer.base (subst (λ inner. Contains (parts inner) c.in-Pointer.base) (sym c.in-Pointer.is) (parts_of_pointer c.in-Pointer.base c.in-Pointer.space))
+index-requires c = pointer_base_exists (global_lists c.args.«module».now) c.args.inner.now c.in-Pointer.base c.in-Pointer.space c.requires.exist c.in-Pointer.is
