@@ -1,0 +1,4 @@
+mod Judged
+mod Known
+mod Places
+mod Texts

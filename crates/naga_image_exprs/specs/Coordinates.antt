@@ -2,17 +2,18 @@
 use Rattle.std.specs.Prelude.{◌&&◌, ◌==◌, ℕ, Bool as Truth, [], ◌∷◌, Option, Some, None, is_some}
 use Rattle.std.specs.Bool.{beq}
 use Rattle.naga_flags.specs.Width.{width_32}
+use Rattle.naga_ir_types.specs.contracts.types.ScalarKindPartialEq.TheImpl as of_kind
 use Rattle.naga_ir_types.specs.declared.types.ImageDimension.{ImageDimension}
 use Rattle.naga_ir_types.specs.declared.types.ImageDimension.TheVariants.{D1, D2, D3, Cube}
 use Rattle.naga_ir_types.specs.declared.types.ScalarKind.{ScalarKind}
-use Rattle.naga_ir_types.specs.declared.types.ScalarKind.TheVariants.{Sint, Uint, Float, Bool, AbstractInt, AbstractFloat}
+use Rattle.naga_ir_types.specs.declared.types.ScalarKind.TheVariants.{Float}
 use Rattle.naga_ir_types.specs.declared.types.TypeInner.{TypeInner}
 use Rattle.naga_operands.specs.Surroundings.{ExpressionSurroundings, form_at}
 use Rattle.naga_operands.specs.Words.{is_of, is_scalar_that}
 use Rattle.naga_operands.specs.declared.error.ExpressionError.{ExpressionError}
 use Rattle.naga_operands.specs.declared.error.ExpressionError.TheVariants as refusal
 use Rattle.naga_types.specs.Judging.{first, unless}
-use Rattle.naga_types.specs.TypeRule.{is_float, is_integer}
+use Rattle.naga_types.specs.TypeRule.{is_integer}
 
 -- how many numbers the coordinates of an image of this dimension are
 abbrev pub coordinate_count : ImageDimension → ℕ
@@ -21,22 +22,13 @@ coordinate_count D2 = 2
 coordinate_count D3 = 3
 coordinate_count Cube = 3
 
--- a kind is that of signed integers
-abbrev pub is_signed : ScalarKind → Truth
-is_signed Sint = true
-is_signed Uint = false
-is_signed Float = false
-is_signed Bool = false
-is_signed AbstractInt = false
-is_signed AbstractFloat = false
+-- a form is that of so many scalars of a kind: of one, or of a vector
+abbrev pub is_of_kind : ℕ → ScalarKind → TypeInner → Truth
+is_of_kind count kind inner = is_of count (λ scalar. of_kind.ghosts.eq scalar.kind kind) inner
 
--- a form is that of so many floating-point numbers
-abbrev pub are_floats : ℕ → TypeInner → Truth
-are_floats count inner = is_of count (λ scalar. is_float scalar.kind) inner
-
--- a form is that of so many signed integers
-abbrev pub are_signed : ℕ → TypeInner → Truth
-are_signed count inner = is_of count (λ scalar. is_signed scalar.kind) inner
+-- a form is that of the coordinates of samples of an image of this dimension: floating-point numbers
+abbrev pub are_coordinates : ImageDimension → TypeInner → Truth
+are_coordinates dim inner = is_of_kind (coordinate_count dim) Float inner
 
 -- a form is that of integers, of any width
 abbrev pub is_integer_scalar : TypeInner → Truth

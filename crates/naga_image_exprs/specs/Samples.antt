@@ -3,7 +3,7 @@ use Rattle.std.specs.Prelude.{◌≡◌, ◌&&◌, ◌||◌, ℕ, Bool as Truth,
 use Rattle.std.specs.Bool.{beq}
 use Rattle.std.specs.declared.alloc.Global.{Global}
 use Rattle.naga_flags.specs.declared.flags.ShaderStages.{ShaderStages}
-use Rattle.naga_image_exprs.specs.Coordinates.{are_floats, are_signed, bad_layer, coordinate_count, is_integer_scalar}
+use Rattle.naga_image_exprs.specs.Coordinates.{are_coordinates, bad_layer, coordinate_count, is_integer_scalar, is_of_kind}
 use Rattle.naga_image_exprs.specs.Resources.{and_then, image_type, resource_type, sampler_comparison}
 use Rattle.naga_image_exprs.specs.declared.resource.ImageType.{ImageType}
 use Rattle.naga_image_exprs.specs.declared.sample.Sample.{Sample}
@@ -15,6 +15,7 @@ use Rattle.naga_ir_types.specs.declared.types.ImageClass.{ImageClass}
 use Rattle.naga_ir_types.specs.declared.types.ImageClass.TheVariants.{Sampled, Depth, Storage, External}
 use Rattle.naga_ir_types.specs.declared.types.ImageDimension.{ImageDimension}
 use Rattle.naga_ir_types.specs.declared.types.ImageDimension.TheVariants.{D1, D2, D3, Cube}
+use Rattle.naga_ir_types.specs.declared.types.ScalarKind.TheVariants.{Float, Sint}
 use Rattle.naga_ir_types.specs.declared.types.TypeInner.{TypeInner}
 use Rattle.naga_operands.specs.Results.{IsReturned}
 use Rattle.naga_operands.specs.Stages.{every_stage, fragment_stage}
@@ -58,7 +59,7 @@ bad_comparison class comparison depth_ref =
 
 -- the refusal of coordinates, unless they are floating-point numbers, as many as an image of this dimension wants
 abbrev pub bad_coordinate : ExpressionSurroundings → ImageDimension → ℕ → Option ExpressionError
-bad_coordinate s dim coordinate = unless (are_floats (coordinate_count dim) (form_at s coordinate)) (refusal.InvalidImageCoordinateType dim coordinate)
+bad_coordinate s dim coordinate = unless (are_coordinates dim (form_at s coordinate)) (refusal.InvalidImageCoordinateType dim coordinate)
 
 -- the refusal of an offset, unless it is known when the shader is compiled, and signed integers, as many as the coordinates
 abbrev pub bad_offset : ExpressionSurroundings → ImageDimension → Option ℕ → Option ExpressionError
@@ -66,7 +67,7 @@ bad_offset s dim None = None
 bad_offset s dim (Some e) =
     first
     (unless (is_const (slice_get s.kinds e)) refusal.InvalidSampleOffsetExprType ∷
-    unless (are_signed (coordinate_count dim) (form_at s e)) (refusal.InvalidSampleOffset dim e) ∷
+    unless (is_of_kind (coordinate_count dim) Sint (form_at s e)) (refusal.InvalidSampleOffset dim e) ∷
     [])
 
 -- a level is chosen by derivatives, or is the first
@@ -82,7 +83,7 @@ abbrev pub bad_depth_reference : ExpressionSurroundings → Option ℕ → Sampl
 bad_depth_reference s None level = None
 bad_depth_reference s (Some e) level =
     first
-    (unless (are_floats 1 (form_at s e)) (refusal.InvalidDepthReference e) ∷
+    (unless (is_of_kind 1 Float (form_at s e)) (refusal.InvalidDepthReference e) ∷
     unless (is_plain level) refusal.InvalidDepthSampleLevel ∷
     [])
 
@@ -156,9 +157,9 @@ bad_external class clamp_to_edge = unless (not (is_external class) || clamp_to_e
 -- values of a form number the levels of an image of a class: integers those of depths, and floating-point numbers all others
 abbrev pub numbers_levels : ImageClass → TypeInner → Truth
 numbers_levels (Depth multi) inner = is_integer_scalar inner
-numbers_levels (Sampled kind multi) inner = are_floats 1 inner
-numbers_levels (Storage format access) inner = are_floats 1 inner
-numbers_levels External inner = are_floats 1 inner
+numbers_levels (Sampled kind multi) inner = is_of_kind 1 Float inner
+numbers_levels (Storage format access) inner = is_of_kind 1 Float inner
+numbers_levels External inner = is_of_kind 1 Float inner
 
 -- the refusal of the number of a level, unless it is an integer for depths, and a floating-point number for others
 abbrev pub bad_exact : ExpressionSurroundings → ImageClass → ℕ → Option ExpressionError
@@ -175,14 +176,14 @@ is_line Cube = false
 abbrev pub bad_bias : ExpressionSurroundings → ImageType → ℕ → Option ExpressionError
 bad_bias s image e =
     first
-    (unless (are_floats 1 (form_at s e)) (refusal.InvalidSampleLevelBiasType e) ∷
+    (unless (is_of_kind 1 Float (form_at s e)) (refusal.InvalidSampleLevelBiasType e) ∷
     unless (is_filtered image.class) (refusal.InvalidImageClass image.class) ∷
     unless (not (is_line image.dim)) (refusal.InvalidSampleLevelBiasDimension image.dim) ∷
     [])
 
 -- the refusal of a derivative, unless it is like coordinates
 abbrev pub bad_derivative : ExpressionSurroundings → ImageDimension → ℕ → Option ExpressionError
-bad_derivative s dim e = unless (are_floats (coordinate_count dim) (form_at s e)) (refusal.InvalidSampleLevelGradientType dim e)
+bad_derivative s dim e = unless (are_coordinates dim (form_at s e)) (refusal.InvalidSampleLevelGradientType dim e)
 
 -- the refusal of a level, by what it is given by
 abbrev pub bad_level : ExpressionSurroundings → ImageType → SampleLevel → Option ExpressionError

@@ -23,24 +23,21 @@ pub(crate) fn coordinate_count(dim: ImageDimension) -> u8
     }
 }
 
-/// Whether a type is that of so many floating-point numbers: of one, or of a vector.
-pub(crate) fn are_floats(inner: &TypeInner, count: u8) -> bool
-    ensures { result ≡ rule.are_floats count inner.now }
+/// Whether a type is that of so many scalars of a kind: of one, or of a vector.
+pub(crate) fn is_of_kind(inner: &TypeInner, count: u8, kind: ScalarKind) -> bool
+    ensures { result ≡ rule.is_of_kind count kind inner.now }
 {
     match vector_size_and_scalar(inner) {
-        Some((size, scalar)) => component_count(size) == count && scalar.kind == ScalarKind::Float,
+        Some((size, scalar)) => component_count(size) == count && scalar.kind == kind,
         None => false,
     }
 }
 
-/// Whether a type is that of so many signed integers: of one, or of a vector.
-pub(crate) fn are_signed(inner: &TypeInner, count: u8) -> bool
-    ensures { result ≡ rule.are_signed count inner.now }
+/// Whether a type is that of the coordinates of samples of an image of this dimension.
+pub(crate) fn are_coordinates(inner: &TypeInner, dim: ImageDimension) -> bool
+    ensures { result ≡ rule.are_coordinates dim inner.now }
 {
-    match vector_size_and_scalar(inner) {
-        Some((size, scalar)) => component_count(size) == count && scalar.kind == ScalarKind::Sint,
-        None => false,
-    }
+    is_of_kind(inner, coordinate_count(dim), ScalarKind::Float)
 }
 
 /// Whether a type is that of integers of 32 bits.

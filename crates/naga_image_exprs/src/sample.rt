@@ -11,7 +11,7 @@ ghost use Rattle.naga_types.specs.Judging.{granted};
 ghost use Rattle.naga_types.specs.TypeRule.{is_integer};
 
 use crate::clamp::{check_clamp, is_filtered};
-use crate::coordinates::{are_floats, are_signed, check_sampled_layer, coordinate_count};
+use crate::coordinates::{are_coordinates, check_sampled_layer, coordinate_count, is_of_kind};
 use crate::resource::{ImageType, global_var_ty, image_type, sampler_comparison};
 use naga_flags::flags::ShaderStages;
 use naga_ir::expression::{SampleLevel, SwizzleComponent};
@@ -126,7 +126,7 @@ fn check_coordinate(
     requires known { coordinate < length context.info.now.types }
     ensures { result ≡ granted (rule.bad_coordinate (surroundings context.entry) dim coordinate) tt }
 {
-    if !are_floats(context.type_of(coordinate), coordinate_count(dim)) {
+    if !are_coordinates(context.type_of(coordinate), dim) {
         return Err(ExpressionError::InvalidImageCoordinateType(dim, coordinate));
     }
     Ok(())
@@ -149,7 +149,8 @@ fn check_offset(
     if !context.kinds.is_const(offset) {
         return Err(ExpressionError::InvalidSampleOffsetExprType);
     }
-    if !are_signed(context.type_of(offset), coordinate_count(dim)) {
+    let count = coordinate_count(dim);
+    if !is_of_kind(context.type_of(offset), count, ScalarKind::Sint) {
         return Err(ExpressionError::InvalidSampleOffset(dim, offset));
     }
     Ok(())
@@ -168,7 +169,7 @@ fn check_depth_reference(
     let Some(depth_ref) = depth_ref else {
         return Ok(());
     };
-    if !are_floats(context.type_of(depth_ref), 1) {
+    if !is_of_kind(context.type_of(depth_ref), 1, ScalarKind::Float) {
         return Err(ExpressionError::InvalidDepthReference(depth_ref));
     }
     match level {
@@ -230,7 +231,7 @@ fn numbers_levels(class: ImageClass, inner: &TypeInner) -> bool
     match class {
         ImageClass::Depth { .. } => is_integer_scalar(inner),
         ImageClass::Sampled { .. } | ImageClass::Storage { .. } | ImageClass::External => {
-            are_floats(inner, 1)
+            is_of_kind(inner, 1, ScalarKind::Float)
         }
     }
 }
@@ -261,7 +262,7 @@ fn check_bias(
     requires known { bias < length context.info.now.types }
     ensures { result ≡ granted (rule.bad_bias (surroundings context.entry) image bias) tt }
 {
-    if !are_floats(context.type_of(bias), 1) {
+    if !is_of_kind(context.type_of(bias), 1, ScalarKind::Float) {
         return Err(ExpressionError::InvalidSampleLevelBiasType(bias));
     }
     if !is_filtered(image.class) {
@@ -283,7 +284,7 @@ fn check_derivative(
     requires known { derivative < length context.info.now.types }
     ensures { result ≡ granted (rule.bad_derivative (surroundings context.entry) dim derivative) tt }
 {
-    if !are_floats(context.type_of(derivative), coordinate_count(dim)) {
+    if !are_coordinates(context.type_of(derivative), dim) {
         return Err(ExpressionError::InvalidSampleLevelGradientType(dim, derivative));
     }
     Ok(())
