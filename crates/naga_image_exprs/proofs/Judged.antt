@@ -1,22 +1,36 @@
 -- Which condition of a list is broken first.
-use Rattle.std.proofs.Common.{◌≡◌, List, [], ◌∷◌, Option, Some, None, refl, ap, ◌∙◌}
+use Rattle.std.proofs.Common.{◌≡◌, ◌∙◌, ℕ, zero, suc, List, [], ◌∷◌, Option, Some, None, ap, get_or, refl, sym, take}
 use Rattle.std.specs.Prelude.{Result, Ok, Err}
 use Rattle.naga_types.specs.Judging.{first, granted, judged}
 
--- a check that is passed keeps its condition
-pub kept : {E : Type 0} (o : Option E) → granted o (tt {0}) ≡ Ok (tt {0}) → o ≡ None
-kept None h = refl
-kept (Some x) h = cc h
+-- a check is passed that a condition decides
+abbrev pub IsPassed : {E : Type 0} → Option E → Type 0
+IsPassed o = Ok (tt {0}) ≡ granted o (tt {0})
 
--- a check that refuses breaks its condition
-pub broken : {E : Type 0} (o : Option E) (e : E) → granted o (tt {0}) ≡ Err e → o ≡ Some e
-broken None e h = cc h
-broken (Some x) e h = cc h
+-- all checks are passed that some conditions decide
+abbrev pub ArePassed : {E : Type 0} → List (Option E) → Type 0
+ArePassed [] = Unit {0}
+ArePassed (o ∷ os) = IsPassed o × ArePassed os
 
--- a condition that is kept leaves the judgement to those after it
-pub after : {A E : Type 0} (o : Option E) (rest : List (Option E)) (a : A) (result : Result A E) → o ≡ None → judged rest a ≡ result → judged (o ∷ rest) a ≡ result
-after o rest a result none h = ap (λ (o : Option _). judged (o ∷ rest) a) none ∙ h
+-- a condition whose check is passed leaves the judgement to those after it
+after : {A E : Type 0} (o : Option E) (rest : List (Option E)) (a : A) → IsPassed o → judged (o ∷ rest) a ≡ judged rest a
+after None rest a h = refl
+after (Some x) rest a h = cc h
 
--- a condition that is broken is the judgement
-pub here : {A E : Type 0} (o : Option E) (rest : List (Option E)) (a : A) (e : E) → o ≡ Some e → judged (o ∷ rest) a ≡ Err e
-here o rest a e some = ap (λ (o : Option _). judged (o ∷ rest) a) some
+-- the first condition whose check refuses is the judgement
+pub broken_at : {A E : Type 0} (os : List (Option E)) (n : ℕ) (a : A) (e : E) → ArePassed (take n os) → Err e ≡ granted (get_or os n None) (tt {0}) → judged os a ≡ Err e
+broken_at [] n a e passed h = cc h
+broken_at (None ∷ os) zero a e passed h = cc h
+broken_at (Some x ∷ os) zero a e passed h = cc h
+broken_at (o ∷ os) (suc n) a e passed h = after o os a passed.0 ∙ broken_at os n a e passed.1 h
+
+-- what passes all checks is granted
+pub none_broken : {A E : Type 0} (os : List (Option E)) (a : A) → ArePassed os → judged os a ≡ Ok a
+none_broken [] a passed = refl
+none_broken (o ∷ os) a passed = after o os a passed.0 ∙ none_broken os a passed.1
+
+-- the second of two conditions decides if the first is kept
+pub second_decides : {A E : Type 0} (o p : Option E) (a : A) → IsPassed o → granted p a ≡ judged (o ∷ p ∷ []) a
+second_decides None None a h = refl
+second_decides None (Some x) a h = refl
+second_decides (Some y) p a h = cc h

@@ -2,6 +2,7 @@
 use Rattle.std.proofs.Common.{◌≡◌, ◌<◌, ◌++◌, ℕ, List, [], ◌∷◌, Bool, Option, Some, None, All, Contains, IfSome, length, map, option_to_list, refl, subst, arith}
 use Rattle.std.proofs.lemmas.List.Elements.{All-contains, Contains-append_left}
 use Rattle.naga_arena.proofs.Elements.{all-left, all-right, contains-map}
+use Rattle.naga_image_exprs.specs.Samples.{expression_of}
 use Rattle.naga_image_exprs.specs.declared.sample.Sample.{Sample}
 use Rattle.naga_image_exprs.specs.steps.Known.{CanLookUp}
 use Rattle.naga_ir.specs.Handles.{Exists, function_counts}
@@ -12,10 +13,6 @@ use Rattle.naga_ir.specs.declared.expression.Expression.TheVariants as form
 use Rattle.naga_ir.specs.declared.expression.ImageQuery.{ImageQuery}
 use Rattle.naga_ir.specs.declared.reference.Reference.TheVariants as to
 use Rattle.naga_operands.specs.Surroundings.{CanJudge, ExpressionSurroundings}
-
--- the expression that a sample is
-abbrev pub expression_of : Sample → Expression
-expression_of s = form.ImageSample s.image s.sampler s.gather s.coordinate s.array_index s.offset s.level s.depth_ref s.clamp_to_edge
 
 operands_of_sample : (s : Sample) → operands (expression_of s) ≡ s.image ∷ s.sampler ∷ s.coordinate ∷ option_to_list s.array_index ++ (option_to_list s.offset ++ (level_operands s.level ++ option_to_list s.depth_ref))
 unfolding operands
@@ -47,8 +44,8 @@ module _ (P : ℕ → Type 0) where
     pub depth_ref : IfSome s.depth_ref P
 
   -- if it holds of all operands
-  pub of_sample : (s : Sample) → All P (operands (expression_of s)) → OfSample s
-  of_sample s all =
+  pub known_of_sample : (s : Sample) → All P (operands (expression_of s)) → OfSample s
+  known_of_sample s all =
       let given = subst (λ os. All P os) (operands_of_sample s) all in
       let after_three = all-right P (s.image ∷ s.sampler ∷ s.coordinate ∷ []) _ given in
       let after_layer = all-right P (option_to_list s.array_index) _ after_three in
@@ -65,28 +62,28 @@ module _ (P : ℕ → Type 0) where
 
   -- something holds of each operand of a load
   pub record OfLoad (image coordinate : ℕ) (array_index sample level : Option ℕ) : Type 0 where
-    pub image : P image
-    pub coordinate : P coordinate
-    pub array_index : IfSome array_index P
-    pub sample : IfSome sample P
-    pub level : IfSome level P
+    pub of_image : P image
+    pub of_coordinate : P coordinate
+    pub of_layer : IfSome array_index P
+    pub of_sample : IfSome sample P
+    pub of_level : IfSome level P
 
-  pub of_load : (image coordinate : ℕ) (array_index sample level : Option ℕ) → All P (operands (form.ImageLoad image coordinate array_index sample level)) → OfLoad image coordinate array_index sample level
-  of_load image coordinate array_index sample level all =
+  pub known_of_load : (image coordinate : ℕ) (array_index sample level : Option ℕ) → All P (operands (form.ImageLoad image coordinate array_index sample level)) → OfLoad image coordinate array_index sample level
+  known_of_load image coordinate array_index sample level all =
       let given = subst (λ os. All P os) (operands_of_load image coordinate array_index sample level) all in
       let after_two = all-right P (image ∷ coordinate ∷ []) _ given in
       let after_layer = all-right P (option_to_list array_index) _ after_two in
       record {
-        image = given 0 image (omega arith);
-        coordinate = given 1 image (omega arith);
-        array_index = if_there array_index (all-left P (option_to_list array_index) _ after_two);
-        sample = if_there sample (all-left P (option_to_list sample) _ after_layer);
-        level = if_there level (all-right P (option_to_list sample) _ after_layer);
+        of_image = given 0 image (omega arith);
+        of_coordinate = given 1 image (omega arith);
+        of_layer = if_there array_index (all-left P (option_to_list array_index) _ after_two);
+        of_sample = if_there sample (all-left P (option_to_list sample) _ after_layer);
+        of_level = if_there level (all-right P (option_to_list sample) _ after_layer);
       }
 
   -- something holds of each operand of a query
-  pub of_query : (image : ℕ) (query : ImageQuery) → All P (operands (form.ImageQuery image query)) → P image × All P (query_operands query)
-  of_query image query all =
+  pub known_of_query : (image : ℕ) (query : ImageQuery) → All P (operands (form.ImageQuery image query)) → P image × All P (query_operands query)
+  known_of_query image query all =
       let given = subst (λ os. All P os) (operands_of_query image query) all in
       (given 0 image (omega arith), all-right P (image ∷ []) (query_operands query) given)
 

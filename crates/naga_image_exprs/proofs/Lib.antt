@@ -1,4 +1,6 @@
+mod Clamping
 mod Judged
 mod Known
 mod Places
+mod Results
 mod Texts

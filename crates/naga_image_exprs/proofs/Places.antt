@@ -1,5 +1,5 @@
 -- What the expressions of a function, the variables and the types of a module refer to exists.
-use Rattle.std.proofs.Common.{◌≡◌, ◌<◌, ℕ, List, Some, Contains, length, map, slice_get, refl, subst, arith, option_to_list}
+use Rattle.std.proofs.Common.{◌≡◌, ◌<◌, ◌⊎◌, inl, inr, ℕ, List, Some, Contains, length, map, slice_get, refl, subst, arith, option_to_list}
 use Rattle.std.specs.List.{flat_map}
 use Rattle.std.proofs.lemmas.List.Elements.{All-contains, Contains-append_left}
 use Rattle.naga_arena.proofs.Elements.{all_at, contains-map}
@@ -21,6 +21,7 @@ use Rattle.naga_ir_types.specs.declared.types.TypeInner.{TypeInner}
 use Rattle.naga_ir_types.specs.declared.types.TypeInner.TheVariants.{BindingArray}
 use Rattle.naga_operands.specs.Surroundings.{AreSound, ExpressionSurroundings}
 use Rattle.naga_typing.proofs.Existence.{references_exist}
+use Rattle.naga_typing.proofs.FormOperands.{of_access, of_access_index}
 use Rattle.naga_typing.specs.Context.{ReferencesExist}
 
 variable_named : (v : ℕ) → named_item (form.GlobalVariable v) ≡ Some (to.GlobalVariable v)
@@ -67,3 +68,9 @@ module _ (s : ExpressionSurroundings) (sound : AreSound s) where
       let named : List Reference = map to.Type_ (parts form) in
       All-contains (ExistsGlobally g) (type_references form) (to.Type_ base) (subst (ReferencesExist g) is (references_exist g (global_references_ok s.«module» sound.handles) t x at))
       (Contains-append_left named (map to.Override (option_to_list (size_override form))) (to.Type_ base) (type_of_binding base size))
+
+  -- so does the base of an access
+  pub base_exists : (e base : ℕ) (x : Expression) → slice_get s.function.expressions e ≡ Some x → ((index : ℕ) × (x ≡ form.Access base index)) ⊎ ((index : ℕ) × (x ≡ form.AccessIndex base index))
+      → base < length s.function.expressions
+  base_exists e base x at (inl h) = operand_exists e base x at (of_access x base h.0 h.1)
+  base_exists e base x at (inr h) = operand_exists e base x at (of_access_index x base h.0 h.1)

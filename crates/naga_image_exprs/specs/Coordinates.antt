@@ -44,9 +44,9 @@ unless_operand s is None error = None
 unless_operand s is (Some e) error = unless (is (form_at s e)) (error e)
 
 -- the refusal of a layer, unless one is chosen of an image that has several, and none of another
-abbrev pub misplaced_layer : Truth → Option ℕ → Option ExpressionError
-misplaced_layer arrayed array_index = unless (beq arrayed (is_some array_index)) refusal.InvalidImageArrayIndex
+abbrev pub misplaced_layer : Truth → Truth → Option ExpressionError
+misplaced_layer arrayed has_index = unless (beq arrayed has_index) refusal.InvalidImageArrayIndex
 
 -- the refusal of a layer, unless it is chosen of an image that has several, and its index is of a form that is so
 abbrev pub bad_layer : ExpressionSurroundings → (TypeInner → Truth) → Truth → Option ℕ → Option ExpressionError
-bad_layer s is arrayed array_index = first (misplaced_layer arrayed array_index ∷ unless_operand s is array_index refusal.InvalidImageArrayIndexType ∷ [])
+bad_layer s is arrayed array_index = first (misplaced_layer arrayed (is_some array_index) ∷ unless_operand s is array_index refusal.InvalidImageArrayIndexType ∷ [])

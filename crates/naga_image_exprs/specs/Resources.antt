@@ -20,17 +20,17 @@ and_then (Err error) next = Err error
 
 -- where a resource comes from
 pub data Source : Type 0 where
-  variable : ℕ → Source
-  argument : ℕ → Source
-  element : ℕ → Source
+  in_variable : ℕ → Source
+  in_argument : ℕ → Source
+  in_element : ℕ → Source
   elsewhere : Source
 
 -- an expression stands for a variable of the module, an argument, an element of what another stands for, or no resource
 abbrev pub source_of : Expression → Source
-source_of (form.GlobalVariable v) = variable v
-source_of (form.FunctionArgument i) = argument i
-source_of (form.Access base index) = element base
-source_of (form.AccessIndex base index) = element base
+source_of (form.GlobalVariable v) = in_variable v
+source_of (form.FunctionArgument i) = in_argument i
+source_of (form.Access base index) = in_element base
+source_of (form.AccessIndex base index) = in_element base
 source_of (form.Literal value) = elsewhere
 source_of (form.Constant c) = elsewhere
 source_of (form.Override o) = elsewhere
@@ -102,9 +102,9 @@ element_of_variable s v = and_then (ok_or (variable_type s v) refusal.ExpectedGl
 
 -- the type of an element of what comes from a source, which has to be a variable of the module
 abbrev pub element_of : ExpressionSurroundings → Source → Result ℕ ExpressionError
-element_of s (variable v) = element_of_variable s v
-element_of s (argument i) = Err refusal.ExpectedGlobalVariable
-element_of s (element base) = Err refusal.ExpectedGlobalVariable
+element_of s (in_variable v) = element_of_variable s v
+element_of s (in_argument i) = Err refusal.ExpectedGlobalVariable
+element_of s (in_element base) = Err refusal.ExpectedGlobalVariable
 element_of s elsewhere = Err refusal.ExpectedGlobalVariable
 
 -- the type of an element of what an expression stands for
@@ -113,9 +113,9 @@ element_type s base = element_of s (source_in (slice_get s.function.expressions 
 
 -- the type of the resource that comes from a source
 abbrev pub type_of_source : ExpressionSurroundings → Source → Result ℕ ExpressionError
-type_of_source s (variable v) = ok_or (variable_type s v) refusal.ExpectedGlobalVariable
-type_of_source s (argument i) = ok_or (argument_type s i) refusal.ExpectedGlobalVariable
-type_of_source s (element base) = element_type s base
+type_of_source s (in_variable v) = ok_or (variable_type s v) refusal.ExpectedGlobalVariable
+type_of_source s (in_argument i) = ok_or (argument_type s i) refusal.ExpectedGlobalVariable
+type_of_source s (in_element base) = element_type s base
 type_of_source s elsewhere = Err refusal.ExpectedGlobalVariable
 
 -- the type of the resource that an expression stands for

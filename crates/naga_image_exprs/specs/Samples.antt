@@ -7,6 +7,8 @@ use Rattle.naga_image_exprs.specs.Coordinates.{are_coordinates, bad_layer, coord
 use Rattle.naga_image_exprs.specs.Resources.{and_then, image_type, resource_type, sampler_comparison}
 use Rattle.naga_image_exprs.specs.declared.resource.ImageType.{ImageType}
 use Rattle.naga_image_exprs.specs.declared.sample.Sample.{Sample}
+use Rattle.naga_ir.specs.declared.expression.Expression.{Expression}
+use Rattle.naga_ir.specs.declared.expression.Expression.TheVariants as form
 use Rattle.naga_ir.specs.declared.expression.SampleLevel.{SampleLevel}
 use Rattle.naga_ir.specs.declared.expression.SampleLevel.TheVariants.{Auto, Zero, Exact, Bias, Gradient}
 use Rattle.naga_ir.specs.declared.expression.SwizzleComponent.{SwizzleComponent}
@@ -25,6 +27,10 @@ use Rattle.naga_operands.specs.declared.error.ExpressionError.TheVariants as ref
 use Rattle.naga_types.specs.Judging.{first, judged, unless}
 use Rattle.naga_types.specs.TypeRule.{is_float, is_integer}
 use Rattle.naga_typing.specs.Kinds.{is_const}
+
+-- the expression that a sample is
+abbrev pub expression_of : Sample → Expression
+expression_of x = form.ImageSample x.image x.sampler x.gather x.coordinate x.array_index x.offset x.level x.depth_ref x.clamp_to_edge
 
 -- what is sampled, and whether the sampler compares: both are resources, the one an image and the other a sampler
 abbrev pub sampled : ExpressionSurroundings → ℕ → ℕ → Result (ImageType × Truth) ExpressionError

@@ -1,6 +1,7 @@
 //! Where coordinates can be clamped to the edges of an image.
 
-ghost use Rattle.std.specs.Prelude.{◌≡◌, is_some, not};
+ghost use Rattle.std.specs.Prelude.{◌≡◌};
+ghost use Rattle.std.specs.Option.{is_none};
 ghost use Rattle.naga_image_exprs.specs.Samples as rule;
 ghost use Rattle.naga_image_exprs.specs.steps.Clamps.{IsClampResult};
 
@@ -50,8 +51,8 @@ pub(crate) fn is_filtered(class: ImageClass) -> bool
 }
 
 /// The first reason why coordinates in an image can't be clamped, if there is one.
-fn clamp_fault(image: ImageType, sample: Sample) -> Option<ClampFault>
-    ensures { is_some result ≡ not (rule.can_clamp image sample) }
+fn clamp_fault(image: ImageType, sample: &Sample) -> Option<ClampFault>
+    ensures { is_none result ≡ rule.can_clamp image sample.now }
 {
     if !is_filtered(image.class) && image.class != ImageClass::External {
         return Some(ClampFault::Class(image.class));
@@ -86,9 +87,9 @@ fn text_of(alloc: Global, fault: ClampFault) -> Result<String, OutOfMemory> {
 pub(crate) fn check_clamp(
     alloc: Global,
     image: ImageType,
-    sample: Sample,
+    sample: &Sample,
 ) -> Result<(), ExpressionError>
-    ensures { IsClampResult image.entry sample.entry result }
+    ensures { IsClampResult image sample.now result }
 {
     if !sample.clamp_to_edge {
         return Ok(());

@@ -51,13 +51,10 @@ pub(crate) fn is_index(inner: &TypeInner) -> bool
 }
 
 /// Checks that a layer is chosen of an image that has several, and of no other.
-fn check_layer(
-    arrayed: bool,
-    array_index: Option<Handle<ExpressionTag>>,
-) -> Result<(), ExpressionError>
-    ensures { result ≡ granted (rule.misplaced_layer arrayed array_index) tt }
+fn check_layer(arrayed: bool, has_index: bool) -> Result<(), ExpressionError>
+    ensures { result ≡ granted (rule.misplaced_layer arrayed has_index) tt }
 {
-    if arrayed != array_index.is_some() {
+    if arrayed != has_index {
         return Err(ExpressionError::InvalidImageArrayIndex);
     }
     Ok(())
@@ -73,7 +70,7 @@ pub(crate) fn check_sampled_layer(
     requires known { IfSome array_index (λ e. e < length context.info.now.types) }
     ensures { result ≡ granted (rule.bad_layer (surroundings context.entry) rule.is_integer_scalar arrayed array_index) tt }
 {
-    check_layer(arrayed, array_index)?;
+    check_layer(arrayed, array_index.is_some())?;
     match array_index {
         Some(index) if !is_integer_scalar(context.type_of(index)) => {
             Err(ExpressionError::InvalidImageArrayIndexType(index))
@@ -92,7 +89,7 @@ pub(crate) fn check_loaded_layer(
     requires known { IfSome array_index (λ e. e < length context.info.now.types) }
     ensures { result ≡ granted (rule.bad_layer (surroundings context.entry) rule.is_index arrayed array_index) tt }
 {
-    check_layer(arrayed, array_index)?;
+    check_layer(arrayed, array_index.is_some())?;
     match array_index {
         Some(index) if !is_index(context.type_of(index)) => {
             Err(ExpressionError::InvalidImageArrayIndexType(index))

@@ -3,6 +3,7 @@
 ghost use Rattle.std.specs.Prelude.{◌≡◌, ◌<◌, IfSome, length};
 ghost use Rattle.naga_image_exprs.specs.Loads as rule;
 ghost use Rattle.naga_ir.specs.declared.expression.Expression.TheVariants as form;
+ghost use Rattle.naga_ir_types.specs.TypeWords.{is_mipmapped, is_multisampled};
 ghost use Rattle.naga_operands.specs.Surroundings.{AreSound, IsJudgeable, surroundings};
 ghost use Rattle.naga_types.specs.Judging.{granted};
 
@@ -11,7 +12,7 @@ use crate::resource::image_at;
 use naga_flags::flags::ShaderStages;
 use naga_ir::handle::Handle;
 use naga_ir::tags::ExpressionTag;
-use naga_ir::types::ImageDimension;
+use naga_ir::types::{ImageClass, ImageDimension};
 use naga_operands::context::{FunctionContext, every_stage};
 use naga_operands::error::ExpressionError;
 use naga_operands::type_methods::is_integer_scalar;
@@ -36,14 +37,14 @@ fn check_coordinate(
 /// Checks that a sample is chosen of a multisampled image, by an integer of 32 bits, and of no other.
 fn check_sample(
     context: FunctionContext<'_>,
-    multisampled: bool,
+    class: ImageClass,
     sample: Option<Handle<ExpressionTag>>,
 ) -> Result<(), ExpressionError>
     requires sound { AreSound (surroundings context) }
     requires known { IfSome sample (λ e. e < length context.info.now.types) }
-    ensures { result ≡ granted (rule.bad_sample (surroundings context.entry) multisampled sample) tt }
+    ensures { result ≡ granted (rule.bad_sample (surroundings context.entry) (is_multisampled class) sample) tt }
 {
-    match (sample, multisampled) {
+    match (sample, class.is_multisampled()) {
         (None, false) => Ok(()),
         (Some(sample), true) => {
             if !is_index(context.type_of(sample)) {
@@ -59,14 +60,14 @@ fn check_sample(
 /// Checks that a level is chosen of an image that may have several, by an integer, and of no other.
 fn check_level(
     context: FunctionContext<'_>,
-    mipmapped: bool,
+    class: ImageClass,
     level: Option<Handle<ExpressionTag>>,
 ) -> Result<(), ExpressionError>
     requires sound { AreSound (surroundings context) }
     requires known { IfSome level (λ e. e < length context.info.now.types) }
-    ensures { result ≡ granted (rule.bad_level (surroundings context.entry) mipmapped level) tt }
+    ensures { result ≡ granted (rule.bad_level (surroundings context.entry) (is_mipmapped class) level) tt }
 {
-    match (level, mipmapped) {
+    match (level, class.is_mipmapped()) {
         (None, false) => Ok(()),
         (Some(level), true) => {
             if !is_integer_scalar(context.type_of(level)) {
@@ -111,7 +112,7 @@ pub fn validate_image_load(
     let found = image_at(context, image)?;
     check_coordinate(context, found.dim, coordinate)?;
     check_loaded_layer(context, found.arrayed, array_index)?;
-    check_sample(context, found.class.is_multisampled(), sample)?;
-    check_level(context, found.class.is_mipmapped(), level)?;
+    check_sample(context, found.class, sample)?;
+    check_level(context, found.class, level)?;
     Ok(every_stage())
 }

@@ -4,7 +4,6 @@ ghost use Rattle.std.specs.Prelude.{◌≡◌, ◌<◌, All, IfSome, length};
 ghost use Rattle.naga_image_exprs.specs.Samples as rule;
 ghost use Rattle.naga_image_exprs.specs.steps.Known.{CanLookUp};
 ghost use Rattle.naga_ir.specs.References.{level_operands};
-ghost use Rattle.naga_ir.specs.declared.expression.Expression.TheVariants as form;
 ghost use Rattle.naga_operands.specs.Surroundings.{AreSound, IsJudgeable, surroundings};
 ghost use Rattle.naga_operands.specs.Words.{is_scalar_that};
 ghost use Rattle.naga_types.specs.Judging.{granted};
@@ -360,10 +359,10 @@ fn level_stages(level: SampleLevel) -> ShaderStages
 pub fn validate_image_sample(
     alloc: Global,
     context: FunctionContext<'_>,
-    sample: Sample,
+    sample: &Sample,
 ) -> Result<ShaderStages, ExpressionError>
-    requires { IsJudgeable (surroundings context) (form.ImageSample sample.image sample.sampler sample.gather sample.coordinate sample.array_index sample.offset sample.level sample.depth_ref sample.clamp_to_edge) }
-    ensures { rule.IsImageSampleReturned (surroundings context.entry) sample.entry result }
+    requires { IsJudgeable (surroundings context) (rule.expression_of sample.now) }
+    ensures { rule.IsImageSampleReturned (surroundings context.entry) sample.now result }
 {
     let (image, comparison) = sampled(context, sample.image, sample.sampler)?;
     check_sampled_layer(context, image.arrayed, sample.array_index)?;
