@@ -3,7 +3,6 @@
 ghost use Rattle.std.specs.Prelude.{◌≡◌, ◌<◌, length};
 ghost use Rattle.naga_operands.specs.Surroundings.{AreSound, surroundings};
 ghost use Rattle.naga_operator_exprs.specs.Cooperative as rule;
-ghost use Rattle.naga_types.specs.Judging.{granted};
 
 use naga_flags::flags::ShaderStages;
 use naga_ir::handle::Handle;
@@ -12,20 +11,13 @@ use naga_ir::types::{CooperativeRole, TypeInner};
 use naga_operands::context::FunctionContext;
 use naga_operands::error::ExpressionError;
 
-/// Checks that an operand of `a * b + c` is a cooperative matrix of its role.
-fn check_role(
-    context: FunctionContext<'_>,
-    wanted: CooperativeRole,
-    operand: Handle<ExpressionTag>,
-) -> Result<(), ExpressionError>
-    requires sound { AreSound (surroundings context) }
-    requires operand { operand < length context.info.now.types }
-    ensures { result ≡ granted (rule.lacks_role (surroundings context.entry) wanted operand) tt }
+/// Whether a type is that of cooperative matrices of a role.
+fn has_role(inner: &TypeInner, wanted: CooperativeRole) -> bool
+    ensures { result ≡ rule.has_role wanted inner.now }
 {
-    match context.type_of(operand) {
-        TypeInner::CooperativeMatrix { role, .. } if *role == wanted => Ok(()),
-        TypeInner::CooperativeMatrix { .. }
-        | TypeInner::Scalar(_)
+    match inner {
+        TypeInner::CooperativeMatrix { role, .. } => *role == wanted,
+        TypeInner::Scalar(_)
         | TypeInner::Vector { .. }
         | TypeInner::Matrix { .. }
         | TypeInner::Atomic(_)
@@ -37,9 +29,7 @@ fn check_role(
         | TypeInner::Sampler { .. }
         | TypeInner::AccelerationStructure { .. }
         | TypeInner::RayQuery { .. }
-        | TypeInner::BindingArray { .. } => Err(ExpressionError::InvalidCooperativeOperand(
-            operand,
-        )),
+        | TypeInner::BindingArray { .. } => false,
     }
 }
 
@@ -61,8 +51,14 @@ pub fn validate_cooperative_multiply_add(
     requires summand { c < length context.info.now.types }
     ensures { result ≡ rule.cooperative_multiply_add_rule (surroundings context.entry) a b c }
 {
-    check_role(context, CooperativeRole::A, a)?;
-    check_role(context, CooperativeRole::B, b)?;
-    check_role(context, CooperativeRole::C, c)?;
+    if !has_role(context.type_of(a), CooperativeRole::A) {
+        return Err(ExpressionError::InvalidCooperativeOperand(a));
+    }
+    if !has_role(context.type_of(b), CooperativeRole::B) {
+        return Err(ExpressionError::InvalidCooperativeOperand(b));
+    }
+    if !has_role(context.type_of(c), CooperativeRole::C) {
+        return Err(ExpressionError::InvalidCooperativeOperand(c));
+    }
     Ok(ShaderStages::COMPUTE)
 }
