@@ -88,7 +88,7 @@ fn validate_form<T: Typing>(
                 depth_ref,
                 clamp_to_edge,
             };
-            validate_image_sample(alloc, context, sample)
+            validate_image_sample(alloc, context, &sample)
         }
         Expression::ImageLoad {
             image,

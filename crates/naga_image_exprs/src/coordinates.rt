@@ -10,7 +10,7 @@ use naga_ir::tags::ExpressionTag;
 use naga_ir::types::{ImageDimension, Scalar, ScalarKind, TypeInner};
 use naga_operands::context::FunctionContext;
 use naga_operands::error::ExpressionError;
-use naga_operands::type_methods::{component_count, is_integer_scalar, vector_size_and_scalar};
+use naga_operands::type_methods::{component_count, is_integer_scalar};
 
 /// How many numbers the coordinates of an image of this dimension are.
 pub(crate) fn coordinate_count(dim: ImageDimension) -> u8
@@ -27,7 +27,7 @@ pub(crate) fn coordinate_count(dim: ImageDimension) -> u8
 pub(crate) fn is_of_kind(inner: &TypeInner, count: u8, kind: ScalarKind) -> bool
     ensures { result ≡ rule.is_of_kind count kind inner.now }
 {
-    match vector_size_and_scalar(inner) {
+    match inner.vector_size_and_scalar() {
         Some((size, scalar)) => component_count(size) == count && scalar.kind == kind,
         None => false,
     }
@@ -44,7 +44,7 @@ pub(crate) fn are_coordinates(inner: &TypeInner, dim: ImageDimension) -> bool
 pub(crate) fn is_index(inner: &TypeInner) -> bool
     ensures { result ≡ rule.is_index inner.now }
 {
-    match vector_size_and_scalar(inner) {
+    match inner.vector_size_and_scalar() {
         Some((None, scalar)) => scalar == Scalar::I32 || scalar == Scalar::U32,
         Some((Some(_), _)) | None => false,
     }

@@ -5,6 +5,7 @@ use Rattle.naga_ir_types.specs.declared.types.ImageClass.{ImageClass}
 use Rattle.naga_ir_types.specs.declared.types.ImageClass.TheVariants.{Sampled, Depth, Storage, External}
 use Rattle.naga_ir_types.specs.declared.types.TypeInner.{TypeInner}
 use Rattle.naga_ir_types.specs.declared.types.TypeInner.TheVariants.{Scalar, Vector, Matrix, CooperativeMatrix, Atomic, Pointer, ValuePointer, Array, Struct, Image, Sampler, AccelerationStructure, RayQuery, BindingArray}
+use Rattle.naga_ir_types.specs.declared.types.VectorSize.{VectorSize}
 
 -- the scalar of a scalar, a vector or a matrix, of either kind of matrix; other types have none
 abbrev pub scalar_of : TypeInner → Option ScalarType
@@ -22,6 +23,23 @@ scalar_of (Sampler comparison) = None
 scalar_of (AccelerationStructure vertex_return) = None
 scalar_of (RayQuery vertex_return) = None
 scalar_of (BindingArray base size) = None
+
+-- the scalar of a scalar or a vector, beside the number of components of a vector; other types have none
+abbrev pub vector_size_and_scalar : TypeInner → Option (Option VectorSize × ScalarType)
+vector_size_and_scalar (Scalar scalar) = Some (None, scalar)
+vector_size_and_scalar (Vector size scalar) = Some (Some size, scalar)
+vector_size_and_scalar (Matrix columns rows scalar) = None
+vector_size_and_scalar (CooperativeMatrix columns rows scalar role) = None
+vector_size_and_scalar (Atomic scalar) = None
+vector_size_and_scalar (Pointer base space) = None
+vector_size_and_scalar (ValuePointer size scalar space) = None
+vector_size_and_scalar (Array base size stride) = None
+vector_size_and_scalar (Struct members span) = None
+vector_size_and_scalar (Image dim arrayed class) = None
+vector_size_and_scalar (Sampler comparison) = None
+vector_size_and_scalar (AccelerationStructure vertex_return) = None
+vector_size_and_scalar (RayQuery vertex_return) = None
+vector_size_and_scalar (BindingArray base size) = None
 
 -- a form is a struct
 abbrev pub IsStruct : TypeInner → Type 0

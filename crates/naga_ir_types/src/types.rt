@@ -2,7 +2,7 @@
 
 ghost use Rattle.std.specs.Prelude.{◌≡◌, IfOk, IsOk};
 ghost use Rattle.naga_ir_types.specs.Sizes.{components, cooperative_components, is_numeric};
-ghost use Rattle.naga_ir_types.specs.TypeWords.{IsNoStruct, is_mipmapped, is_multisampled, pointer_base, scalar_of};
+ghost use Rattle.naga_ir_types.specs.TypeWords.{IsNoStruct, is_mipmapped, is_multisampled, pointer_base, scalar_of, vector_size_and_scalar};
 
 use naga_arena::handle::Handle;
 use naga_arena::list::List;
@@ -467,6 +467,29 @@ impl TypeInner {
             | TypeInner::Matrix { scalar, .. }
             | TypeInner::CooperativeMatrix { scalar, .. } => Some(scalar),
             TypeInner::Atomic(_)
+            | TypeInner::Pointer { .. }
+            | TypeInner::ValuePointer { .. }
+            | TypeInner::Array { .. }
+            | TypeInner::Struct { .. }
+            | TypeInner::Image { .. }
+            | TypeInner::Sampler { .. }
+            | TypeInner::AccelerationStructure { .. }
+            | TypeInner::RayQuery { .. }
+            | TypeInner::BindingArray { .. } => None,
+        }
+    }
+
+    /// The scalar of a scalar or a vector, beside the number of components of a vector. Other types have
+    /// none.
+    pub fn vector_size_and_scalar(&self) -> Option<(Option<VectorSize>, Scalar)>
+        ensures { result ≡ vector_size_and_scalar self.now }
+    {
+        match *self {
+            TypeInner::Scalar(scalar) => Some((None, scalar)),
+            TypeInner::Vector { size, scalar } => Some((Some(size), scalar)),
+            TypeInner::Matrix { .. }
+            | TypeInner::CooperativeMatrix { .. }
+            | TypeInner::Atomic(_)
             | TypeInner::Pointer { .. }
             | TypeInner::ValuePointer { .. }
             | TypeInner::Array { .. }

@@ -1,31 +1,14 @@
 -- What the rules of several forms ask of operands.
 use Rattle.std.specs.Prelude.{◌||◌, ◌&&◌, ◌==◌, ℕ, Bool as Truth, true, false, Option, Some, None}
 use Rattle.naga_ir_types.specs.Sizes.{components}
+use Rattle.naga_ir_types.specs.TypeWords.{vector_size_and_scalar}
 use Rattle.naga_ir_types.specs.contracts.types.TypeInnerPartialEq.TheImpl as of_inner
 use Rattle.naga_ir_types.specs.declared.types.Scalar.{Scalar as ScalarType}
 use Rattle.naga_ir_types.specs.declared.types.ScalarKind.{ScalarKind}
 use Rattle.naga_ir_types.specs.declared.types.ScalarKind.TheVariants.{Sint, Uint, Float, Bool, AbstractInt, AbstractFloat}
 use Rattle.naga_ir_types.specs.declared.types.TypeInner.{TypeInner}
-use Rattle.naga_ir_types.specs.declared.types.TypeInner.TheVariants.{Scalar, Vector, Matrix, CooperativeMatrix, Atomic, Pointer, ValuePointer, Array, Struct, Image, Sampler, AccelerationStructure, RayQuery, BindingArray}
 use Rattle.naga_ir_types.specs.declared.types.VectorSize.{VectorSize}
 use Rattle.naga_types.specs.TypeRule.{is_float, is_integer}
-
--- the scalar of a scalar or a vector, beside the number of components of a vector; other forms have none
-abbrev pub vector_size_and_scalar : TypeInner → Option (Option VectorSize × ScalarType)
-vector_size_and_scalar (Scalar scalar) = Some (None, scalar)
-vector_size_and_scalar (Vector size scalar) = Some (Some size, scalar)
-vector_size_and_scalar (Matrix columns rows scalar) = None
-vector_size_and_scalar (CooperativeMatrix columns rows scalar role) = None
-vector_size_and_scalar (Atomic scalar) = None
-vector_size_and_scalar (Pointer base space) = None
-vector_size_and_scalar (ValuePointer size scalar space) = None
-vector_size_and_scalar (Array base size stride) = None
-vector_size_and_scalar (Struct members span) = None
-vector_size_and_scalar (Image dim arrayed class) = None
-vector_size_and_scalar (Sampler comparison) = None
-vector_size_and_scalar (AccelerationStructure vertex_return) = None
-vector_size_and_scalar (RayQuery vertex_return) = None
-vector_size_and_scalar (BindingArray base size) = None
 
 -- there is a scalar, and it is so
 abbrev pub has_scalar : (ScalarType → Truth) → Option (Option VectorSize × ScalarType) → Truth

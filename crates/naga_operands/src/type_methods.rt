@@ -4,30 +4,7 @@ ghost use Rattle.std.specs.Prelude.{◌≡◌};
 ghost use Rattle.naga_operands.specs.Words as words;
 ghost use Rattle.naga_types.specs.TypeRule as rule;
 
-use naga_ir::types::{Scalar, ScalarKind, TypeInner, VectorSize};
-
-/// The scalar of a scalar or a vector, beside the number of components of a vector: naga's
-/// `TypeInner::vector_size_and_scalar`. Other types have none.
-pub fn vector_size_and_scalar(inner: &TypeInner) -> Option<(Option<VectorSize>, Scalar)>
-    ensures { result ≡ words.vector_size_and_scalar inner.now }
-{
-    match *inner {
-        TypeInner::Scalar(scalar) => Some((None, scalar)),
-        TypeInner::Vector { size, scalar } => Some((Some(size), scalar)),
-        TypeInner::Matrix { .. }
-        | TypeInner::CooperativeMatrix { .. }
-        | TypeInner::Atomic(_)
-        | TypeInner::Pointer { .. }
-        | TypeInner::ValuePointer { .. }
-        | TypeInner::Array { .. }
-        | TypeInner::Struct { .. }
-        | TypeInner::Image { .. }
-        | TypeInner::Sampler { .. }
-        | TypeInner::AccelerationStructure { .. }
-        | TypeInner::RayQuery { .. }
-        | TypeInner::BindingArray { .. } => None,
-    }
-}
+use naga_ir::types::{ScalarKind, TypeInner, VectorSize};
 
 /// How many components a vector of this size has, or a scalar.
 pub fn component_count(size: Option<VectorSize>) -> u8
@@ -66,7 +43,7 @@ pub fn is_number(kind: ScalarKind) -> bool
 pub fn is_integer_scalar(inner: &TypeInner) -> bool
     ensures { result ≡ words.is_scalar_that (λ scalar. rule.is_integer scalar.kind) inner.now }
 {
-    match vector_size_and_scalar(inner) {
+    match inner.vector_size_and_scalar() {
         Some((size, scalar)) => component_count(size) == 1 && is_integer(scalar.kind),
         None => false,
     }

@@ -3,6 +3,7 @@ use Rattle.std.specs.Prelude.{◌≡◌, ◌&&◌, ◌||◌, ◌*◌, ℕ, Bool 
 use Rattle.naga_flags.specs.declared.flags.ShaderStages.{ShaderStages}
 use Rattle.naga_ir.specs.declared.expression.BinaryOperator.{BinaryOperator}
 use Rattle.naga_ir.specs.declared.expression.BinaryOperator.TheVariants.{Add, Subtract, Multiply, Divide, Modulo, Equal, NotEqual, Less, LessEqual, Greater, GreaterEqual, And, ExclusiveOr, InclusiveOr, LogicalAnd, LogicalOr, ShiftLeft, ShiftRight}
+use Rattle.naga_ir_types.specs.TypeWords.{vector_size_and_scalar}
 use Rattle.naga_ir_types.specs.contracts.types.VectorSizePartialEq.TheImpl as of_size
 use Rattle.naga_ir_types.specs.declared.types.Scalar.{Scalar as ScalarType}
 use Rattle.naga_ir_types.specs.declared.types.ScalarKind.{ScalarKind}
@@ -13,7 +14,7 @@ use Rattle.naga_ir_types.specs.declared.types.VectorSize.{VectorSize}
 use Rattle.naga_operands.specs.Results.{IsReturned}
 use Rattle.naga_operands.specs.Stages.{every_stage}
 use Rattle.naga_operands.specs.Surroundings.{ExpressionSurroundings, form_at}
-use Rattle.naga_operands.specs.Words.{are_equal, consists_of, is_bool, is_number, vector_size_and_scalar}
+use Rattle.naga_operands.specs.Words.{are_equal, consists_of, is_bool, is_number}
 use Rattle.naga_operands.specs.declared.error.ExpressionError.{ExpressionError}
 use Rattle.naga_operands.specs.declared.error.ExpressionError.TheVariants.{DivideByZero, InvalidBinaryOperandTypes, ShiftAmountTooLarge}
 use Rattle.naga_operator_exprs.specs.Integers.{HasForbidden}

@@ -3,7 +3,8 @@
 ghost use Rattle.std.specs.Prelude.{◌≡◌, ◌<◌, Err, length};
 ghost use Rattle.naga_operands.specs.Results.{IsReturned};
 ghost use Rattle.naga_operands.specs.Surroundings.{AreSound, surroundings};
-ghost use Rattle.naga_operands.specs.Words.{consists_of, is_bool, is_number, vector_size_and_scalar};
+ghost use Rattle.naga_ir_types.specs.TypeWords.{vector_size_and_scalar};
+ghost use Rattle.naga_operands.specs.Words.{consists_of, is_bool, is_number};
 ghost use Rattle.naga_operands.specs.declared.error.ExpressionError.TheVariants as refusal;
 ghost use Rattle.naga_operator_exprs.specs.Binary as rule;
 ghost use Rattle.naga_types.specs.TypeRule.{is_integer};
@@ -17,14 +18,14 @@ use naga_ir::tags::ExpressionTag;
 use naga_ir::types::{Scalar, ScalarKind, TypeInner};
 use naga_operands::context::{FunctionContext, every_stage};
 use naga_operands::error::ExpressionError;
-use naga_operands::type_methods::{is_integer, is_number, vector_size_and_scalar};
+use naga_operands::type_methods::{is_integer, is_number};
 use naga_types::type_methods::is_sized;
 
 /// Whether a type is a scalar that is a number with a width of its own, or a vector of such.
 fn consists_of_numbers(inner: &TypeInner) -> bool
     ensures { result ≡ consists_of (λ scalar. is_number scalar.kind) inner.now }
 {
-    match vector_size_and_scalar(inner) {
+    match inner.vector_size_and_scalar() {
         Some((_, scalar)) => is_number(scalar.kind),
         None => false,
     }
@@ -34,7 +35,7 @@ fn consists_of_numbers(inner: &TypeInner) -> bool
 fn consists_of_integers(inner: &TypeInner) -> bool
     ensures { result ≡ consists_of (λ scalar. is_integer scalar.kind) inner.now }
 {
-    match vector_size_and_scalar(inner) {
+    match inner.vector_size_and_scalar() {
         Some((_, scalar)) => is_integer(scalar.kind),
         None => false,
     }
@@ -44,7 +45,7 @@ fn consists_of_integers(inner: &TypeInner) -> bool
 fn consists_of_bools(inner: &TypeInner) -> bool
     ensures { result ≡ consists_of (λ scalar. is_bool scalar.kind) inner.now }
 {
-    match vector_size_and_scalar(inner) {
+    match inner.vector_size_and_scalar() {
         Some((_, scalar)) => scalar.kind == ScalarKind::Bool,
         None => false,
     }
@@ -75,7 +76,10 @@ fn is_any_matrix(inner: &TypeInner) -> bool
 fn can_shift(left: &TypeInner, right: &TypeInner) -> bool
     ensures { result ≡ rule.can_shift (vector_size_and_scalar left.now) (vector_size_and_scalar right.now) }
 {
-    match (vector_size_and_scalar(left), vector_size_and_scalar(right)) {
+    match (
+        left.vector_size_and_scalar(),
+        right.vector_size_and_scalar(),
+    ) {
         (Some((size, scalar)), Some((amount_size, amount))) => {
             is_integer(scalar.kind) && amount.kind == ScalarKind::Uint && size == amount_size
         }
@@ -114,7 +118,7 @@ fn operands_fit(op: BinaryOperator, left: &TypeInner, right: &TypeInner) -> bool
 fn forbidden_on_right(op: BinaryOperator, left: &TypeInner) -> Option<Forbidden>
     ensures { result ≡ rule.forbidden_on_right op left.now }
 {
-    let (_, scalar) = vector_size_and_scalar(left)?;
+    let (_, scalar) = left.vector_size_and_scalar()?;
     if !is_integer(scalar.kind) {
         return None;
     }

@@ -11,7 +11,7 @@ use naga_ir::expression::{Expression, Literal};
 use naga_ir::handle::Handle;
 use naga_ir::tags::{ExpressionTag, TypeTag};
 use naga_operands::context::FunctionContext;
-use naga_operands::type_methods::{is_integer, vector_size_and_scalar};
+use naga_operands::type_methods::is_integer;
 
 /// What a constant on the right of an operator must not be.
 #[derive(Clone, Copy, Debug, PartialEq, Eq)]
@@ -179,7 +179,7 @@ fn is_integer_zero(context: FunctionContext<'_>, ty: Handle<TypeTag>) -> bool
     requires { ty < length context.«module».now.types }
     ensures { result ≡ spec.is_integer_zero (surroundings context.entry) ty }
 {
-    match vector_size_and_scalar(&context.module.types[ty].inner) {
+    match context.module.types[ty].inner.vector_size_and_scalar() {
         Some((_, scalar)) => is_integer(scalar.kind),
         None => false,
     }

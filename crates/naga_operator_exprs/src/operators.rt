@@ -14,7 +14,6 @@ use naga_ir::tags::ExpressionTag;
 use naga_ir::types::{Scalar, ScalarKind, TypeInner, VectorSize};
 use naga_operands::context::{FunctionContext, every_stage};
 use naga_operands::error::ExpressionError;
-use naga_operands::type_methods::vector_size_and_scalar;
 
 /// Whether an operator on one value takes values of a kind.
 fn takes(op: UnaryOperator, kind: ScalarKind) -> bool
@@ -41,7 +40,7 @@ pub fn validate_unary(
     requires expr { expr < length context.info.now.types }
     ensures { result ≡ rule.unary_rule (surroundings context.entry) op expr }
 {
-    match vector_size_and_scalar(context.type_of(expr)) {
+    match context.type_of(expr).vector_size_and_scalar() {
         Some((_, scalar)) if takes(op, scalar.kind) => Ok(every_stage()),
         Some(_) | None => Err(ExpressionError::InvalidUnaryOperandType(op, expr)),
     }
@@ -102,8 +101,8 @@ pub fn validate_select(
             reject: reject_type.try_clone()?,
         });
     }
-    let shape = vector_size_and_scalar(condition_type);
-    if !chooses(shape, vector_size_and_scalar(accept_type)) {
+    let shape = condition_type.vector_size_and_scalar();
+    if !chooses(shape, accept_type.vector_size_and_scalar()) {
         return Err(ExpressionError::SelectConditionNotABool {
             actual: condition_type.try_clone()?,
         });
@@ -125,7 +124,7 @@ pub fn validate_derivative(
     requires expr { expr < length context.info.now.types }
     ensures { result ≡ rule.derivative_rule (surroundings context.entry) expr }
 {
-    let Some((_, scalar)) = vector_size_and_scalar(context.type_of(expr)) else {
+    let Some((_, scalar)) = context.type_of(expr).vector_size_and_scalar() else {
         return Err(ExpressionError::InvalidDerivative);
     };
     if scalar.kind != ScalarKind::Float || scalar.width < 4 {
@@ -142,7 +141,7 @@ fn check_argument(
 ) -> Result<(), ExpressionError>
     ensures { result ≡ granted (rule.bad_argument fun argument inner.now) tt }
 {
-    let shape = vector_size_and_scalar(inner);
+    let shape = inner.vector_size_and_scalar();
     match fun {
         RelationalFunction::All | RelationalFunction::Any => match shape {
             Some((Some(_), scalar)) if scalar.kind == ScalarKind::Bool => Ok(()),

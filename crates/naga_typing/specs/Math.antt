@@ -4,7 +4,7 @@ use Rattle.std.specs.List.{list_all, list_any}
 use Rattle.std.specs.Option.{option_map_or}
 use Rattle.naga_ir.specs.declared.expression.MathFunction.{MathFunction}
 use Rattle.naga_ir.specs.declared.expression.MathFunction.TheVariants as math
-use Rattle.naga_ir_types.specs.TypeWords.{scalar_of}
+use Rattle.naga_ir_types.specs.TypeWords.{scalar_of, vector_size_and_scalar}
 use Rattle.naga_ir_types.specs.contracts.types.ScalarKindPartialEq.TheImpl as of_kind
 use Rattle.naga_ir_types.specs.contracts.types.TypeInnerPartialEq.TheImpl as of_inner
 use Rattle.naga_ir_types.specs.contracts.types.VectorSizePartialEq.TheImpl as of_size
@@ -21,23 +21,6 @@ pub record Signature : Type 0 where
   pub first : TypeInner → Truth
   pub further : List (TypeInner → TypeInner → Truth)
   pub result : TypeInner → Option TypeInner
-
--- the scalar of a scalar or a vector, beside the number of components of a vector; other types have none
-abbrev pub vector_size_and_scalar : TypeInner → Option (Option VectorSize × ScalarType)
-vector_size_and_scalar (Scalar scalar) = Some (None, scalar)
-vector_size_and_scalar (Vector size scalar) = Some (Some size, scalar)
-vector_size_and_scalar (Matrix columns rows scalar) = None
-vector_size_and_scalar (CooperativeMatrix columns rows scalar role) = None
-vector_size_and_scalar (Atomic scalar) = None
-vector_size_and_scalar (Pointer base space) = None
-vector_size_and_scalar (ValuePointer size scalar space) = None
-vector_size_and_scalar (Array base size stride) = None
-vector_size_and_scalar (Struct members span) = None
-vector_size_and_scalar (Image dim arrayed class) = None
-vector_size_and_scalar (Sampler comparison) = None
-vector_size_and_scalar (AccelerationStructure vertex_return) = None
-vector_size_and_scalar (RayQuery vertex_return) = None
-vector_size_and_scalar (BindingArray base size) = None
 
 -- the numbers of columns and rows of a matrix, and its scalar; other types have none
 abbrev pub matrix_parts : TypeInner → Option (VectorSize × VectorSize × ScalarType)

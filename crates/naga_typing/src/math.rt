@@ -147,29 +147,6 @@ fn signature_of(fun: Math) -> Signature
     }
 }
 
-/// The scalar of a scalar or a vector, beside the number of components of a vector: naga's
-/// `TypeInner::vector_size_and_scalar`. Other types have none.
-fn vector_size_and_scalar(inner: &TypeInner) -> Option<(Option<VectorSize>, Scalar)>
-    ensures { result ≡ spec.vector_size_and_scalar inner.now }
-{
-    match *inner {
-        TypeInner::Scalar(scalar) => Some((None, scalar)),
-        TypeInner::Vector { size, scalar } => Some((Some(size), scalar)),
-        TypeInner::Matrix { .. }
-        | TypeInner::CooperativeMatrix { .. }
-        | TypeInner::Atomic(_)
-        | TypeInner::Pointer { .. }
-        | TypeInner::ValuePointer { .. }
-        | TypeInner::Array { .. }
-        | TypeInner::Struct { .. }
-        | TypeInner::Image { .. }
-        | TypeInner::Sampler { .. }
-        | TypeInner::AccelerationStructure { .. }
-        | TypeInner::RayQuery { .. }
-        | TypeInner::BindingArray { .. } => None,
-    }
-}
-
 /// The numbers of columns and rows of a matrix, and its scalar.
 fn matrix_parts(inner: &TypeInner) -> Option<(VectorSize, VectorSize, Scalar)>
     ensures { result ≡ spec.matrix_parts inner.now }
@@ -240,7 +217,7 @@ impl FirstArgument {
     fn takes(self, inner: &TypeInner) -> bool
         ensures { result ≡ takes_first self inner.now }
     {
-        let found = vector_size_and_scalar(inner);
+        let found = inner.vector_size_and_scalar();
         match self {
             ScalarOrVector(set) => matches!(found, Some((_, scalar)) if set.contains(scalar.kind)),
             Vector(set) => matches!(found, Some((Some(_), scalar)) if set.contains(scalar.kind)),
@@ -288,7 +265,7 @@ impl ConclusionRule {
     {
         match self {
             ArgumentType => {
-                let (size, scalar) = vector_size_and_scalar(first)?;
+                let (size, scalar) = first.vector_size_and_scalar()?;
                 Some(of_components(size, scalar))
             }
             ScalarOfArgument => Some(TypeInner::Scalar(first.scalar()?)),

@@ -13,7 +13,6 @@ use naga_ir::handle::Handle;
 use naga_ir::tags::{ExpressionTag, FunctionTag, TypeTag};
 use naga_operands::context::{FunctionContext, every_stage};
 use naga_operands::error::ExpressionError;
-use naga_operands::type_methods::vector_size_and_scalar;
 use naga_types::compose::validate_compose_at;
 use naga_typing::context::to_ctx;
 
@@ -88,7 +87,7 @@ pub fn validate_splat(
     requires value { value < length context.info.now.types }
     ensures { result ≡ rule.splat_rule (surroundings context.entry) value }
 {
-    match vector_size_and_scalar(context.type_of(value)) {
+    match context.type_of(value).vector_size_and_scalar() {
         Some((None, _)) => Ok(every_stage()),
         Some((Some(_), _)) | None => Err(ExpressionError::InvalidSplatType(value)),
     }

@@ -3,6 +3,8 @@ use Rattle.naga_flags.specs.declared.flags.ShaderStages.{ShaderStages}
 use Rattle.naga_ir.specs.declared.expression.Expression.{Expression}
 use Rattle.naga_exprs.specs.ExpressionRule.{IsExpressionResult, IsMeant}
 use Rattle.naga_operands.specs.declared.error.ExpressionError.{ExpressionError}
+use Rattle.naga_image_exprs.specs.Samples.{IsImageSampleReturned, expression_of}
+use Rattle.naga_image_exprs.specs.declared.sample.Sample.{Sample}
 use Rattle.naga_exprs.proofs.Known.{components_typed, composed_type, condition_of_select, index_of_access, left_of_multiply_add, of_array_length, of_cooperative_load, of_intersection, of_load, of_vertices, reject_of_select, right_of_multiply_add, summand_of_multiply_add, there, typed, workgroup_load_type, zero_type}
 use Rattle.naga_exprs.proofs.expression.validate_form.Goals as goal
 use Rattle.naga_ir.specs.declared.expression.Expression.TheVariants as form
@@ -111,6 +113,10 @@ module _ (t : MathTyping) (s : ExpressionSurroundings) (x : Expression) (result 
   every_stage_meant (inr (inr (inr (inr (inl (ty, comparison, e)))))) h = of_form _ e h
   every_stage_meant (inr (inr (inr (inr (inr e))))) h = of_form _ e h
 
+  -- what is returned for a sample is returned for its expression
+  as_sampled : (sample : Sample) → x ≡ expression_of sample → IsImageSampleReturned s sample result → IsExpressionResult t s x result
+  as_sampled sample is (meant, means, returned) = (meant, subst (λ x. IsMeant t s x meant) (sym is) means, returned)
+
   -- the stages that may use subgroups may use the results of their operations
   subgroup_meant : (x ≡ form.SubgroupBallotResult) ⊎ ((ty : ℕ) × (x ≡ form.SubgroupOperationResult ty)) → result ≡ Ok s.subgroup_stages → IsMeant t s x result
   subgroup_meant (inl e) h = of_form _ e h
@@ -122,6 +128,11 @@ returns-in-CallResult g c =
     let s = surroundings c.args.context in
     let result : Result ShaderStages ExpressionError = Ok c.validate_call_result.result in
     as_meant t s c.args.expression.now result (of_form t s c.args.expression.now result _ c.in-CallResult.is (ap Ok c.validate_call_result.ensures))
+
+pub returns-in-ImageSample : goal.returns-in-ImageSample
+returns-in-ImageSample g c =
+    let t : MathTyping = record { accepts = g.T.Typing.accepts_types c.args.typing.now; least_arguments = g.T.Typing.least_arguments c.args.typing.now } in
+    as_sampled t (surroundings c.args.context) c.args.expression.now c.validate_image_sample.result _ c.in-ImageSample.is c.validate_image_sample.ensures
 
 pub returns-in-Constant : goal.returns-in-Constant
 returns-in-Constant g c =
