@@ -16,8 +16,7 @@ mod samples;
 mod values;
 
 use bitflags::Flags;
-use naga_exprs::expression::validate_expression;
-use naga_exprs::{ExprContext, ExpressionError, FunctionInfo, ModuleInfo};
+use naga_exprs::{ExpressionError, FunctionInfo, ModuleInfo};
 use naga_flags::flags::{Capabilities, ShaderStages, TypeFlags};
 use naga_handles::handles::validate_module_handles;
 use naga_ir::expression::Expression;
@@ -28,8 +27,8 @@ use naga_ir::types::{ArraySize, TypeInner};
 use naga_ir::unique_arena::UniqueArena;
 use naga_text::text::read_text;
 use naga_typing::expression_kind::ExpressionKindTracker;
-use naga_typing::plain_typing::PlainTyping;
 use naga_typing::typifier::TypeResolution;
+use naga_valid::{ValidationFlags, Validator};
 use operands::{ITEMS, add_function, types_of};
 use std::alloc::Global;
 use std::fmt::Debug;
@@ -155,7 +154,8 @@ type Said = Result<Result<ShaderStages, ExpressionError>, OutOfMemory>;
 /// What is said of the last expression of a module's second function.
 fn judge(
     rt: &(impl AllocGlobal + Abort),
-    ctx: ExprContext<'_, PlainTyping>,
+    validator: &Validator,
+    overrides_resolved: bool,
     module: &Module,
     types: &FunctionInfo,
     info: &ModuleInfo,
@@ -175,9 +175,8 @@ fn judge(
     assert!(rt; all_exist(types.types.as_slice(), module));
     assert!(rt; count - 1 <= types.types.len());
     let kinds = kinds_of(rt.alloc(), module, function)?;
-    Ok(validate_expression(
-        rt.alloc(),
-        ctx,
+    Ok(validator.validate_expression(
+        overrides_resolved,
         root,
         expression,
         function,
@@ -188,41 +187,40 @@ fn judge(
     ))
 }
 
+/// What expressions are judged by.
+#[derive(Clone, Copy)]
+struct Settings {
+    capabilities: Capabilities,
+    overrides_resolved: bool,
+}
+
 /// What is said of an expression among the operands, which are added to a module of their types.
 fn said_in(
     rt: &(impl AllocGlobal + Abort),
-    ctx: ExprContext<'_, PlainTyping>,
+    settings: Settings,
     module: &mut Module,
     expression: Expression,
 ) -> Said {
     add_function(rt, rt.alloc(), module, expression)?;
     let types = types_of(rt.alloc())?;
     let info = known(rt.alloc(), &module.types)?;
-    judge(rt, ctx, module, &types, &info)
+    let flags = ValidationFlags::default();
+    let validator = Validator::new(rt.alloc(), flags, settings.capabilities);
+    judge(
+        rt,
+        &validator,
+        settings.overrides_resolved,
+        module,
+        &types,
+        &info,
+    )
 }
 
 /// What is said of an expression among the operands.
-fn said_of(
-    rt: &(impl AllocGlobal + Abort),
-    ctx: ExprContext<'_, PlainTyping>,
-    expression: Expression,
-) -> Said {
+fn said_of(rt: &(impl AllocGlobal + Abort), settings: Settings, expression: Expression) -> Said {
     match read_text(rt.alloc(), ITEMS.as_bytes()) {
-        Ok(mut contents) => said_in(rt, ctx, &mut contents.module, expression),
+        Ok(mut contents) => said_in(rt, settings, &mut contents.module, expression),
         Err(_) => Err(OutOfMemory),
-    }
-}
-
-/// What expressions are judged by.
-fn context(
-    capabilities: Capabilities,
-    overrides_resolved: bool,
-) -> ExprContext<'static, PlainTyping> {
-    ExprContext {
-        capabilities,
-        overrides_resolved,
-        subgroup_stages: ShaderStages::COMPUTE_LIKE,
-        typing: &PlainTyping,
     }
 }
 
@@ -234,12 +232,12 @@ fn accepted() -> Result<ShaderStages, ExpressionError> {
 /// Makes sure of what is said of an expression, by what it is judged by.
 fn assert_said_in(
     rt: &(impl AllocGlobal + Abort),
-    ctx: ExprContext<'_, PlainTyping>,
+    settings: Settings,
     expression: Expression,
     want: &Result<ShaderStages, ExpressionError>,
 ) {
     let shown = format!(in rt.alloc(); "{expression:?}").expect(rt, "memory");
-    let said = said_of(rt, ctx, expression).expect(rt, "memory");
+    let said = said_of(rt, settings, expression).expect(rt, "memory");
     assert_same_for(rt, &shown, &said, want);
 }
 
@@ -250,7 +248,11 @@ fn assert_said_under(
     expression: Expression,
     want: &Result<ShaderStages, ExpressionError>,
 ) {
-    assert_said_in(rt, context(capabilities, false), expression, want);
+    let settings = Settings {
+        capabilities,
+        overrides_resolved: false,
+    };
+    assert_said_in(rt, settings, expression, want);
 }
 
 /// Makes sure of what is said of an expression with what shaders may use by default.
@@ -268,5 +270,9 @@ fn assert_said_resolved(
     expression: Expression,
     want: &Result<ShaderStages, ExpressionError>,
 ) {
-    assert_said_in(rt, context(Capabilities::default(), true), expression, want);
+    let settings = Settings {
+        capabilities: Capabilities::default(),
+        overrides_resolved: true,
+    };
+    assert_said_in(rt, settings, expression, want);
 }

@@ -13,6 +13,7 @@ mod forms;
 mod infos;
 mod kinds;
 mod layouts;
+mod math;
 mod pending;
 mod refused_memory;
 mod sizes;

@@ -6,17 +6,26 @@
 //! passes too.
 
 use super::operands::{ARRAY, BOOL, F32, IMAGE, SAMPLER, STRUCT, THREE, VEC2, at};
-use super::{accepted, context, said_of};
+use super::{Said, Settings, accepted, said_of};
 use naga_exprs::ExpressionError as Error;
 use naga_flags::flags::{Capabilities, ShaderStages};
 use naga_ir::expression::{BinaryOperator, Expression, SampleLevel};
 use naga_ir::handle::Handle;
 use std::process::Abort;
 
+/// What is said of an expression with what shaders may use by default.
+fn said(rt: &(impl AllocGlobal + Abort), expression: Expression) -> Said {
+    let settings = Settings {
+        capabilities: Capabilities::default(),
+        overrides_resolved: false,
+    };
+    said_of(rt, settings, expression)
+}
+
 /// Whether memory was refused while an expression was judged that is accepted. To judge it takes none, so
 /// only what comes before may be refused.
 fn is_refused_if_accepted(rt: &(impl AllocGlobal + Abort), expression: Expression) -> bool {
-    match said_of(rt, context(Capabilities::default(), false), expression) {
+    match said(rt, expression) {
         Ok(said) => {
             assert!(rt; said == accepted());
             false
@@ -27,7 +36,7 @@ fn is_refused_if_accepted(rt: &(impl AllocGlobal + Abort), expression: Expressio
 
 /// Whether memory was refused while an expression was judged that is refused with a copy or a text.
 fn is_refused_if_not(rt: &(impl AllocGlobal + Abort), expression: Expression) -> bool {
-    match said_of(rt, context(Capabilities::default(), false), expression) {
+    match said(rt, expression) {
         Ok(said) => {
             assert!(rt; said != Ok(ShaderStages::FRAGMENT) && said != accepted());
             said == Err(Error::OutOfMemory)

@@ -4,6 +4,7 @@ use super::operands::{
     ARRAY, ATOMIC, BOOL, DYNAMIC, F32, I32, MAT2X3, STRUCT, TYPES, U32, VEC2, VEC3, at, pair,
 };
 use super::{accepted, assert_said, assert_said_under};
+use bitflags::Flags;
 use naga_exprs::{ExpressionError as Error, LiteralError};
 use naga_flags::flags::{Capabilities, ShaderStages};
 use naga_flags::width::WidthError;
@@ -110,9 +111,6 @@ fn a_result_may_be_used_by_some_stages(rt: HostRuntime) {
         ty: Handle::new(U32),
         comparison: false,
     };
-    let subgroup = Expression::SubgroupOperationResult {
-        ty: Handle::new(U32),
-    };
     for (expression, want) in [
         (
             Expression::CallResult(Handle::new(0)),
@@ -129,12 +127,26 @@ fn a_result_may_be_used_by_some_stages(rt: HostRuntime) {
             workgroup_load(DYNAMIC),
             Err(Error::InvalidWorkGroupUniformLoadResultType(Handle::new(DYNAMIC))),
         ),
-        (
-            Expression::SubgroupBallotResult,
-            Ok(ShaderStages::COMPUTE_LIKE),
-        ),
-        (subgroup, Ok(ShaderStages::COMPUTE_LIKE)),
     ] {
         assert_said(&rt, expression, &want);
+    }
+}
+
+#[test]
+fn a_result_of_a_subgroup_may_be_used_where_subgroups_may(rt: HostRuntime) {
+    let both = Capabilities::SUBGROUP.union(Capabilities::SUBGROUP_VERTEX_STAGE);
+    let fragments = ShaderStages::FRAGMENT.union(ShaderStages::COMPUTE_LIKE);
+    for (capabilities, stages) in [
+        (Capabilities::SUBGROUP, fragments),
+        (Capabilities::SUBGROUP_VERTEX_STAGE, ShaderStages::VERTEX),
+        (both, fragments.union(ShaderStages::VERTEX)),
+        (Capabilities::empty(), ShaderStages::empty()),
+    ] {
+        let operation = Expression::SubgroupOperationResult {
+            ty: Handle::new(U32),
+        };
+        for expression in [Expression::SubgroupBallotResult, operation] {
+            assert_said_under(&rt, capabilities, expression, &Ok(stages));
+        }
     }
 }

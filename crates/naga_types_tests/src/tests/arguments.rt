@@ -54,6 +54,7 @@ fn arguments_are_checked_from_the_first(rt: HostRuntime) {
         let checked = check_arguments(&VariableTyping, MathFunction::Max, types);
         assert_same(&rt, &checked, &want);
     }
-    let checked = check_arguments(&PlainTyping, MathFunction::Abs, &[&float]);
+    let truth = TypeInner::Scalar(Scalar::BOOL);
+    let checked = check_arguments(&PlainTyping, MathFunction::Abs, &[&truth]);
     assert_same(&rt, &checked, &Err(ArgumentError::WrongType(0)));
 }
