@@ -152,23 +152,24 @@ fn no_property(multi: bool) -> Result<ShaderStages, Error> {
     }))
 }
 
+/// The size of a level.
+fn size_of(level: u32) -> ImageQuery {
+    ImageQuery::Size {
+        level: Some(at(level)),
+    }
+}
+
 #[test]
 fn an_image_has_what_is_asked_for(rt: HostRuntime) {
-    let level = ImageQuery::Size {
-        level: Some(at(U32)),
-    };
-    let long_level = ImageQuery::Size {
-        level: Some(at(U64)),
-    };
     for (image, query, want) in [
         (IMAGE, ImageQuery::Size { level: None }, accepted()),
-        (IMAGE, level, accepted()),
+        (IMAGE, size_of(U32), accepted()),
         (
             IMAGE,
-            long_level,
+            size_of(U64),
             Err(Error::InvalidImageOtherIndexType(at(U64))),
         ),
-        (SAMPLES, level, no_property(true)),
+        (SAMPLES, size_of(U32), no_property(true)),
         (IMAGE, ImageQuery::NumLevels, accepted()),
         (SAMPLES, ImageQuery::NumLevels, no_property(true)),
         (LAYERS, ImageQuery::NumLayers, accepted()),

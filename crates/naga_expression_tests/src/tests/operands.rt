@@ -372,6 +372,7 @@ pub(super) fn add_function(
         ty: Handle::new(F32),
         init: None,
     };
+    assert!(rt; function.local_variables.is_empty());
     function.local_variables.append(local, Span::default())?;
     assert!(rt; module.functions.is_empty());
     module

@@ -25,7 +25,7 @@ fn splat(value: u32) -> Expression {
 /// The value that one invocation loads for its workgroup.
 fn workgroup_load(ty: u32) -> Expression {
     Expression::WorkGroupUniformLoadResult {
-        ty: Handle::new(ty),
+        ty: Handle::new(ty % 100),
     }
 }
 

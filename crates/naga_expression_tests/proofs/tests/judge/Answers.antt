@@ -10,8 +10,8 @@ kinds_of-requires g c =
     let two : 1 < length c.args.«module».now.functions = search rules in
     function_ok c.args.«module».now c.index-function.result.now 1 two (search rules) c.assert_accepted.ensures
 
-pub validate_expression-requires-clause-can_judge : goal.validate_expression-requires-clause-can_judge
-validate_expression-requires-clause-can_judge g c =
+pub validate_expression-requires : goal.validate_expression-requires
+validate_expression-requires g c =
     let m = c.args.«module».now in
     let f = c.index-function.result.now in
     let s : ExpressionSurroundings = record {
