@@ -22,12 +22,12 @@ validate_expression-requires g c =
       function = f;
       types = c.args.types.now.types;
       infos = c.args.info.now.lists;
-      kinds = c.expect-kinds.result;
+      kinds = c.in_ok-kinds.kinds;
     } in
     let two : 1 < length m.functions = search rules in
     let types : All (ResolutionExists (global_lists m)) c.args.types.now.types = search rules in
     let typed : c.new-root.result ≤ length c.args.types.now.types = search rules in
-    let kinds : c.new-root.result ≤ length c.expect-kinds.result = search rules in
+    let kinds : c.new-root.result ≤ length c.in_ok-kinds.kinds = search rules in
     let arguments : ArgumentsExist s c.new-root.result = search rules in
     let called : ResultIsKnown s c.index-expression.result.now = search rules in
-    can_judge s c.new-root.result c.index-expression.result.now c.assert_accepted.ensures (function_ok m f 1 two (search rules) c.assert_accepted.ensures) (search rules) types c.requires.flags typed kinds arguments called
+    record { can_judge = can_judge s c.new-root.result c.index-expression.result.now c.assert_accepted.ensures (function_ok m f 1 two (search rules) c.assert_accepted.ensures) (search rules) types c.requires.flags typed kinds arguments called }
