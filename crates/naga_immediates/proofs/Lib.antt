@@ -1,0 +1,3 @@
+pub mod SlotBits
+pub mod SlotParts
+pub mod SlotSets

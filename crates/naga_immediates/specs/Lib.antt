@@ -1,0 +1,5 @@
+-- To read first:
+-- Slots.HasSlot, UsesSlot: which slots a set has, and which a type uses by the parts that its members lead to
+-- Slots.Reaches, immediate_size: what a pointer reaches, and the size of a module's immediate data
+pub mod Slots
+pub mod steps

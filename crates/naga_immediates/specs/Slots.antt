@@ -1,0 +1,120 @@
+-- Slots of immediate data, which a set of slots tells apart: four bytes each, from byte 4k on.
+use Rattle.std.specs.Prelude.{◌≡◌, ◌+◌, ◌-◌, ◌*◌, ◌/◌, ◌^◌, ◌<◌, ◌≤◌, ◌==◌, ◌↔◌, ℕ, List, Option, Some, None, Bool, true, false, Contains, bit_and, length, min, option_and_then, option_map, slice_get, unwrap_or, if◌then◌else◌}
+use Rattle.std.specs.Int.{bit_at, bit_not, w64}
+use Rattle.std.specs.List.{find}
+use Rattle.naga_immediates.specs.declared.immediates.ImmediateSlots.{ImmediateSlots}
+use Rattle.naga_ir.specs.ItemReferences.{GlobalLists}
+use Rattle.naga_ir.specs.declared.expression.Expression.{Expression}
+use Rattle.naga_ir.specs.declared.expression.Expression.TheVariants.{AccessIndex, GlobalVariable}
+use Rattle.naga_ir.specs.declared.ir.GlobalVariable.{GlobalVariable as Variable}
+use Rattle.naga_ir_types.specs.TypeWords.{IsNoStruct}
+use Rattle.naga_ir_types.specs.declared.types.«Type».{«Type»}
+use Rattle.naga_ir_types.specs.declared.types.AddressSpace.{AddressSpace}
+use Rattle.naga_ir_types.specs.declared.types.AddressSpace.TheVariants as space
+use Rattle.naga_ir_types.specs.declared.types.StructMember.{StructMember}
+use Rattle.naga_ir_types.specs.declared.types.TypeInner.{TypeInner}
+use Rattle.naga_ir_types.specs.declared.types.TypeInner.TheVariants.{Struct}
+use Rattle.naga_typing.specs.Context.{lists_of}
+use Rattle.naga_typing.specs.Layout.{size_of}
+use Rattle.naga_typing.specs.Leaves.{inner_at, size_at_index}
+use Rattle.naga_typing.specs.declared.context.GlobalCtx.{GlobalCtx}
+
+-- the lists of a context, with these types in place of its own
+abbrev pub lists_with : List «Type» → GlobalCtx → GlobalLists
+lists_with types gctx = record (lists_of gctx) { types = types }
+
+-- how many slots there are: the 256 bytes of immediate data are four each
+abbrev pub slot_count : ℕ
+slot_count = 64
+
+-- a slot is in a set
+abbrev pub HasSlot : ImmediateSlots → ℕ → Type 0
+HasSlot slots k = bit_at slots.0 k ≡ 1
+
+-- `size` bytes from `first` on share a byte with a slot, which has the bytes 4k to 4k + 3
+abbrev pub SharesByte : (first size k : ℕ) → Type 0
+SharesByte first size k = (byte : ℕ) × (first ≤ byte) × (byte < first + size) × (4 * k ≤ byte) × (byte < 4 * k + 4)
+
+-- a set has exactly the slots of which this holds
+abbrev pub AreExactly : (ℕ → Type 0) → ImmediateSlots → Type 0
+AreExactly P slots = (k : ℕ) → HasSlot slots k ↔ ((k < slot_count) × P k)
+
+-- a part of a value that is no struct, reached through members of structs alone: its form and its first byte, if the value begins at byte `at`
+pub data HasPart (g : GlobalLists) : TypeInner → ℕ → TypeInner → ℕ → Type 0 where
+  itself : (inner : TypeInner) (at : ℕ) → IsNoStruct inner → HasPart g inner at inner at
+  in_member : (members : List StructMember) (span at : ℕ) (m : StructMember) (inner part : TypeInner) (first : ℕ) → Contains members m → inner_at g m.ty ≡ Some inner → HasPart g inner (at + m.offset) part first → HasPart g (Struct members span) at part first
+
+-- a value that begins at byte `at` uses a slot: a part of it shares a byte with the slot
+pub record UsesSlot (g : GlobalLists) (inner : TypeInner) (at k : ℕ) : Type 0 where
+  pub part : TypeInner
+  pub first : ℕ
+  pub is_part : HasPart g inner at part first
+  pub shares : SharesByte first (size_of g part) k
+
+-- a pointer accesses this member of a variable of a form by the member's index
+pub record AccessesMember (xs : List Expression) (whole : TypeInner) (pointer : ℕ) (m : StructMember) : Type 0 where
+  pub base : ℕ
+  pub index : ℕ
+  pub variable : ℕ
+  pub members : List StructMember
+  pub span : ℕ
+  pub accesses : slice_get xs pointer ≡ Some (AccessIndex base index)
+  pub names : slice_get xs base ≡ Some (GlobalVariable variable)
+  pub is_struct : whole ≡ Struct members span
+  pub is_member : slice_get members index ≡ Some m
+
+-- it accesses no member so
+abbrev pub AccessesNone : List Expression → TypeInner → ℕ → Type 0
+AccessesNone xs whole pointer = (m : StructMember) → ¬ (AccessesMember xs whole pointer m)
+
+-- if a pointer accesses a member of a known index, its base exists
+abbrev pub BaseExists : List Expression → ℕ → Type 0
+BaseExists xs pointer = (base index : ℕ) → slice_get xs pointer ≡ Some (AccessIndex base index) → base < length xs
+
+-- what a pointer into a variable of a form reaches, as far as its slots are told apart: a value of a form, and its first byte
+pub data Reaches (g : GlobalLists) (xs : List Expression) (whole : TypeInner) (pointer : ℕ) : TypeInner → ℕ → Type 0 where
+  member : (m : StructMember) (inner : TypeInner) → AccessesMember xs whole pointer m → inner_at g m.ty ≡ Some inner → Reaches g xs whole pointer inner m.offset
+  all : AccessesNone xs whole pointer → Reaches g xs whole pointer whole 0
+
+-- the type of a variable exists
+abbrev pub IsTyped : GlobalLists → Option Variable → Type 0
+IsTyped g None = ⊥
+IsTyped g (Some v) = v.ty < length g.types
+
+-- the form of a variable
+abbrev pub form_of_variable : GlobalLists → Option Variable → Option TypeInner
+form_of_variable g variable = option_and_then (λ (v : Variable). inner_at g v.ty) variable
+
+-- a set has exactly the slots of what a pointer into a variable reaches
+pub record AreSlotsReached (g : GlobalLists) (xs : List Expression) (variable : Option Variable) (pointer : ℕ) (slots : ImmediateSlots) : Type 0 where
+  pub whole : TypeInner
+  pub inner : TypeInner
+  pub first : ℕ
+  pub is_whole : form_of_variable g variable ≡ Some whole
+  pub reached : Reaches g xs whole pointer inner first
+  pub exactly : AreExactly (UsesSlot g inner first) slots
+
+-- the slots of one set that aren't in another
+abbrev pub without : ℕ → ℕ → ℕ
+without slots others = bit_and slots (bit_not w64 others)
+
+-- the slots of `size` bytes from `first` on: from that of the first byte to that of the last
+abbrev pub slots_of_range : (first size : ℕ) → ℕ
+slots_of_range first size = if size == 0 then 0 else 2 ^ min slot_count ((first + size + 3) / 4) - 2 ^ min slot_count (first / 4)
+
+-- variables in a space hold immediate data
+abbrev pub is_immediate : AddressSpace → Bool
+is_immediate space.Function = false
+is_immediate space.Private = false
+is_immediate space.WorkGroup = false
+is_immediate space.Uniform = false
+is_immediate (space.Storage access) = false
+is_immediate space.Handle = false
+is_immediate space.Immediate = true
+is_immediate space.TaskPayload = false
+is_immediate space.RayPayload = false
+is_immediate space.IncomingRayPayload = false
+
+-- the size of the first variable that holds immediate data, and 0 if there is none
+abbrev pub immediate_size : GlobalLists → List Variable → ℕ
+immediate_size g variables = unwrap_or (option_map (λ (v : Variable). size_at_index g v.ty) (find (λ (v : Variable). is_immediate v.space) variables)) 0

@@ -1,0 +1,28 @@
+-- What the steps of `from_type` promise.
+use Rattle.std.specs.Prelude.{◌≡◌, ◌<◌, ◌⊎◌, ℕ, Option, Some, None, ltb, slice_get, if◌then◌else◌}
+use Rattle.naga_immediates.specs.Slots.{HasSlot, UsesSlot, slot_count}
+use Rattle.naga_immediates.specs.declared.immediates.ImmediateSlots.{ImmediateSlots}
+use Rattle.naga_immediates.specs.declared.immediates.Walk.{Walk}
+use Rattle.naga_ir.specs.ItemReferences.{GlobalLists}
+use Rattle.naga_ir_types.specs.declared.types.TypeInner.{TypeInner}
+use Rattle.naga_typing.specs.Leaves.{inner_at}
+
+-- a byte of immediate data, if there is one of this number
+abbrev pub byte_of : ℕ → Option ℕ
+byte_of n = if ltb n 256 then Some n else None
+
+-- a value of the type of an index uses a slot if it begins at byte `at`
+pub record TypeUses (g : GlobalLists) (t at k : ℕ) : Type 0 where
+  pub inner : TypeInner
+  pub is_its : inner_at g t ≡ Some inner
+  pub uses : UsesSlot g inner at k
+
+-- a set has gained exactly the slots that a type uses from a byte on
+pub record Gains (g : GlobalLists) (t at : ℕ) (old new : ImmediateSlots) : Type 0 where
+  pub kept : (k : ℕ) → HasSlot old k → HasSlot new k
+  pub gained : (k : ℕ) → k < slot_count → TypeUses g t at k → HasSlot new k
+  pub only : (k : ℕ) → HasSlot new k → HasSlot old k ⊎ ((k < slot_count) × TypeUses g t at k)
+
+-- a walk has found all slots of the types that it has noted
+abbrev pub KnowsNoted : GlobalLists → Walk → Type 0
+KnowsNoted g walk = (byte t k : ℕ) → slice_get walk.last byte ≡ Some (Some t) → k < slot_count → TypeUses g t byte k → HasSlot walk.slots k

@@ -1,0 +1,288 @@
+//! Which of the immediate data of a pipeline a shader uses, in slots of four bytes.
+
+ghost use Rattle.std.specs.Prelude.{◌≡◌, ℕ, ◌+◌, ◌-◌, ◌^◌, ◌<◌, ◌==◌, ◌↔◌, All, IsOk, IsTrue, MatchOption, None, Some, length, min, replicate, slice_get};
+ghost use Rattle.naga_immediates.specs.Slots as spec;
+ghost use Rattle.naga_immediates.specs.Slots.{AccessesMember, AreExactly, HasSlot, SharesByte, UsesSlot, immediate_size, lists_with, slots_of_range, without};
+ghost use Rattle.naga_immediates.specs.steps.SlotWalk.{Gains, KnowsNoted, byte_of};
+ghost use Rattle.naga_ir.specs.Handles.{GlobalReferencesOk, HandlesAccepted};
+ghost use Rattle.naga_ir.specs.ItemReferences.{global_lists};
+ghost use Rattle.naga_ir_types.specs.declared.types.«Type».{«Type»};
+ghost use Rattle.naga_typing.specs.Context.{ReferencesExist, lists_of};
+ghost use Rattle.naga_typing.specs.Layout.{layout_results, size_of};
+
+use naga_ir::arena::Arena;
+use naga_ir::expression::Expression;
+use naga_ir::handle::Handle;
+use naga_ir::ir::{GlobalVariable, Module};
+use naga_ir::tags::{ExpressionTag, GlobalVariableTag, TypeTag};
+use naga_ir::types::{AddressSpace, StructMember, TypeInner};
+use naga_ir::unique_arena::UniqueArena;
+use naga_typing::context::{GlobalCtx, to_ctx};
+use naga_typing::type_methods::{size, try_size};
+use std::ops::{BitOr, BitOrAssign};
+
+/// How many slots there are.
+const SLOT_COUNT: u32 = 64;
+
+/// A set of slots of the immediate data of a pipeline: naga's `ImmediateSlots`. The 256 bytes of
+/// immediate data are 64 slots, of which slot `k` has the bytes `4 * k` to `4 * k + 3`.
+///
+/// No call takes memory.
+#[derive(Clone, Copy, Debug, PartialEq, Eq)]
+pub struct ImmediateSlots(u64);
+
+impl ImmediateSlots {
+    /// The slots whose bits are 1: slot `k` is in the set if bit `k` of `raw` is.
+    pub fn from_raw(raw: u64) -> ImmediateSlots
+        ensures { result ≡ record { 0 = raw } }
+    {
+        ImmediateSlots(raw)
+    }
+
+    /// The slots of which `size_bytes` bytes from `offset` on have a byte. If there are no bytes, that
+    /// is none. Bytes from 256 on are in no slot; sums are whole numbers.
+    pub fn from_range(offset: u32, size_bytes: u32) -> ImmediateSlots
+        ensures slots { AreExactly (SharesByte offset size_bytes) result }
+        ensures bits { result.0 ≡ slots_of_range offset size_bytes }
+    {
+        if size_bytes == 0 {
+            return ImmediateSlots(0);
+        }
+        let end = u64::from(offset) + u64::from(size_bytes);
+        ImmediateSlots(below((end + 3) / 4) - below(u64::from(offset) / 4))
+    }
+
+    /// The slots that a value of the form `ty` uses if it begins at byte `offset`: those of which a
+    /// part of it has a byte. A struct has the parts of its members, at their offsets, and what is
+    /// between them is used by none; any other value is one part, of as many bytes as its size. Bytes
+    /// from 256 on are in no slot.
+    ///
+    /// `types` stands for the types of `gctx`.
+    ///
+    /// The cost is linear in the members of structs, each counted once for each way by which it is
+    /// reached, but a struct type that was the last to be walked through from a byte isn't walked through
+    /// from there again. So a chain of structs of two members of the struct before is linear, and a chain of
+    /// pairs of structs, each with both structs of the pair before at the same byte, takes time that doubles
+    /// with each pair. It calls itself as deep as structs are nested.
+    pub fn from_type(
+        ty: &TypeInner,
+        offset: u32,
+        types: &UniqueArena,
+        gctx: GlobalCtx<'_>,
+    ) -> ImmediateSlots
+        requires exist { ReferencesExist (lists_with types.now gctx) ty.now }
+        requires references { GlobalReferencesOk (lists_with types.now gctx) }
+        ensures { AreExactly (UsesSlot (lists_with types.now gctx.entry) ty.now offset) result }
+    {
+        let gctx = GlobalCtx { types, ..gctx };
+        let TypeInner::Struct { members, .. } = ty else {
+            return slots_of_part(ty, offset, gctx);
+        };
+        let mut walk = Walk::new();
+        for member in members.as_slice() {
+            if let Some(byte) = member_byte(offset, member) {
+                walk.add(member.ty, byte, gctx);
+            }
+        }
+        walk.slots
+    }
+
+    /// Whether all slots of `other` are in this set.
+    pub fn contains(self, other: ImmediateSlots) -> bool
+        ensures slots { IsTrue result ↔ ((k : ℕ) → HasSlot other k → HasSlot self k) }
+        ensures difference { result ≡ (without other.0 self.0 == 0) }
+    {
+        other.0 & !self.0 == 0
+    }
+
+    /// The slots of this set that aren't in `other`.
+    pub fn difference(self, other: ImmediateSlots) -> ImmediateSlots
+        ensures slots { (k : ℕ) → HasSlot result k ↔ (HasSlot self k × ¬ (HasSlot other k)) }
+        ensures bits { result ≡ record { 0 = without self.0 other.0 } }
+    {
+        ImmediateSlots(self.0 & !other.0)
+    }
+
+    /// The size of the immediate data of a module, in bytes: that of the type of the first global
+    /// variable in the address space `Immediate`, or 0 if there is none.
+    pub fn size_for_module(module: &Module) -> u32
+        requires handles { HandlesAccepted «module».now }
+        requires laid_out { All IsOk (layout_results (global_lists «module».now)) }
+        ensures { result ≡ immediate_size (global_lists «module».now) «module».now.global_variables }
+    {
+        let gctx = to_ctx(module);
+        for variable in module.global_variables.as_slice() {
+            if let AddressSpace::Immediate = variable.space {
+                return size(&gctx.types[variable.ty].inner, gctx);
+            }
+        }
+        0
+    }
+
+    /// The slots that may be used through a pointer to the global variable `global` of immediate data,
+    /// or to a part of it: those of a member if `pointer` accesses the member by its index in the
+    /// variable itself, and else all slots of the variable.
+    pub fn for_pointer(
+        pointer: Handle<ExpressionTag>,
+        global: Handle<GlobalVariableTag>,
+        expressions: &Arena<Expression, ExpressionTag>,
+        global_vars: &Arena<GlobalVariable, GlobalVariableTag>,
+        gctx: GlobalCtx<'_>,
+    ) -> ImmediateSlots
+        requires pointer { pointer < length expressions.now }
+        requires operands { spec.BaseExists expressions.now pointer }
+        requires global { global < length global_vars.now }
+        requires typed { spec.IsTyped (lists_of gctx) (slice_get global_vars.now global) }
+        requires references { GlobalReferencesOk (lists_of gctx) }
+        ensures { spec.AreSlotsReached (lists_of gctx.entry) expressions.now (slice_get global_vars.now global) pointer result }
+    {
+        let whole = &gctx.types[global_vars[global].ty].inner;
+        match accessed_member(pointer, expressions, whole) {
+            Some(member) => {
+                let inner = &gctx.types[member.ty].inner;
+                ImmediateSlots::from_type(inner, member.offset, gctx.types, gctx)
+            }
+            None => ImmediateSlots::from_type(whole, 0, gctx.types, gctx),
+        }
+    }
+}
+
+/// The bits of the slots before a slot, of those that there are.
+fn below(slot: u64) -> u64
+    ensures { result ≡ 2 ^ min 64 slot - 1 }
+{
+    if slot < u64::from(SLOT_COUNT) {
+        (1 << slot) - 1
+    } else {
+        u64::MAX
+    }
+}
+
+/// The byte at which a member of a struct begins, if it is one of the 256 of immediate data.
+fn member_byte(offset: u32, member: &StructMember) -> Option<u8>
+    ensures { result ≡ byte_of (offset + member.now.offset) }
+{
+    u8::try_from(u64::from(offset) + u64::from(member.offset)).ok()
+}
+
+/// The slots of a value that is no struct.
+fn slots_of_part(inner: &TypeInner, offset: u32, gctx: GlobalCtx<'_>) -> ImmediateSlots
+    requires exist { ReferencesExist (lists_of gctx) inner.now }
+    requires references { GlobalReferencesOk (lists_of gctx) }
+    ensures { AreExactly (SharesByte offset (size_of (lists_of gctx.entry) inner.now)) result }
+{
+    ImmediateSlots::from_range(offset, try_size(inner, gctx).unwrap_or(u32::MAX))
+}
+
+/// The member that a pointer accesses by its index in a global variable, whose form is `whole`.
+fn accessed_member<'a>(
+    pointer: Handle<ExpressionTag>,
+    expressions: &Arena<Expression, ExpressionTag>,
+    whole: &'a TypeInner,
+) -> Option<&'a StructMember>
+    requires pointer { pointer < length expressions.now }
+    requires operands { spec.BaseExists expressions.now pointer }
+    ensures { MatchOption result (spec.AccessesNone expressions.now whole.now pointer) (λ m. AccessesMember expressions.now whole.now pointer m.now) }
+{
+    let Expression::AccessIndex { base, index } = expressions[pointer] else {
+        return None;
+    };
+    let Expression::GlobalVariable(_) = expressions[base] else {
+        return None;
+    };
+    let TypeInner::Struct { members, .. } = whole else {
+        return None;
+    };
+    members.as_slice().get(index as usize)
+}
+
+/// The slots that a walk through the members of a struct has found so far.
+#[derive(Drop)]
+struct Walk {
+    slots: ImmediateSlots,
+    /// For each byte the struct type that was the last to be walked through from there: all slots that
+    /// it uses from there are among `slots`.
+    last: [Option<Handle<TypeTag>>; 256],
+}
+
+impl Walk {
+    /// The beginning of a walk.
+    fn new() -> Walk
+        ensures slots { result.slots ≡ record { 0 = 0 } }
+        ensures last { result.last ≡ replicate 256 None }
+    {
+        Walk {
+            slots: ImmediateSlots(0),
+            last: [None; 256],
+        }
+    }
+
+    /// Whether a struct type was the last to be walked through from a byte.
+    fn has_walked(&self, ty: Handle<TypeTag>, byte: u8) -> bool
+        ensures { IsTrue result → slice_get self.now.last byte ≡ Some (Some ty) }
+    {
+        match self.last[usize::from(byte)] {
+            Some(walked) => walked == ty,
+            None => false,
+        }
+    }
+
+    /// Adds the slots that a value of a type uses if it begins at a byte.
+    fn add(&mut self, ty: Handle<TypeTag>, byte: u8, gctx: GlobalCtx<'_>)
+        requires exists { ty < length gctx.types.now }
+        requires references { GlobalReferencesOk (lists_of gctx) }
+        requires noted { KnowsNoted (lists_of gctx) self.old }
+        ensures noted { KnowsNoted (lists_of gctx.entry) self.new }
+        ensures gains { Gains (lists_of gctx.entry) ty byte self.old.slots self.new.slots }
+    {
+        let inner = &gctx.types[ty].inner;
+        let TypeInner::Struct { members, .. } = inner else {
+            self.slots |= slots_of_part(inner, u32::from(byte), gctx);
+            return;
+        };
+        if self.has_walked(ty, byte) {
+            return;
+        }
+        for member in members.as_slice() {
+            if let Some(next) = member_byte(u32::from(byte), member) {
+                self.add(member.ty, next, gctx);
+            }
+        }
+        self.last[usize::from(byte)] = Some(ty);
+    }
+}
+
+impl Default for ImmediateSlots {
+    ghost use Rattle.std.specs.Prelude.{◌≡◌};
+
+    ghost is_default = { λ slots. slots ≡ record { 0 = 0 } };
+
+    /// No slots.
+    fn default() -> ImmediateSlots {
+        ImmediateSlots(0)
+    }
+}
+
+impl BitOrAssign for ImmediateSlots {
+    ghost use Rattle.std.specs.Prelude.{◌≡◌, bit_or};
+
+    ghost bitor_assign_gives = { λ a b r. r ≡ record { 0 = bit_or a.0 b.0 } };
+
+    /// Adds the slots of another set.
+    fn bitor_assign(&mut self, rhs: ImmediateSlots) {
+        self.0 |= rhs.0;
+    }
+}
+
+impl BitOr for ImmediateSlots {
+    ghost use Rattle.std.specs.Prelude.{◌≡◌, bit_or};
+
+    type Output = ImmediateSlots;
+
+    ghost bitor_gives = { λ a b r. r ≡ record { 0 = bit_or a.0 b.0 } };
+
+    /// The slots of either set.
+    fn bitor(self, rhs: ImmediateSlots) -> ImmediateSlots {
+        ImmediateSlots(self.0 | rhs.0)
+    }
+}

@@ -1,0 +1,4 @@
+//! The slots of immediate data.
+#![tactic(auto)]
+
+pub mod immediates;

@@ -1,0 +1,5 @@
+//! The tests of `naga_immediates`.
+#![tactic(auto)]
+
+#[cfg(test)]
+mod tests;
