@@ -213,6 +213,10 @@ MISS = 2 ^ 8
 abbrev pub COMPUTE_LIKE : ℕ
 COMPUTE_LIKE = union_of (COMPUTE ∷ MESH ∷ TASK ∷ [])
 
+-- all stages of a pipeline
+abbrev pub all_stages : ℕ
+all_stages = union_of (VERTEX ∷ FRAGMENT ∷ COMPUTE ∷ MESH ∷ TASK ∷ RAY_GENERATION ∷ ANY_HIT ∷ CLOSEST_HIT ∷ MISS ∷ [])
+
 -- the groups of operations among a subgroup
 abbrev pub BASIC : ℕ
 BASIC = 2 ^ 0

@@ -3,4 +3,5 @@
 
 pub mod context;
 pub mod error;
+pub mod infer;
 pub mod module_info;

@@ -14,6 +14,7 @@ use Rattle.naga_ir.specs.declared.ir.Constant.{Constant}
 use Rattle.naga_ir.specs.declared.ir.Override.{Override}
 use Rattle.naga_ir.specs.declared.ir.Function.{Function}
 use Rattle.naga_ir.specs.declared.ir.FunctionArgument.{FunctionArgument}
+use Rattle.naga_ir.specs.declared.ir.LocalVariable.{LocalVariable}
 use Rattle.naga_ir.specs.declared.ir.DiagnosticFilterNode.{DiagnosticFilterNode}
 use Rattle.naga_ir.specs.declared.ir.Module.{Module}
 use Rattle.naga_ir.specs.declared.reference.Reference.{Reference}
@@ -158,8 +159,9 @@ pub record GlobalReferencesOk (g : GlobalLists) : Type 0 where
   pub exist : All (ExistsGlobally g) (global_references g)
   pub back : GoBack (OrderedReference g)
 
--- the types of a function's arguments exist, and so does what its expressions refer to, whose operands go back
+-- the types of a function's arguments and variables exist, and so does what its expressions refer to, whose operands go back
 pub record FunctionReferencesOk (m : Module) (f : Function) : Type 0 where
   pub arguments : All (λ (a : FunctionArgument). a.ty < length m.types) f.arguments
+  pub local_variables : All (λ (v : LocalVariable). v.ty < length m.types) f.local_variables
   pub expressions : All (Exists (function_counts m f)) (flat_map expression_references f.expressions)
   pub back : GoBack (OrderedOperands f.expressions)

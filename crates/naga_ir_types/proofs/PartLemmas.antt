@@ -2,10 +2,11 @@
 use Rattle.std.proofs.Common.{◌≡◌, ◌<◌, ℕ, List, All, Contains, length, map, get_or, refl, subst, sym, arith}
 use Rattle.std.proofs.lemmas.List.{get_or-map, length-map}
 use Rattle.naga_ir_types.specs.Parts.{parts}
+use Rattle.naga_ir_types.specs.declared.types.AddressSpace.{AddressSpace}
 use Rattle.naga_ir_types.specs.declared.types.ArraySize.{ArraySize}
 use Rattle.naga_ir_types.specs.declared.types.StructMember.{StructMember}
 use Rattle.naga_ir_types.specs.declared.types.TypeInner.{TypeInner}
-use Rattle.naga_ir_types.specs.declared.types.TypeInner.TheVariants.{Array, Struct}
+use Rattle.naga_ir_types.specs.declared.types.TypeInner.TheVariants.{Array, BindingArray, Pointer, Struct}
 
 parts_of_array : (base : ℕ) (size : ArraySize) (stride : ℕ) → Contains (parts (Array base size stride)) base
 unfolding parts
@@ -13,6 +14,14 @@ parts_of_array base size stride = (0, omega arith, refl)
 
 pub base_is : (P : ℕ → Type 0) (inner : TypeInner) (base : ℕ) (size : ArraySize) (stride : ℕ) → ((p : ℕ) → Contains (parts inner) p → P p) → inner ≡ Array base size stride → P base
 base_is P inner base size stride all e = all base (subst (λ i. Contains (parts i) base) (sym e) (parts_of_array base size stride))
+
+pub parts_of_binding_array : (base : ℕ) (size : ArraySize) → Contains (parts (BindingArray base size)) base
+unfolding parts
+parts_of_binding_array base size = (0, omega arith, refl)
+
+pub parts_of_pointer : (base : ℕ) (space : AddressSpace) → Contains (parts (Pointer base space)) base
+unfolding parts
+parts_of_pointer base space = (0, omega arith, refl)
 
 parts_of_struct : (members : List StructMember) (span : ℕ) (p : ℕ) → Contains (map (λ (m : StructMember). m.ty) members) p → Contains (parts (Struct members span)) p
 unfolding parts

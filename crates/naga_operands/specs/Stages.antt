@@ -1,11 +1,10 @@
 -- The stages of a pipeline that may use an expression.
-use Rattle.std.specs.Prelude.{[], ◌∷◌}
-use Rattle.naga_flags.specs.Bits.{ANY_HIT, CLOSEST_HIT, COMPUTE, COMPUTE_LIKE as compute_like, FRAGMENT as fragment, MESH, MISS, RAY_GENERATION, TASK, VERTEX, union_of}
+use Rattle.naga_flags.specs.Bits.{COMPUTE, COMPUTE_LIKE as compute_like, FRAGMENT as fragment, all_stages}
 use Rattle.naga_flags.specs.declared.flags.ShaderStages.{ShaderStages}
 
 -- all stages
 abbrev pub every_stage : ShaderStages
-every_stage = record { 0 = union_of (VERTEX ∷ fragment ∷ COMPUTE ∷ MESH ∷ TASK ∷ RAY_GENERATION ∷ ANY_HIT ∷ CLOSEST_HIT ∷ MISS ∷ []) }
+every_stage = record { 0 = all_stages }
 
 -- fragments alone have derivatives
 abbrev pub fragment_stage : ShaderStages

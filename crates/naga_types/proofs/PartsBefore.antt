@@ -3,19 +3,12 @@ use Rattle.std.proofs.Common.{◌≡◌, ◌<◌, ℕ, Some, Contains, slice_get
 use Rattle.naga_ir.proofs.ReferredTo.{parts_come_before}
 use Rattle.naga_ir.specs.Handles.{GlobalReferencesOk}
 use Rattle.naga_ir.specs.ItemReferences.{GlobalLists}
+use Rattle.naga_ir_types.proofs.PartLemmas.{parts_of_binding_array, parts_of_pointer}
 use Rattle.naga_ir_types.specs.Parts.{parts}
 use Rattle.naga_ir_types.specs.declared.types.«Type».{«Type»}
 use Rattle.naga_ir_types.specs.declared.types.AddressSpace.{AddressSpace}
 use Rattle.naga_ir_types.specs.declared.types.ArraySize.{ArraySize}
 use Rattle.naga_ir_types.specs.declared.types.TypeInner.TheVariants.{BindingArray, Pointer}
-
-part_of_pointer : (base : ℕ) (space : AddressSpace) → Contains (parts (Pointer base space)) base
-unfolding parts
-part_of_pointer base space = (0, omega arith, refl)
-
-part_of_binding_array : (base : ℕ) (size : ArraySize) → Contains (parts (BindingArray base size)) base
-unfolding parts
-part_of_binding_array base size = (0, omega arith, refl)
 
 module _ (g : GlobalLists) (ok : GlobalReferencesOk g) (t : ℕ) (ty : «Type») (at : slice_get g.types t ≡ Some ty) where
   pub before : (p : ℕ) → Contains (parts ty.inner) p → p < t
@@ -23,8 +16,8 @@ module _ (g : GlobalLists) (ok : GlobalReferencesOk g) (t : ℕ) (ty : «Type»)
 
   -- what a pointer leads to stands before it
   pub pointer_base_before : (base : ℕ) (space : AddressSpace) → ty.inner ≡ Pointer base space → base < t
-  pointer_base_before base space e = before base (subst (λ i. Contains (parts i) base) (sym e) (part_of_pointer base space))
+  pointer_base_before base space e = before base (subst (λ i. Contains (parts i) base) (sym e) (parts_of_pointer base space))
 
   -- and so do the elements of a binding array
   pub binding_array_base_before : (base : ℕ) (size : ArraySize) → ty.inner ≡ BindingArray base size → base < t
-  binding_array_base_before base size e = before base (subst (λ i. Contains (parts i) base) (sym e) (part_of_binding_array base size))
+  binding_array_base_before base size e = before base (subst (λ i. Contains (parts i) base) (sym e) (parts_of_binding_array base size))

@@ -10,6 +10,7 @@ mod constants;
 mod errors;
 mod flags;
 mod forms;
+mod full_typing;
 mod infos;
 mod kinds;
 mod layouts;

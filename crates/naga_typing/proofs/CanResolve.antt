@@ -2,10 +2,12 @@
 use Rattle.std.proofs.Common.{◌≡◌, ◌<◌, ℕ, suc, List, [], ◌∷◌, Option, Some, None, All, Contains, IfSome, length, map, slice_get, refl, ap, option_to_list, arith}
 use Rattle.std.specs.List.{flat_map}
 use Rattle.std.proofs.lemmas.List.Elements.{All-append, All-contains, All-cons, All-nil}
-use Rattle.naga_arena.proofs.Elements.{all-left, all-of, all-right, all-unmap}
+use Rattle.std.specs.Option.{option_and_then}
+use Rattle.naga_arena.proofs.Elements.{all-left, all-of, all-right, all-unmap, all_at}
+use Rattle.naga_ir.proofs.Handles.{global_references_ok}
 use Rattle.naga_ir.proofs.ReferredTo.{item_in, within_all}
 use Rattle.naga_ir.specs.Handles.{Exists, FunctionReferencesOk, HandlesAccepted, among_globals, module_counts, operand, own_operand}
-use Rattle.naga_ir.specs.ItemReferences.{constant_references, expression_references, named_references, override_references, type_references}
+use Rattle.naga_ir.specs.ItemReferences.{constant_references, expression_references, global_lists, named_references, override_references, type_references}
 use Rattle.naga_ir.specs.References.{named_item, named_type, operands}
 use Rattle.naga_ir.specs.declared.expression.Expression.{Expression}
 use Rattle.naga_ir.specs.declared.expression.Expression.TheVariants as expression
@@ -14,6 +16,9 @@ use Rattle.naga_ir.specs.declared.ir.Module.{Module}
 use Rattle.naga_ir.specs.declared.reference.Reference.{Reference}
 use Rattle.naga_ir.specs.declared.reference.Reference.TheVariants as to
 use Rattle.naga_ir_types.specs.declared.types.«Type».{«Type»}
+use Rattle.naga_ir_types.specs.declared.types.TypeInner.{TypeInner}
+use Rattle.naga_typing.specs.PlainLaws.{all_parts_exist, parts_exist, types_exist}
+use Rattle.naga_typing.specs.Resolutions.{PartsExist, ResolutionExists, inner_in, operand as type_of_operand}
 use Rattle.naga_typing.specs.Typings.{CanResolve, counts_in_sight}
 use Rattle.naga_typing.specs.declared.typifier.TypeResolution.{TypeResolution}
 
@@ -44,6 +49,24 @@ module _ (m : Module) (x : Expression) (earlier : List TypeResolution) (can : Ca
   -- and so does the global variable
   pub global_variable_exists : (v : ℕ) → x ≡ expression.GlobalVariable v → v < length m.global_variables
   global_variable_exists v e = All-contains InSight (expression_references x) (to.GlobalVariable v) can.references (item_in x (to.GlobalVariable v) (variable_named v e))
+
+  function_named : (f : ℕ) → x ≡ expression.CallResult f → named_item x ≡ Some (to.Function f)
+  unfolding named_item
+  function_named f e = ap named_item e
+
+  -- and so does the function
+  pub function_exists : (f : ℕ) → x ≡ expression.CallResult f → f < length m.functions
+  function_exists f e = All-contains InSight (expression_references x) (to.Function f) can.references (item_in x (to.Function f) (function_named f e))
+
+  -- the types that the form of an operand's type names exist
+  pub operand_parts_exist : (e : ℕ) (inner : TypeInner) → type_of_operand m.types earlier e ≡ Some inner → PartsExist m.types inner
+  operand_parts_exist e inner at = by_operand (slice_get earlier e) refl at
+    where
+      by_operand : (found : Option TypeResolution) → slice_get earlier e ≡ found → option_and_then (inner_in m.types) found ≡ Some inner → PartsExist m.types inner
+      by_operand None there is = cc is
+      by_operand (Some r) there is =
+          let g = global_lists m in
+          parts_exist m.types r inner (all_parts_exist g (global_references_ok m can.handles)) (types_exist g r (all_at (ResolutionExists g) earlier e r can.earlier_exist there)) is
 
   -- each operand has a type
   pub all_earlier : All (λ (o : ℕ). o < length earlier) (operands x)

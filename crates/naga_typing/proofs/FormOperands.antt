@@ -1,10 +1,12 @@
 -- The operands of the forms whose types follow from them.
-use Rattle.std.proofs.Common.{◌≡◌, ℕ, List, Option, Contains, refl, subst, sym, arith}
+use Rattle.std.proofs.Common.{◌≡◌, Bool, ℕ, List, Option, Contains, refl, subst, sym, arith}
 use Rattle.naga_ir.specs.References.{operands}
 use Rattle.naga_ir.specs.declared.expression.BinaryOperator.{BinaryOperator}
 use Rattle.naga_ir.specs.declared.expression.Expression.{Expression}
 use Rattle.naga_ir.specs.declared.expression.Expression.TheVariants as form
+use Rattle.naga_ir.specs.declared.expression.ImageQuery.{ImageQuery}
 use Rattle.naga_ir.specs.declared.expression.RelationalFunction.{RelationalFunction}
+use Rattle.naga_ir.specs.declared.expression.SampleLevel.{SampleLevel}
 use Rattle.naga_ir.specs.declared.expression.SwizzleComponent.{SwizzleComponent}
 use Rattle.naga_ir.specs.declared.expression.UnaryOperator.{UnaryOperator}
 use Rattle.naga_ir_types.specs.declared.types.ScalarKind.{ScalarKind}
@@ -21,6 +23,10 @@ module _ (x : Expression) where
   pub of_access_index : (base index : ℕ) → x ≡ form.AccessIndex base index → Has base
   unfolding operands
   of_access_index base index e = subst (λ x. Contains (operands x) base) (sym e) (0, omega arith, refl)
+
+  pub of_load : (pointer : ℕ) → x ≡ form.Load pointer → Has pointer
+  unfolding operands
+  of_load pointer e = subst (λ x. Contains (operands x) pointer) (sym e) (0, omega arith, refl)
 
   pub of_splat : (size : VectorSize) (value : ℕ) → x ≡ form.Splat size value → Has value
   unfolding operands
@@ -57,3 +63,20 @@ module _ (x : Expression) where
   pub of_as : (expr : ℕ) (kind : ScalarKind) (convert : Option ℕ) → x ≡ form.As expr kind convert → Has expr
   unfolding operands
   of_as expr kind convert e = subst (λ x. Contains (operands x) expr) (sym e) (0, omega arith, refl)
+
+  pub image_of_sample : (image sampler : ℕ) (gather : Option SwizzleComponent) (coordinate : ℕ) (array_index offset : Option ℕ) (level : SampleLevel) (depth_ref : Option ℕ) (clamp_to_edge : Bool)
+      → x ≡ form.ImageSample image sampler gather coordinate array_index offset level depth_ref clamp_to_edge → Has image
+  unfolding operands
+  image_of_sample image sampler gather coordinate array_index offset level depth_ref clamp_to_edge e = subst (λ x. Contains (operands x) image) (sym e) (0, omega arith, refl)
+
+  pub image_of_load : (image coordinate : ℕ) (array_index sample level : Option ℕ) → x ≡ form.ImageLoad image coordinate array_index sample level → Has image
+  unfolding operands
+  image_of_load image coordinate array_index sample level e = subst (λ x. Contains (operands x) image) (sym e) (0, omega arith, refl)
+
+  pub image_of_query : (image : ℕ) (query : ImageQuery) → x ≡ form.ImageQuery image query → Has image
+  unfolding operands
+  image_of_query image query e = subst (λ x. Contains (operands x) image) (sym e) (0, omega arith, refl)
+
+  pub summand_of_product : (a b c : ℕ) → x ≡ form.CooperativeMultiplyAdd a b c → Has c
+  unfolding operands
+  summand_of_product a b c e = subst (λ x. Contains (operands x) c) (sym e) (2, omega arith, refl)

@@ -5,6 +5,7 @@ use Rattle.naga_ir.specs.Handles.{ExistsGlobally, GlobalReferencesOk}
 use Rattle.naga_ir.specs.ItemReferences.{GlobalLists, type_references}
 use Rattle.naga_ir.specs.declared.reference.Reference.{Reference}
 use Rattle.naga_ir.specs.declared.reference.Reference.TheVariants as to
+use Rattle.naga_ir_types.proofs.PartLemmas.{parts_of_pointer}
 use Rattle.naga_ir_types.specs.Parts.{parts, size_override}
 use Rattle.naga_ir_types.specs.declared.types.«Type».{«Type»}
 use Rattle.naga_ir_types.specs.declared.types.AddressSpace.{AddressSpace}
@@ -19,10 +20,6 @@ use Rattle.naga_typing.specs.Index.{IsNoPointer, PointsTo, itself, pointed_to}
 abbrev pub pointers_left : TypeInner → ℕ
 pointers_left (Pointer base space) = suc base
 pointers_left _ = 0
-
-pub parts_of_pointer : (base : ℕ) (space : AddressSpace) → Contains (parts (Pointer base space)) base
-unfolding parts
-parts_of_pointer base space = (0, omega arith, refl)
 
 type_of_pointer : (base : ℕ) (space : AddressSpace) → Contains (map to.Type_ (parts (Pointer base space))) (to.Type_ base)
 unfolding parts

@@ -4,7 +4,7 @@ use Rattle.naga_ir_types.specs.declared.types.«Type».{«Type»}
 use Rattle.naga_ir_types.specs.declared.types.AddressSpace.{AddressSpace}
 use Rattle.naga_ir_types.specs.declared.types.TypeInner.{TypeInner}
 use Rattle.naga_ir_types.specs.declared.types.TypeInner.TheVariants.{Pointer}
-use Rattle.naga_typing.proofs.Pointers.{parts_of_pointer}
+use Rattle.naga_ir_types.proofs.PartLemmas.{parts_of_pointer}
 use Rattle.naga_typing.specs.Resolutions.{PartsExist}
 
 -- the base of a pointer exists

@@ -10,9 +10,12 @@
 -- Typings.CanResolve, IsLawful: what a typing may rely on, and what it promises
 -- Typings.AreResolved: what the types of a module's global expressions are
 -- PlainTyping.plain_resolves: what `PlainTyping` promises beside
+-- FullTyping.full_resolves: what `FullTyping` promises beside
 -- Math.signature: what each mathematical function takes and returns, by `PlainTyping`
 pub mod Constants
 pub mod Context
+pub mod FullLaws
+pub mod FullTyping
 pub mod Index
 pub mod Kinds
 pub mod Layout

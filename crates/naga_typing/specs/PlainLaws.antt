@@ -40,7 +40,7 @@ use Rattle.naga_typing.specs.declared.typifier.TypeResolution.{TypeResolution}
 use Rattle.naga_typing.specs.declared.typifier.TypeResolution.TheVariants.{Handle, Value}
 
 -- a result keeps the laws: everything that a type refers to exists, the type is proper, and an error isn't out of memory
-abbrev IsLawfulResult : GlobalLists → ResolveResult → Type 0
+abbrev pub IsLawfulResult : GlobalLists → ResolveResult → Type 0
 IsLawfulResult g (Ok r) = ResolutionExists g r × IsProperResolution r
 IsLawfulResult g (Err IncompatibleOperands) = ⊤
 IsLawfulResult g (Err NotResolvable) = ⊤
@@ -51,11 +51,11 @@ abbrev IsLawfulForm : GlobalLists → TypeInner → Type 0
 IsLawfulForm g inner = IsLawfulResult g (Ok (Value inner))
 
 module _ (g : GlobalLists) where
-  of_scalar : (scalar : ScalarType) → IsLawfulResult g (Ok (Value (Scalar scalar)))
+  pub of_scalar : (scalar : ScalarType) → IsLawfulResult g (Ok (Value (Scalar scalar)))
   unfolding parts size_override
   of_scalar scalar = (All-nil (ExistsGlobally g), tt)
 
-  of_vector : (size : VectorSize) (scalar : ScalarType) → IsLawfulResult g (Ok (Value (Vector size scalar)))
+  pub of_vector : (size : VectorSize) (scalar : ScalarType) → IsLawfulResult g (Ok (Value (Vector size scalar)))
   unfolding parts size_override
   of_vector size scalar = (All-nil (ExistsGlobally g), tt)
 
@@ -63,7 +63,7 @@ module _ (g : GlobalLists) where
   unfolding parts size_override
   of_matrix columns rows scalar = (All-nil (ExistsGlobally g), tt)
 
-  of_element : (inner : TypeInner) → PartsExist g.types inner → IsLawfulResult g (element_of inner)
+  pub of_element : (inner : TypeInner) → PartsExist g.types inner → IsLawfulResult g (element_of inner)
   of_element (Vector size scalar) exist = of_scalar scalar
   of_element (Matrix columns rows scalar) exist = of_vector rows scalar
   of_element (Array base size stride) exist = (base_is (λ p. p < length g.types) (Array base size stride) base size stride exist refl, tt)
@@ -76,7 +76,7 @@ module _ (g : GlobalLists) where
       by_member None at = tt
       by_member (Some m) at = (all_at (λ (m : StructMember). m.ty < length g.types) members index m all at, tt)
 
-  of_part : (index : ℕ) (inner : TypeInner) → PartsExist g.types inner → IsLawfulResult g (part_of index inner)
+  pub of_part : (index : ℕ) (inner : TypeInner) → PartsExist g.types inner → IsLawfulResult g (part_of index inner)
   of_part index (Struct members span) exist = of_member members index (members_are (λ p. p < length g.types) (Struct members span) members span exist refl)
   of_part index (Vector size scalar) exist = of_scalar scalar
   of_part index (Matrix columns rows scalar) exist = of_vector rows scalar
@@ -189,7 +189,7 @@ module _ (m : Module) (x : Expression) (earlier : List TypeResolution) (can : Ca
   ok : GlobalReferencesOk g
   ok = global_references_ok m can.handles
 
-  lawful_operand : (e : ℕ) (rule : TypeInner → ResolveResult) → ((inner : TypeInner) → PartsExist m.types inner → IsLawfulResult g (rule inner)) → IsLawfulResult g (of_form (operand m.types earlier e) rule)
+  pub lawful_operand : (e : ℕ) (rule : TypeInner → ResolveResult) → ((inner : TypeInner) → PartsExist m.types inner → IsLawfulResult g (rule inner)) → IsLawfulResult g (of_form (operand m.types earlier e) rule)
   lawful_operand e rule lawful = by_operand (slice_get earlier e) refl
     where
       by_form : (r : TypeResolution) → ResolutionExists g r → (found : Option TypeInner) → inner_in m.types r ≡ found → IsLawfulResult g (of_form found rule)
@@ -200,7 +200,7 @@ module _ (m : Module) (x : Expression) (earlier : List TypeResolution) (can : Ca
       by_operand None at = tt
       by_operand (Some r) at = by_form r (all_at (ResolutionExists g) earlier e r can.earlier_exist at) (inner_in m.types r) refl
 
-  lawful_same : (e : ℕ) → IsLawfulResult g (same_type (slice_get earlier e))
+  pub lawful_same : (e : ℕ) → IsLawfulResult g (same_type (slice_get earlier e))
   lawful_same e = by_operand (slice_get earlier e) refl
     where
       by_operand : (found : Option TypeResolution) → slice_get earlier e ≡ found → IsLawfulResult g (same_type found)
@@ -236,11 +236,11 @@ module _ (m : Module) (x : Expression) (earlier : List TypeResolution) (can : Ca
       by_override None at = tt
       by_override (Some d) at = (of_override g ok o d (to.Type_ d.ty) at (0, omega arith, refl), tt)
 
-  lawful_named : (t : ℕ) → named_type x ≡ Some t → IsLawfulResult g (Ok (Handle t))
+  pub lawful_named : (t : ℕ) → named_type x ≡ Some t → IsLawfulResult g (Ok (Handle t))
   lawful_named t e = (All-contains (Exists (counts_in_sight m (length earlier) can.local_variables)) (expression_references x) (to.Type_ t) can.references (type_in x t e), tt)
 
 -- so does each result of `PlainTyping`
-lawful : (m : Module) (x : Expression) (earlier : List TypeResolution) → CanResolve m x earlier → IsLawfulResult (global_lists m) (plain_resolves m x earlier)
+pub lawful : (m : Module) (x : Expression) (earlier : List TypeResolution) → CanResolve m x earlier → IsLawfulResult (global_lists m) (plain_resolves m x earlier)
 unfolding plain_resolves named_type
 lawful m (form.Literal value) earlier can = of_scalar (global_lists m) _
 lawful m (form.Constant c) earlier can = lawful_constant m (form.Constant c) earlier can c

@@ -4,6 +4,7 @@
 
 pub mod context;
 pub mod expression_kind;
+pub mod full_typing;
 pub mod index;
 pub mod layouter;
 mod math;

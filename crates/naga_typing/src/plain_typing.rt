@@ -33,21 +33,21 @@ use std::alloc::Global;
 pub struct PlainTyping;
 
 /// The type of a scalar.
-fn scalar(scalar: Scalar) -> Result<TypeResolution, ResolveError>
+pub(crate) fn scalar(scalar: Scalar) -> Result<TypeResolution, ResolveError>
     ensures { result ≡ Ok (TypeResolution.Value (TypeInner.Scalar scalar)) }
 {
     Ok(TypeResolution::Value(TypeInner::Scalar(scalar)))
 }
 
 /// The type of a vector.
-fn vector(size: VectorSize, scalar: Scalar) -> Result<TypeResolution, ResolveError>
+pub(crate) fn vector(size: VectorSize, scalar: Scalar) -> Result<TypeResolution, ResolveError>
     ensures { result ≡ Ok (TypeResolution.Value (TypeInner.Vector size scalar)) }
 {
     Ok(TypeResolution::Value(TypeInner::Vector { size, scalar }))
 }
 
 /// The type of an element: the scalar of a vector, the column of a matrix, the base of an array.
-fn element_of(inner: &TypeInner) -> Result<TypeResolution, ResolveError>
+pub(crate) fn element_of(inner: &TypeInner) -> Result<TypeResolution, ResolveError>
     ensures { result ≡ spec.element_of inner.now }
 {
     match *inner {
@@ -69,7 +69,7 @@ fn element_of(inner: &TypeInner) -> Result<TypeResolution, ResolveError>
 }
 
 /// The type of the part of a constant index: a member of a struct, or an element.
-fn part_of(index: u32, inner: &TypeInner) -> Result<TypeResolution, ResolveError>
+pub(crate) fn part_of(index: u32, inner: &TypeInner) -> Result<TypeResolution, ResolveError>
     ensures { result ≡ spec.part_of index inner.now }
 {
     if let TypeInner::Struct { members, .. } = inner {
@@ -197,7 +197,7 @@ fn relational_of(fun: RelationalFunction, inner: &TypeInner) -> Result<TypeResol
 }
 
 /// The form of the type of an operand.
-fn operand<'a>(
+pub(crate) fn operand<'a>(
     module: &'a Module,
     earlier: &'a [TypeResolution],
     handle: Handle<ExpressionTag>,
@@ -210,7 +210,7 @@ fn operand<'a>(
 }
 
 /// The type of an operand. To copy it takes no memory, since it is proper.
-fn same_type(
+pub(crate) fn same_type(
     earlier: &[TypeResolution],
     handle: Handle<ExpressionTag>,
 ) -> Result<TypeResolution, ResolveError>
@@ -378,7 +378,7 @@ fn math_of(
 
 /// The type of an expression, by its form.
 #[tactic(auto, unfolding(crate::specs::PlainTyping::plain_resolves))]
-fn resolve(
+pub(crate) fn resolve(
     module: &Module,
     expression: &Expression,
     earlier: &[TypeResolution],

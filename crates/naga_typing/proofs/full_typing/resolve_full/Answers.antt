@@ -1,0 +1,39 @@
+use Rattle.naga_typing.proofs.CanResolve.{function_exists, global_variable_exists, operand_parts_exist, operands_earlier}
+use Rattle.naga_typing.proofs.FormOperands.{image_of_load, image_of_query, image_of_sample, of_access, of_access_index, of_load, summand_of_product}
+use Rattle.naga_typing.proofs.full_typing.resolve_full.Goals as goal
+
+pub operand-requires-clause-earlier : goal.operand-requires-clause-earlier
+operand-requires-clause-earlier c = operands_earlier _ _ _ c.requires _ (of_access _ _ _ c.in-Access.is)
+
+pub part_in-requires : goal.part_in-requires
+part_in-requires c = operand_parts_exist _ _ _ c.requires _ _ c.operand.ensures
+
+pub operand-requires-in-AccessIndex-clause-earlier : goal.operand-requires-in-AccessIndex-clause-earlier
+operand-requires-in-AccessIndex-clause-earlier c = operands_earlier _ _ _ c.requires _ (of_access_index _ _ _ c.in-AccessIndex.is)
+
+pub part_in-requires-in-AccessIndex : goal.part_in-requires-in-AccessIndex
+part_in-requires-in-AccessIndex c = operand_parts_exist _ _ _ c.requires _ _ c.operand-in-AccessIndex.ensures
+
+pub index-variable-requires : goal.index-variable-requires
+index-variable-requires c = global_variable_exists _ _ _ c.requires _ c.in-GlobalVariable.is
+
+pub operand-requires-in-Load-clause-earlier : goal.operand-requires-in-Load-clause-earlier
+operand-requires-in-Load-clause-earlier c = operands_earlier _ _ _ c.requires _ (of_load _ _ c.in-Load.is)
+
+pub load_of-requires : goal.load_of-requires
+load_of-requires c = operand_parts_exist _ _ _ c.requires _ _ c.operand-in-Load.ensures
+
+pub operand-requires-in-ImageSample-clause-earlier : goal.operand-requires-in-ImageSample-clause-earlier
+operand-requires-in-ImageSample-clause-earlier c = operands_earlier _ _ _ c.requires _ (image_of_sample _ _ _ _ _ _ _ _ _ _ c.in-ImageSample.is)
+
+pub operand-requires-in-ImageLoad-clause-earlier : goal.operand-requires-in-ImageLoad-clause-earlier
+operand-requires-in-ImageLoad-clause-earlier c = operands_earlier _ _ _ c.requires _ (image_of_load _ _ _ _ _ _ c.in-ImageLoad.is)
+
+pub operand-requires-in-ImageQuery-clause-earlier : goal.operand-requires-in-ImageQuery-clause-earlier
+operand-requires-in-ImageQuery-clause-earlier c = operands_earlier _ _ _ c.requires _ (image_of_query _ _ _ c.in-ImageQuery.is)
+
+pub index-requires : goal.index-requires
+index-requires c = function_exists _ _ _ c.requires _ c.in-CallResult.is
+
+pub same_type-requires-clause-earlier : goal.same_type-requires-clause-earlier
+same_type-requires-clause-earlier c = operands_earlier _ _ _ c.requires _ (summand_of_product _ _ _ _ c.in-CooperativeMultiplyAdd.is)

@@ -1,0 +1,239 @@
+-- The types that `FullTyping` resolves.
+use Rattle.std.specs.Prelude.{ℕ, List, Option, Some, None, Ok, Err, option_and_then, option_map, slice_get}
+use Rattle.naga_ir.specs.declared.expression.Expression.{Expression}
+use Rattle.naga_ir.specs.declared.expression.Expression.TheVariants as form
+use Rattle.naga_ir.specs.declared.expression.ImageQuery.{ImageQuery as Query}
+use Rattle.naga_ir.specs.declared.expression.ImageQuery.TheVariants.{Size, NumLevels, NumLayers, NumSamples}
+use Rattle.naga_ir.specs.declared.expression.SwizzleComponent.{SwizzleComponent}
+use Rattle.naga_ir.specs.declared.ir.Function.{Function}
+use Rattle.naga_ir.specs.declared.ir.FunctionResult.{FunctionResult}
+use Rattle.naga_ir.specs.declared.ir.GlobalVariable.{GlobalVariable}
+use Rattle.naga_ir.specs.declared.ir.Module.{Module}
+use Rattle.naga_ir_types.specs.declared.types.«Type».{«Type»}
+use Rattle.naga_ir_types.specs.declared.types.AddressSpace.{AddressSpace}
+use Rattle.naga_ir_types.specs.declared.types.AddressSpace.TheVariants as space
+use Rattle.naga_ir_types.specs.declared.types.ImageClass.{ImageClass}
+use Rattle.naga_ir_types.specs.declared.types.ImageClass.TheVariants.{Sampled, Depth, Storage, External}
+use Rattle.naga_ir_types.specs.declared.types.ImageDimension.{ImageDimension}
+use Rattle.naga_ir_types.specs.declared.types.ImageDimension.TheVariants.{D1, D2, D3, Cube}
+use Rattle.naga_ir_types.specs.declared.types.ScalarKind.{ScalarKind}
+use Rattle.naga_ir_types.specs.declared.types.StructMember.{StructMember}
+use Rattle.naga_ir_types.specs.declared.types.TypeInner.{TypeInner}
+use Rattle.naga_ir_types.specs.declared.types.TypeInner.TheVariants.{Scalar, Vector, Matrix, CooperativeMatrix, Atomic, Pointer, ValuePointer, Array, Struct, Image, Sampler, AccelerationStructure, RayQuery, BindingArray}
+use Rattle.naga_ir_types.specs.declared.types.VectorSize.TheVariants.{Bi, Tri, Quad}
+use Rattle.naga_typing.specs.Math.{f32_scalar, of_components, u32_scalar}
+use Rattle.naga_typing.specs.PlainTyping.{ResolveResult, bool_scalar, element_of, of_form, part_of, plain_resolves, same_type}
+use Rattle.naga_typing.specs.Resolutions.{inner_in, operand}
+use Rattle.naga_typing.specs.declared.typifier.ResolveError.TheVariants.{IncompatibleOperands, NotResolvable}
+use Rattle.naga_typing.specs.declared.typifier.TypeResolution.{TypeResolution}
+use Rattle.naga_typing.specs.declared.typifier.TypeResolution.TheVariants.{Handle, Value}
+
+-- a type of the module, if there is one
+abbrev pub declared : Option ℕ → ResolveResult
+declared None = Err NotResolvable
+declared (Some t) = Ok (Handle t)
+
+-- a variable is referred to by a pointer, but images and samplers by themselves
+abbrev pub reference_to : ℕ → AddressSpace → TypeResolution
+reference_to ty space.Handle = Handle ty
+reference_to ty space.Function = Value (Pointer ty space.Function)
+reference_to ty space.Private = Value (Pointer ty space.Private)
+reference_to ty space.WorkGroup = Value (Pointer ty space.WorkGroup)
+reference_to ty space.Uniform = Value (Pointer ty space.Uniform)
+reference_to ty (space.Storage access) = Value (Pointer ty (space.Storage access))
+reference_to ty space.Immediate = Value (Pointer ty space.Immediate)
+reference_to ty space.TaskPayload = Value (Pointer ty space.TaskPayload)
+reference_to ty space.RayPayload = Value (Pointer ty space.RayPayload)
+reference_to ty space.IncomingRayPayload = Value (Pointer ty space.IncomingRayPayload)
+
+-- the type of a variable of the module
+abbrev pub type_of_variable : Option GlobalVariable → ResolveResult
+type_of_variable None = Err NotResolvable
+type_of_variable (Some v) = Ok (reference_to v.ty v.space)
+
+-- the type of the result of a function, if it has one
+abbrev pub result_of : Function → Option ℕ
+result_of f = option_map (λ (r : FunctionResult). r.ty) f.result
+
+-- a part of a value: at a constant index, or at one that is computed
+abbrev pub part_at : Option ℕ → TypeInner → ResolveResult
+part_at None inner = element_of inner
+part_at (Some index) inner = part_of index inner
+
+-- a pointer to a member, if there is one
+abbrev pub member_pointer : AddressSpace → Option StructMember → ResolveResult
+member_pointer space None = Err IncompatibleOperands
+member_pointer space (Some m) = Ok (Value (Pointer m.ty space))
+
+-- a pointer to such a part of what a pointer in a space points to: to the member of a constant index, a vector's scalar, a matrix's column, or the base of an array or of a binding array
+abbrev pub part_pointer : Option ℕ → AddressSpace → TypeInner → ResolveResult
+part_pointer index space (Struct members span) = member_pointer space (option_and_then (slice_get members) index)
+part_pointer index space (Vector size scalar) = Ok (Value (ValuePointer None scalar space))
+part_pointer index space (Matrix columns rows scalar) = Ok (Value (ValuePointer (Some rows) scalar space))
+part_pointer index space (Array base size stride) = Ok (Value (Pointer base space))
+part_pointer index space (BindingArray base size) = Ok (Value (Pointer base space))
+part_pointer index space (Scalar scalar) = Err IncompatibleOperands
+part_pointer index space (CooperativeMatrix columns rows scalar role) = Err IncompatibleOperands
+part_pointer index space (Atomic scalar) = Err IncompatibleOperands
+part_pointer index space (Pointer base of_space) = Err IncompatibleOperands
+part_pointer index space (ValuePointer size scalar of_space) = Err IncompatibleOperands
+part_pointer index space (Image dim arrayed class) = Err IncompatibleOperands
+part_pointer index space (Sampler comparison) = Err IncompatibleOperands
+part_pointer index space (AccelerationStructure vertex_return) = Err IncompatibleOperands
+part_pointer index space (RayQuery vertex_return) = Err IncompatibleOperands
+
+-- the result of a rule on the form of a type of a list, if there is one
+abbrev pub at_target : List «Type» → ℕ → (TypeInner → ResolveResult) → ResolveResult
+at_target types base rule = of_form (inner_in types (Handle base)) rule
+
+-- a part of a value, or a pointer to a part of what a pointer points to
+abbrev pub part_in : List «Type» → Option ℕ → TypeInner → ResolveResult
+part_in types index (Pointer base space) = at_target types base (part_pointer index space)
+part_in types index (ValuePointer (Some size) scalar space) = Ok (Value (ValuePointer None scalar space))
+part_in types index (ValuePointer None scalar space) = Err IncompatibleOperands
+part_in types index (BindingArray base size) = Ok (Handle base)
+part_in types index (Scalar scalar) = part_at index (Scalar scalar)
+part_in types index (Vector size scalar) = part_at index (Vector size scalar)
+part_in types index (Matrix columns rows scalar) = part_at index (Matrix columns rows scalar)
+part_in types index (CooperativeMatrix columns rows scalar role) = part_at index (CooperativeMatrix columns rows scalar role)
+part_in types index (Atomic scalar) = part_at index (Atomic scalar)
+part_in types index (Array base size stride) = part_at index (Array base size stride)
+part_in types index (Struct members span) = part_at index (Struct members span)
+part_in types index (Image dim arrayed class) = part_at index (Image dim arrayed class)
+part_in types index (Sampler comparison) = part_at index (Sampler comparison)
+part_in types index (AccelerationStructure vertex_return) = part_at index (AccelerationStructure vertex_return)
+part_in types index (RayQuery vertex_return) = part_at index (RayQuery vertex_return)
+
+-- what is loaded of a type of the module: the scalar of an atomic, and a value of the type itself else
+abbrev pub loaded : ℕ → TypeInner → ResolveResult
+loaded base (Atomic scalar) = Ok (Value (Scalar scalar))
+loaded base (Scalar scalar) = Ok (Handle base)
+loaded base (Vector size scalar) = Ok (Handle base)
+loaded base (Matrix columns rows scalar) = Ok (Handle base)
+loaded base (CooperativeMatrix columns rows scalar role) = Ok (Handle base)
+loaded base (Pointer of_base space) = Ok (Handle base)
+loaded base (ValuePointer size scalar space) = Ok (Handle base)
+loaded base (Array of_base size stride) = Ok (Handle base)
+loaded base (Struct members span) = Ok (Handle base)
+loaded base (Image dim arrayed class) = Ok (Handle base)
+loaded base (Sampler comparison) = Ok (Handle base)
+loaded base (AccelerationStructure vertex_return) = Ok (Handle base)
+loaded base (RayQuery vertex_return) = Ok (Handle base)
+loaded base (BindingArray of_base size) = Ok (Handle base)
+
+-- what is loaded through a pointer
+abbrev pub load_of : List «Type» → TypeInner → ResolveResult
+load_of types (Pointer base space) = at_target types base (loaded base)
+load_of types (ValuePointer size scalar space) = Ok (Value (of_components (size, scalar)))
+load_of types (Scalar scalar) = Err IncompatibleOperands
+load_of types (Vector size scalar) = Err IncompatibleOperands
+load_of types (Matrix columns rows scalar) = Err IncompatibleOperands
+load_of types (CooperativeMatrix columns rows scalar role) = Err IncompatibleOperands
+load_of types (Atomic scalar) = Err IncompatibleOperands
+load_of types (Array base size stride) = Err IncompatibleOperands
+load_of types (Struct members span) = Err IncompatibleOperands
+load_of types (Image dim arrayed class) = Err IncompatibleOperands
+load_of types (Sampler comparison) = Err IncompatibleOperands
+load_of types (AccelerationStructure vertex_return) = Err IncompatibleOperands
+load_of types (RayQuery vertex_return) = Err IncompatibleOperands
+load_of types (BindingArray base size) = Err IncompatibleOperands
+
+-- the dimension and the class of an image; other forms have none
+abbrev pub image_parts : TypeInner → Option (ImageDimension × ImageClass)
+image_parts (Image dim arrayed class) = Some (dim, class)
+image_parts (Scalar scalar) = None
+image_parts (Vector size scalar) = None
+image_parts (Matrix columns rows scalar) = None
+image_parts (CooperativeMatrix columns rows scalar role) = None
+image_parts (Atomic scalar) = None
+image_parts (Pointer base space) = None
+image_parts (ValuePointer size scalar space) = None
+image_parts (Array base size stride) = None
+image_parts (Struct members span) = None
+image_parts (Sampler comparison) = None
+image_parts (AccelerationStructure vertex_return) = None
+image_parts (RayQuery vertex_return) = None
+image_parts (BindingArray base size) = None
+
+-- the result of a rule on the dimension and the class of an image; other forms don't fit
+abbrev pub of_image : Option (ImageDimension × ImageClass) → (ImageDimension → ImageClass → ResolveResult) → ResolveResult
+of_image None rule = Err IncompatibleOperands
+of_image (Some parts) rule = rule parts.0 parts.1
+
+-- a vector of four scalars of a kind, of four bytes each
+abbrev pub four_of : ScalarKind → ResolveResult
+four_of kind = Ok (Value (Vector Quad (record { kind = kind; width = 4 })))
+
+-- a texel of an image: one number of a depth, and else four components; of the format of a storage image only the number is known, and so no type
+abbrev pub texel_of : ImageClass → ResolveResult
+texel_of (Sampled kind multi) = four_of kind
+texel_of (Depth multi) = Ok (Value (Scalar f32_scalar))
+texel_of (Storage format access) = Err NotResolvable
+texel_of External = four_of f32_scalar.kind
+
+-- one component of four texels
+abbrev pub gathered_of : ImageClass → ResolveResult
+gathered_of (Sampled kind multi) = four_of kind
+gathered_of (Depth multi) = four_of f32_scalar.kind
+gathered_of (Storage format access) = four_of f32_scalar.kind
+gathered_of External = four_of f32_scalar.kind
+
+-- a texel, or what is gathered if a component is given
+abbrev pub sample_of : Option SwizzleComponent → ImageClass → ResolveResult
+sample_of None class = texel_of class
+sample_of (Some component) class = gathered_of class
+
+-- such a sample of an image
+abbrev pub sample_in : Option SwizzleComponent → TypeInner → ResolveResult
+sample_in gather inner = of_image (image_parts inner) (λ dim class. sample_of gather class)
+
+-- the size of an image, in texels, by its dimension; that of a cube is the size of a face
+abbrev pub extent_of : ImageDimension → ResolveResult
+extent_of D1 = Ok (Value (Scalar u32_scalar))
+extent_of D2 = Ok (Value (Vector Bi u32_scalar))
+extent_of D3 = Ok (Value (Vector Tri u32_scalar))
+extent_of Cube = Ok (Value (Vector Bi u32_scalar))
+
+-- what a query of an image returns: its size, or a number
+abbrev pub query_of : Query → TypeInner → ResolveResult
+query_of (Size level) inner = of_image (image_parts inner) (λ dim class. extent_of dim)
+query_of NumLevels inner = Ok (Value (Scalar u32_scalar))
+query_of NumLayers inner = Ok (Value (Scalar u32_scalar))
+query_of NumSamples inner = Ok (Value (Scalar u32_scalar))
+
+-- the type of an expression; where operands alone decide, the one that `PlainTyping` resolves
+unfoldable pub full_resolves : Module → Expression → List TypeResolution → ResolveResult
+full_resolves m (form.Literal value) earlier = plain_resolves m (form.Literal value) earlier
+full_resolves m (form.Constant c) earlier = plain_resolves m (form.Constant c) earlier
+full_resolves m (form.Override o) earlier = plain_resolves m (form.Override o) earlier
+full_resolves m (form.ZeroValue ty) earlier = plain_resolves m (form.ZeroValue ty) earlier
+full_resolves m (form.Compose ty components) earlier = plain_resolves m (form.Compose ty components) earlier
+full_resolves m (form.Splat size value) earlier = plain_resolves m (form.Splat size value) earlier
+full_resolves m (form.Swizzle size vector pattern) earlier = plain_resolves m (form.Swizzle size vector pattern) earlier
+full_resolves m (form.Unary op expr) earlier = plain_resolves m (form.Unary op expr) earlier
+full_resolves m (form.Derivative expr) earlier = plain_resolves m (form.Derivative expr) earlier
+full_resolves m (form.Select condition accept reject) earlier = plain_resolves m (form.Select condition accept reject) earlier
+full_resolves m (form.Binary op left right) earlier = plain_resolves m (form.Binary op left right) earlier
+full_resolves m (form.Relational fun argument) earlier = plain_resolves m (form.Relational fun argument) earlier
+full_resolves m (form.Math fun arg arg1 arg2 arg3) earlier = plain_resolves m (form.Math fun arg arg1 arg2 arg3) earlier
+full_resolves m (form.As expr kind convert) earlier = plain_resolves m (form.As expr kind convert) earlier
+full_resolves m (form.ArrayLength expr) earlier = plain_resolves m (form.ArrayLength expr) earlier
+full_resolves m (form.Access base index) earlier = of_form (operand m.types earlier base) (part_in m.types None)
+full_resolves m (form.AccessIndex base index) earlier = of_form (operand m.types earlier base) (part_in m.types (Some index))
+full_resolves m (form.GlobalVariable v) earlier = type_of_variable (slice_get m.global_variables v)
+full_resolves m (form.Load pointer) earlier = of_form (operand m.types earlier pointer) (load_of m.types)
+full_resolves m (form.ImageSample image sampler gather coordinate array_index offset level depth_ref clamp_to_edge) earlier = of_form (operand m.types earlier image) (sample_in gather)
+full_resolves m (form.ImageLoad image coordinate array_index sample level) earlier = of_form (operand m.types earlier image) (sample_in None)
+full_resolves m (form.ImageQuery image query) earlier = of_form (operand m.types earlier image) (query_of query)
+full_resolves m (form.CallResult f) earlier = declared (option_and_then result_of (slice_get m.functions f))
+full_resolves m (form.AtomicResult ty comparison) earlier = Ok (Handle ty)
+full_resolves m (form.WorkGroupUniformLoadResult ty) earlier = Ok (Handle ty)
+full_resolves m form.RayQueryProceedResult earlier = Ok (Value (Scalar bool_scalar))
+full_resolves m (form.RayQueryGetIntersection query committed) earlier = declared m.special_types.ray_intersection
+full_resolves m (form.RayQueryVertexPositions query committed) earlier = declared m.special_types.ray_vertex_return
+full_resolves m form.SubgroupBallotResult earlier = four_of u32_scalar.kind
+full_resolves m (form.SubgroupOperationResult ty) earlier = Ok (Handle ty)
+full_resolves m (form.CooperativeMultiplyAdd a b c) earlier = same_type (slice_get earlier c)
+full_resolves m (form.FunctionArgument index) earlier = Err NotResolvable
+full_resolves m (form.LocalVariable v) earlier = Err NotResolvable
+full_resolves m (form.CooperativeLoad pointer stride) earlier = Err NotResolvable

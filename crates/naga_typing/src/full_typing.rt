@@ -1,0 +1,422 @@
+//! A typing that supports nearly all forms.
+
+ghost use Rattle.std.specs.Prelude.{◌≡◌, ◌<◌, Ok, length};
+ghost use Rattle.naga_ir.specs.declared.expression.Expression.TheVariants as form;
+ghost use Rattle.naga_typing.specs.FullTyping as spec;
+ghost use Rattle.naga_typing.specs.Resolutions.{PartsExist};
+ghost use Rattle.naga_typing.specs.Typings.{CanResolve};
+
+use crate::math::{accepts, argument_count};
+use crate::plain_typing::{self, element_of, operand, part_of, same_type, scalar, vector};
+use crate::typifier::{ResolveError, TypeResolution};
+use crate::typing::Typing;
+use naga_ir::expression::{Expression, ImageQuery, MathFunction, SwizzleComponent};
+use naga_ir::handle::Handle;
+use naga_ir::ir::{Function, Module};
+use naga_ir::tags::TypeTag;
+use naga_ir::types::{
+    AddressSpace, ImageClass, ImageDimension, Scalar, ScalarKind, TypeInner, VectorSize,
+};
+use naga_ir::unique_arena::UniqueArena;
+use std::alloc::Global;
+
+/// A typing that supports all forms whose types follow from a module and from their operands.
+///
+/// Where operands alone decide, it resolves what `PlainTyping` does. Beside that it supports
+///
+/// - variables of the module, which are pointers to their types, or of those types themselves in the
+///   address space `Handle`;
+/// - parts of what pointers point to, which are pointers in the same address space, and elements of
+///   binding arrays;
+/// - loads, of an atomic as its scalar;
+/// - samples, texels and properties of images;
+/// - results of calls, of atomic operations, of ray queries, and of operations of subgroups and
+///   workgroups;
+/// - products of cooperative matrices.
+///
+/// `NotResolvable` are arguments and local variables, as the function isn't given; cooperative loads,
+/// whose expression doesn't hold the size of the matrix; texels of storage images, whose format is a
+/// number without meaning here; results of ray queries in a module without the special type; and
+/// results of functions without one. It takes no memory.
+///
+/// It goes as naga's typifier (`proc/typifier.rs`) does. Mathematical functions are those of
+/// `PlainTyping`.
+#[derive(Clone, Copy, Debug, PartialEq, Eq)]
+pub struct FullTyping;
+
+/// A type of the module, if there is one.
+fn declared(ty: Option<Handle<TypeTag>>) -> Result<TypeResolution, ResolveError>
+    ensures { result ≡ spec.declared ty }
+{
+    match ty {
+        Some(ty) => Ok(TypeResolution::Handle(ty)),
+        None => Err(ResolveError::NotResolvable),
+    }
+}
+
+/// The type of a reference to a variable of this type.
+fn reference_to(ty: Handle<TypeTag>, space: AddressSpace) -> TypeResolution
+    ensures { result ≡ spec.reference_to ty space }
+{
+    match space {
+        AddressSpace::Handle => TypeResolution::Handle(ty),
+        AddressSpace::Function
+        | AddressSpace::Private
+        | AddressSpace::WorkGroup
+        | AddressSpace::Uniform
+        | AddressSpace::Storage { .. }
+        | AddressSpace::Immediate
+        | AddressSpace::TaskPayload
+        | AddressSpace::RayPayload
+        | AddressSpace::IncomingRayPayload => {
+            TypeResolution::Value(TypeInner::Pointer { base: ty, space })
+        }
+    }
+}
+
+/// The type of the result of a function, if it has one.
+fn result_of(function: &Function) -> Option<Handle<TypeTag>>
+    ensures { result ≡ spec.result_of function.now }
+{
+    match &function.result {
+        Some(result) => Some(result.ty),
+        None => None,
+    }
+}
+
+/// The type of a pointer.
+fn pointer(base: Handle<TypeTag>, space: AddressSpace) -> Result<TypeResolution, ResolveError>
+    ensures { result ≡ Ok (TypeResolution.Value (TypeInner.Pointer base space)) }
+{
+    Ok(TypeResolution::Value(TypeInner::Pointer { base, space }))
+}
+
+/// The type of a pointer to a scalar, or to a vector if there is a size.
+fn value_pointer(
+    size: Option<VectorSize>,
+    scalar: Scalar,
+    space: AddressSpace,
+) -> Result<TypeResolution, ResolveError>
+    ensures { result ≡ Ok (TypeResolution.Value (TypeInner.ValuePointer size scalar space)) }
+{
+    Ok(TypeResolution::Value(TypeInner::ValuePointer {
+        size,
+        scalar,
+        space,
+    }))
+}
+
+/// The type of a pointer to a part of what a pointer in an address space points to: at a constant
+/// index, or without one at an index that is computed.
+fn part_pointer(
+    index: Option<u32>,
+    space: AddressSpace,
+    target: &TypeInner,
+) -> Result<TypeResolution, ResolveError>
+    ensures { result ≡ spec.part_pointer index space target.now }
+{
+    match target {
+        TypeInner::Struct { members, .. } => {
+            let Some(index) = index else {
+                return Err(ResolveError::IncompatibleOperands);
+            };
+            match members.as_slice().get(index as usize) {
+                Some(member) => pointer(member.ty, space),
+                None => Err(ResolveError::IncompatibleOperands),
+            }
+        }
+        &TypeInner::Vector { scalar, .. } => value_pointer(None, scalar, space),
+        &TypeInner::Matrix { rows, scalar, .. } => value_pointer(Some(rows), scalar, space),
+        &TypeInner::Array { base, .. } | &TypeInner::BindingArray { base, .. } => {
+            pointer(base, space)
+        }
+        TypeInner::Scalar(_)
+        | TypeInner::CooperativeMatrix { .. }
+        | TypeInner::Atomic(_)
+        | TypeInner::Pointer { .. }
+        | TypeInner::ValuePointer { .. }
+        | TypeInner::Image { .. }
+        | TypeInner::Sampler { .. }
+        | TypeInner::AccelerationStructure { .. }
+        | TypeInner::RayQuery { .. } => Err(ResolveError::IncompatibleOperands),
+    }
+}
+
+/// The type of a part of a value, or of a pointer to a part of what a pointer points to: at a constant
+/// index, or without one at an index that is computed.
+fn part_in(
+    types: &UniqueArena,
+    index: Option<u32>,
+    inner: &TypeInner,
+) -> Result<TypeResolution, ResolveError>
+    requires { PartsExist types.now inner.now }
+    ensures { result ≡ spec.part_in types.now index inner.now }
+{
+    match *inner {
+        TypeInner::Pointer { base, space } => part_pointer(index, space, &types[base].inner),
+        TypeInner::ValuePointer {
+            size: Some(_),
+            scalar,
+            space,
+        } => value_pointer(None, scalar, space),
+        TypeInner::ValuePointer { size: None, .. } => Err(ResolveError::IncompatibleOperands),
+        TypeInner::BindingArray { base, .. } => Ok(TypeResolution::Handle(base)),
+        TypeInner::Scalar(_)
+        | TypeInner::Vector { .. }
+        | TypeInner::Matrix { .. }
+        | TypeInner::CooperativeMatrix { .. }
+        | TypeInner::Atomic(_)
+        | TypeInner::Array { .. }
+        | TypeInner::Struct { .. }
+        | TypeInner::Image { .. }
+        | TypeInner::Sampler { .. }
+        | TypeInner::AccelerationStructure { .. }
+        | TypeInner::RayQuery { .. } => match index {
+            Some(index) => part_of(index, inner),
+            None => element_of(inner),
+        },
+    }
+}
+
+/// The type of what is loaded of a type of the module.
+fn loaded(base: Handle<TypeTag>, target: &TypeInner) -> Result<TypeResolution, ResolveError>
+    ensures { result ≡ spec.loaded base target.now }
+{
+    match *target {
+        TypeInner::Atomic(of) => scalar(of),
+        TypeInner::Scalar(_)
+        | TypeInner::Vector { .. }
+        | TypeInner::Matrix { .. }
+        | TypeInner::CooperativeMatrix { .. }
+        | TypeInner::Pointer { .. }
+        | TypeInner::ValuePointer { .. }
+        | TypeInner::Array { .. }
+        | TypeInner::Struct { .. }
+        | TypeInner::Image { .. }
+        | TypeInner::Sampler { .. }
+        | TypeInner::AccelerationStructure { .. }
+        | TypeInner::RayQuery { .. }
+        | TypeInner::BindingArray { .. } => Ok(TypeResolution::Handle(base)),
+    }
+}
+
+/// The type of what is loaded through a pointer.
+fn load_of(types: &UniqueArena, pointer: &TypeInner) -> Result<TypeResolution, ResolveError>
+    requires { PartsExist types.now pointer.now }
+    ensures { result ≡ spec.load_of types.now pointer.now }
+{
+    match *pointer {
+        TypeInner::Pointer { base, .. } => loaded(base, &types[base].inner),
+        TypeInner::ValuePointer {
+            size: Some(size),
+            scalar,
+            ..
+        } => vector(size, scalar),
+        TypeInner::ValuePointer {
+            size: None,
+            scalar: of,
+            ..
+        } => scalar(of),
+        TypeInner::Scalar(_)
+        | TypeInner::Vector { .. }
+        | TypeInner::Matrix { .. }
+        | TypeInner::CooperativeMatrix { .. }
+        | TypeInner::Atomic(_)
+        | TypeInner::Array { .. }
+        | TypeInner::Struct { .. }
+        | TypeInner::Image { .. }
+        | TypeInner::Sampler { .. }
+        | TypeInner::AccelerationStructure { .. }
+        | TypeInner::RayQuery { .. }
+        | TypeInner::BindingArray { .. } => Err(ResolveError::IncompatibleOperands),
+    }
+}
+
+/// The dimension and the class of an image. Other forms have none.
+fn image_parts(inner: &TypeInner) -> Option<(ImageDimension, ImageClass)>
+    ensures { result ≡ spec.image_parts inner.now }
+{
+    match *inner {
+        TypeInner::Image { dim, class, .. } => Some((dim, class)),
+        TypeInner::Scalar(_)
+        | TypeInner::Vector { .. }
+        | TypeInner::Matrix { .. }
+        | TypeInner::CooperativeMatrix { .. }
+        | TypeInner::Atomic(_)
+        | TypeInner::Pointer { .. }
+        | TypeInner::ValuePointer { .. }
+        | TypeInner::Array { .. }
+        | TypeInner::Struct { .. }
+        | TypeInner::Sampler { .. }
+        | TypeInner::AccelerationStructure { .. }
+        | TypeInner::RayQuery { .. }
+        | TypeInner::BindingArray { .. } => None,
+    }
+}
+
+/// The type of a vector of four scalars of a kind, of four bytes each.
+fn four_of(kind: ScalarKind) -> Result<TypeResolution, ResolveError>
+    ensures { result ≡ spec.four_of kind }
+{
+    vector(VectorSize::Quad, Scalar { kind, width: 4 })
+}
+
+/// The type of a texel of an image.
+fn texel_of(class: ImageClass) -> Result<TypeResolution, ResolveError>
+    ensures { result ≡ spec.texel_of class }
+{
+    match class {
+        ImageClass::Sampled { kind, .. } => four_of(kind),
+        ImageClass::Depth { .. } => scalar(Scalar::F32),
+        ImageClass::Storage { .. } => Err(ResolveError::NotResolvable),
+        ImageClass::External => four_of(ScalarKind::Float),
+    }
+}
+
+/// The type of one component of four texels of an image.
+fn gathered_of(class: ImageClass) -> Result<TypeResolution, ResolveError>
+    ensures { result ≡ spec.gathered_of class }
+{
+    match class {
+        ImageClass::Sampled { kind, .. } => four_of(kind),
+        ImageClass::Depth { .. } | ImageClass::Storage { .. } | ImageClass::External => {
+            four_of(ScalarKind::Float)
+        }
+    }
+}
+
+/// The type of a texel of an image, or of what is gathered if a component is given.
+fn sample_in(
+    gather: Option<SwizzleComponent>,
+    image: &TypeInner,
+) -> Result<TypeResolution, ResolveError>
+    ensures { result ≡ spec.sample_in gather image.now }
+{
+    match (image_parts(image), gather) {
+        (Some((_, class)), Some(_)) => gathered_of(class),
+        (Some((_, class)), None) => texel_of(class),
+        (None, _) => Err(ResolveError::IncompatibleOperands),
+    }
+}
+
+/// The type of the size of an image.
+fn extent_of(dim: ImageDimension) -> Result<TypeResolution, ResolveError>
+    ensures { result ≡ spec.extent_of dim }
+{
+    match dim {
+        ImageDimension::D1 => scalar(Scalar::U32),
+        ImageDimension::D2 | ImageDimension::Cube => vector(VectorSize::Bi, Scalar::U32),
+        ImageDimension::D3 => vector(VectorSize::Tri, Scalar::U32),
+    }
+}
+
+/// The type of what a query of an image returns.
+fn query_of(query: ImageQuery, image: &TypeInner) -> Result<TypeResolution, ResolveError>
+    ensures { result ≡ spec.query_of query image.now }
+{
+    match query {
+        ImageQuery::Size { .. } => match image_parts(image) {
+            Some((dim, _)) => extent_of(dim),
+            None => Err(ResolveError::IncompatibleOperands),
+        },
+        ImageQuery::NumLevels | ImageQuery::NumLayers | ImageQuery::NumSamples => {
+            scalar(Scalar::U32)
+        }
+    }
+}
+
+impl Typing for FullTyping {
+    ghost use Rattle.naga_typing.specs.FullLaws.{full_lawful};
+    ghost use Rattle.naga_typing.specs.FullTyping.{full_resolves};
+    ghost use Rattle.naga_typing.specs.Math.{accepts, argument_count};
+
+    ghost resolves = { λ _. full_resolves };
+
+    ghost accepts_types = { λ _. accepts };
+
+    ghost least_arguments = { λ _ fun _. argument_count fun };
+
+    ghost lawful = { λ _. full_lawful };
+
+    fn resolve(
+        &self,
+        _alloc: Global,
+        module: &Module,
+        expression: &Expression,
+        earlier: &[TypeResolution],
+    ) -> Result<TypeResolution, ResolveError>
+        requires { CanResolve «module».now expression.now earlier.now }
+        ensures { result ≡ full_resolves «module».now expression.now earlier.now }
+    {
+        resolve_full(module, expression, earlier)
+    }
+
+    fn accepts(&self, fun: MathFunction, types: &[&TypeInner]) -> bool {
+        accepts(fun, types)
+    }
+
+    fn min_arguments(&self, fun: MathFunction, _types: &[&TypeInner]) -> usize {
+        argument_count(fun)
+    }
+}
+
+/// The type of an expression, by its form.
+#[tactic(auto, unfolding(crate::specs::FullTyping::full_resolves))]
+fn resolve_full(
+    module: &Module,
+    expression: &Expression,
+    earlier: &[TypeResolution],
+) -> Result<TypeResolution, ResolveError>
+    requires { CanResolve «module».now expression.now earlier.now }
+    ensures { result ≡ spec.full_resolves «module».now expression.now earlier.now }
+{
+    let types = &module.types;
+    match *expression {
+        Expression::Literal(_)
+        | Expression::Constant(_)
+        | Expression::Override(_)
+        | Expression::ZeroValue(_)
+        | Expression::Compose { .. }
+        | Expression::Splat { .. }
+        | Expression::Swizzle { .. }
+        | Expression::Unary { .. }
+        | Expression::Derivative { .. }
+        | Expression::Select { .. }
+        | Expression::Binary { .. }
+        | Expression::Relational { .. }
+        | Expression::Math { .. }
+        | Expression::As { .. }
+        | Expression::ArrayLength(_) => plain_typing::resolve(module, expression, earlier),
+        Expression::Access { base, .. } => part_in(types, None, operand(module, earlier, base)),
+        Expression::AccessIndex { base, index } => {
+            part_in(types, Some(index), operand(module, earlier, base))
+        }
+        Expression::GlobalVariable(variable) => {
+            let variable = &module.global_variables[variable];
+            Ok(reference_to(variable.ty, variable.space))
+        }
+        Expression::Load { pointer } => load_of(types, operand(module, earlier, pointer)),
+        Expression::ImageSample { image, gather, .. } => sample_in(
+            gather,
+            operand(module, earlier, image),
+        ),
+        Expression::ImageLoad { image, .. } => sample_in(None, operand(module, earlier, image)),
+        Expression::ImageQuery { image, query } => query_of(query, operand(module, earlier, image)),
+        Expression::CallResult(function) => declared(result_of(&module.functions[function])),
+        Expression::AtomicResult { ty, .. }
+        | Expression::WorkGroupUniformLoadResult { ty }
+        | Expression::SubgroupOperationResult { ty } => Ok(TypeResolution::Handle(ty)),
+        Expression::RayQueryProceedResult => scalar(Scalar::BOOL),
+        Expression::RayQueryGetIntersection { .. } => declared(
+            module.special_types.ray_intersection,
+        ),
+        Expression::RayQueryVertexPositions { .. } => declared(
+            module.special_types.ray_vertex_return,
+        ),
+        Expression::SubgroupBallotResult => four_of(ScalarKind::Uint),
+        Expression::CooperativeMultiplyAdd { c, .. } => same_type(earlier, c),
+        Expression::FunctionArgument(_)
+        | Expression::LocalVariable(_)
+        | Expression::CooperativeLoad { .. } => Err(ResolveError::NotResolvable),
+    }
+}
