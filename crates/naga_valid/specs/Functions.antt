@@ -21,6 +21,9 @@ use Rattle.naga_typing.specs.Typings.{Resolves}
 use Rattle.naga_typing.specs.declared.expression_kind.ExpressionKind.{ExpressionKind}
 use Rattle.naga_typing.specs.declared.typifier.ResolveError.{ResolveError}
 use Rattle.naga_typing.specs.declared.typifier.TypeResolution.{TypeResolution}
+use Rattle.naga_valid.specs.State.{State}
+use Rattle.naga_valid.specs.declared.function.FunctionError.{FunctionError}
+use Rattle.naga_valid.specs.declared.function.FunctionError.TheVariants.{Expression as Expression_, OutOfMemory}
 
 -- what the expressions of a function are judged by: how their types follow, what mathematical functions take, the capabilities, whether overrides must have their values, the stages that may use subgroup operations, the module, the function, and what is known of the module
 pub record FunctionSurroundings : Type 0 where
@@ -32,6 +35,19 @@ pub record FunctionSurroundings : Type 0 where
   pub «module» : Module
   pub function : Function
   pub infos : ModuleInfoLists
+
+-- those that a validator judges them by
+abbrev pub function_surroundings : {T : Type 0} → Resolves → MathTyping → State T → Bool → Module → Function → ModuleInfoLists → FunctionSurroundings
+function_surroundings resolves math state resolved m f infos = record {
+  resolves = resolves;
+  math = math;
+  capabilities = state.capabilities.0;
+  resolved = resolved;
+  subgroup_stages = state.subgroup_stages;
+  «module» = m;
+  function = f;
+  infos = infos;
+}
 
 -- what one of them is judged by, once their types and kinds are known
 abbrev pub judged_with : FunctionSurroundings → List TypeResolution → List ExpressionKind → ExpressionSurroundings
@@ -91,9 +107,10 @@ pub record IsFunctionRefusal (s : FunctionSurroundings) (place : ℕ) (source : 
   pub rules : KeepRules s types before
   pub refused : IsRefusedAt s types place source
 
--- a function is refused at this expression, and isn't accepted
-abbrev pub RefusesFunction : FunctionSurroundings → ℕ → ExpressionError → Type 0
-RefusesFunction s place source = IsFunctionRefusal s place source × ((info : FunctionInfo) → ¬ (IsFunctionAccepted s info))
+-- a function is refused with this error, and isn't accepted
+abbrev pub RefusesFunction : FunctionSurroundings → FunctionError → Type 0
+RefusesFunction s (Expression_ place source) = IsFunctionRefusal s place source × ((info : FunctionInfo) → ¬ (IsFunctionAccepted s info))
+RefusesFunction s OutOfMemory = ⊥
 
 -- each function whose result an expression of a function is has an index below this
 abbrev pub CallsBefore : Function → ℕ → Type 0

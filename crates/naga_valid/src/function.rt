@@ -1,12 +1,10 @@
 //! The expressions of a function: their types and their rules (naga's valid/function.rs).
 
-ghost use Rattle.std.specs.Prelude.{◌≡◌, ◌<◌, ◌≤◌, ℕ, All, List, length, slice_get, Some, MatchResult};
-ghost use Rattle.naga_flags.specs.declared.flags.ShaderStages as stages;
+ghost use Rattle.std.specs.Prelude.{◌≡◌, ◌≤◌, length};
+ghost use Rattle.naga_arena.specs.Memory.{UnlessOutOfMemory};
 ghost use Rattle.naga_ir.specs.Handles.{FunctionReferencesOk, HandlesAccepted};
-ghost use Rattle.naga_ir.specs.ItemReferences.{global_lists};
-ghost use Rattle.naga_typing.specs.Resolutions.{ResolutionExists};
-ghost use Rattle.naga_valid.specs.Functions.{CallsBefore, FunctionSurroundings, IsFunctionAccepted, KeepRules, RefusesFunction, common_stages};
-ghost use Rattle.naga_valid.specs.declared.function.FunctionError as error;
+ghost use Rattle.naga_valid.specs.Functions.{CallsBefore, IsFunctionAccepted, RefusesFunction, function_surroundings};
+ghost use Rattle.naga_valid.specs.steps.Functions.{AllowInCommon, CanAskRules, IsFirstBreachAs};
 
 use crate::driver::Validator;
 use bitflags::Flags;
@@ -21,7 +19,6 @@ use naga_operands::error::ExpressionError;
 use naga_typing::expression_kind::ExpressionKindTracker;
 use naga_typing::typifier::ResolveError;
 use naga_typing::typing::Typing;
-use std::alloc::Global;
 use thiserror::Error;
 
 /// Why a function is refused: naga's `FunctionError`, as far as expressions are judged.
@@ -50,6 +47,25 @@ impl From<OutOfMemory> for FunctionError {
 }
 
 impl<T: Typing> Validator<T> {
+    /// What is known of a function whose expressions have types and keep their rules: these types, in
+    /// their order, and the pipeline stages that each expression may be used by, all stages if there are
+    /// none. Naga's `Validator::validate_function` does the same before it validates the body.
+    ///
+    /// Each type follows from those before it, as `infer_types` says, and each rule is that of
+    /// `validate_expression`. The handles of the module and of the function are right, and `mod_info`
+    /// says of each type what it may be used for. It knows each function whose result is among the
+    /// expressions, so functions are judged in order, and each info is pushed to `mod_info` before the
+    /// next. The law `laws::functions` says that this can be done in a module that `validate` accepts.
+    ///
+    /// It takes memory for the types and the kinds of the expressions. The cost is linear in their number,
+    /// beside what `validate_expression` says of each.
+    ///
+    /// # Errors
+    ///
+    /// - `Expression` for the first expression that breaks its rule, with the error of its rule, or that
+    ///   keeps it and has no type, with `ExpressionError::Type_`. Such a function isn't accepted with any
+    ///   types.
+    /// - `OutOfMemory` if memory was refused.
     pub fn validate_function_expressions(
         &self,
         module: &Module,
@@ -57,11 +73,18 @@ impl<T: Typing> Validator<T> {
         function: &Function,
         overrides_resolved: bool,
     ) -> Result<FunctionInfo, FunctionError>
+        requires handles { HandlesAccepted «module».now }
+        requires in_function { FunctionReferencesOk «module».now function.now }
+        requires flags { length «module».now.types ≤ length mod_info.now.lists.type_flags }
+        requires calls { CallsBefore function.now (length mod_info.now.lists.functions) }
+        ensures { UnlessOutOfMemory (λ e. e ≡ FunctionError.OutOfMemory) result
+            (λ info. IsFunctionAccepted (function_surroundings (T.resolves self.now.typing) (record { accepts = T.accepts_types self.now.typing; least_arguments = T.least_arguments self.now.typing }) self.now overrides_resolved «module».now function.now mod_info.now.lists) info)
+            (λ e. RefusesFunction (function_surroundings (T.resolves self.now.typing) (record { accepts = T.accepts_types self.now.typing; least_arguments = T.least_arguments self.now.typing }) self.now overrides_resolved «module».now function.now mod_info.now.lists) e) }
     {
         match infer_types(self.alloc, module, function, &self.typing) {
             Ok(mut info) => {
-                let stages = self.validate_rules(module, mod_info, function, &info, overrides_resolved)?;
-                info.available_stages = stages;
+                info.available_stages =
+                    self.validate_rules(module, mod_info, function, &info, overrides_resolved)?;
                 Ok(info)
             }
             Err(UntypedExpression {
@@ -82,6 +105,10 @@ impl<T: Typing> Validator<T> {
 
     /// Asks the rule of each expression in order, up to the first without a type, and returns the
     /// stages that may use all of these.
+    ///
+    /// # Errors
+    ///
+    /// The first expression that breaks its rule, or `OutOfMemory`.
     fn validate_rules(
         &self,
         module: &Module,
@@ -90,6 +117,10 @@ impl<T: Typing> Validator<T> {
         info: &FunctionInfo,
         overrides_resolved: bool,
     ) -> Result<ShaderStages, FunctionError>
+        requires { CanAskRules (function_surroundings (T.resolves self.now.typing) (record { accepts = T.accepts_types self.now.typing; least_arguments = T.least_arguments self.now.typing }) self.now overrides_resolved «module».now function.now mod_info.now.lists) info.now.types }
+        ensures { UnlessOutOfMemory (λ e. e ≡ FunctionError.OutOfMemory) result
+            (λ common. AllowInCommon (function_surroundings (T.resolves self.now.typing) (record { accepts = T.accepts_types self.now.typing; least_arguments = T.least_arguments self.now.typing }) self.now overrides_resolved «module».now function.now mod_info.now.lists) info.now.types common)
+            (λ e. IsFirstBreachAs (function_surroundings (T.resolves self.now.typing) (record { accepts = T.accepts_types self.now.typing; least_arguments = T.least_arguments self.now.typing }) self.now overrides_resolved «module».now function.now mod_info.now.lists) info.now.types e) }
     {
         let kinds = ExpressionKindTracker::from_arena(self.alloc, &function.expressions)?;
         let mut stages = ShaderStages::all();
