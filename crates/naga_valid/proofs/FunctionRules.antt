@@ -3,18 +3,18 @@ use Rattle.std.proofs.Common.{◌≡◌, ◌⊎◌, ◌<◌, ◌≤◌, ◌+◌,
 use Rattle.std.specs.List.{enumerate_from}
 use Rattle.std.specs.Prelude.{bit_and, fold, map, option_map}
 use Rattle.std.proofs.Math.Nat.{eq-or-lt_of_le}
-use Rattle.std.proofs.lemmas.List.{map-append}
+use Rattle.std.proofs.lemmas.List.{length-take-le, map-append}
 use Rattle.std.proofs.lemmas.List.Elements.{All-contains}
 use Rattle.std.proofs.lemmas.List.Sums.{fold-append}
 use Rattle.std.proofs.lemmas.Option.{same_Some, slice_get_within}
 use Rattle.naga_arena.proofs.Elements.{all-of}
-use Rattle.naga_arena.proofs.InOrder.{accepted_once, found_at, get_stays, refused_not_accepted}
+use Rattle.naga_arena.proofs.InOrder.{accepted_once, found_at, get_before, get_stays, refused_not_accepted}
 use Rattle.naga_arena.proofs.Progress.{slice_get-seam}
 use Rattle.naga_arena.specs.InOrder.{FollowInOrder, IsFirstRefusalInOrder, given_at}
 use Rattle.naga_exprs.specs.ExpressionRule.{IsExpressionResult, IsMeant}
 use Rattle.naga_flags.specs.Bits.{all_stages}
 use Rattle.naga_flags.specs.declared.flags.ShaderStages.{ShaderStages}
-use Rattle.naga_infos.specs.FunctionTypes.{AreFunctionTypes, function_resolves, type_in_order, type_of_argument}
+use Rattle.naga_infos.specs.FunctionTypes.{AreFunctionTypes, AreTypesBefore, IsUntyped, function_resolves, type_in_order, type_of_argument}
 use Rattle.naga_infos.specs.declared.module_info.FunctionInfo.{FunctionInfo}
 use Rattle.naga_ir.proofs.ReferredTo.{within_all}
 use Rattle.naga_ir.specs.Handles.{Exists, FunctionReferencesOk, function_counts, own_operand}
@@ -38,8 +38,8 @@ use Rattle.naga_typing.specs.declared.typifier.TypeResolution.{TypeResolution}
 use Rattle.naga_valid.proofs.Meanings.{allows, not_both, refuses}
 use Rattle.naga_valid.specs.Functions.{AreTypesReached, FunctionSurroundings, IsFirstUntyped, IsFunctionAccepted, IsFunctionRefusal, IsMeantAt, IsRefusedAt, KeepRules, RefusesFunction, breaks_rule, common_stages, has_no_type, judged_with}
 use Rattle.naga_valid.specs.declared.function.FunctionError.{FunctionError}
-use Rattle.naga_valid.specs.declared.function.FunctionError.TheVariants.{Expression as Expression_}
-use Rattle.naga_valid.specs.steps.Functions.{AllowInCommon, CanAskRules, IsFirstBreach}
+use Rattle.naga_valid.specs.declared.function.FunctionError.TheVariants.{Expression as Expression_, OutOfMemory}
+use Rattle.naga_valid.specs.steps.Functions.{AllowInCommon, CanAskRules, IsFirstBreach, IsFirstBreachAs}
 
 -- an argument that has a type exists
 argument_there : (arguments : List FunctionArgument) (i : ℕ) (found : Option FunctionArgument) (ty : TypeResolution) → slice_get arguments i ≡ found → type_of_argument found ≡ Ok ty → i < length arguments
@@ -232,3 +232,43 @@ module _ (s : FunctionSurroundings) where
           let last = found_at allow.stages (length info.types) beyond in
           let meant = allow.rules (length info.types) last.0 last.1 in
           absurd (omega (arith, slice_get_within f.expressions (length info.types) meant.0 meant.2, types.as_many))
+
+  -- this as an error
+  pub breach_as_refuses : (types : List TypeResolution) (e : FunctionError) → AreTypesReached s types → IsFirstBreachAs s types e → RefusesFunction s e
+  breach_as_refuses types (Expression_ place source) reached first = breach_refuses types place source reached first
+  breach_as_refuses types OutOfMemory reached first = absurd first
+
+  pub first_untyped : (types : List TypeResolution) (place : ℕ) (error : ResolveError) → AreTypesBefore s.resolves m f place types → IsUntyped s.resolves m f place types error → IsFirstUntyped s types error
+  first_untyped types place error before untyped = subst (λ n. AreTypesBefore s.resolves m f n types × IsUntyped s.resolves m f n types error) (sym before.as_many) (before, untyped)
+
+  -- the first expressions of some that keep their rules
+  fewer_kept : (types : List TypeResolution) (stages : List ShaderStages) (n : ℕ) → n ≤ length stages → KeepRules s types stages → KeepRules s types (take n stages)
+  fewer_kept types stages n within rules place allowed at =
+      let before : place < n = omega (arith, slice_get_within (take n stages) place allowed at, length-take-le n stages within) in
+      rules place allowed (sym (get_before stages n place before) ∙ at)
+
+  -- the first expression without a type refuses the function, if it and all before it keep their rules
+  pub untyped_refuses : (types : List TypeResolution) (place : ℕ) (error : ResolveError) (common : ShaderStages)
+      → length types ≡ place → IsFirstUntyped s types error → AllowInCommon s types common → RefusesFunction s (Expression_ place (refusal.Type_ error))
+  untyped_refuses types place error common same untyped allow = (
+    record {
+      types = types;
+      reached = inr (error, untyped);
+      typed = omega (arith, same);
+      before = take (length types) allow.stages;
+      as_many = length-take-le (length types) allow.stages (omega (arith, within)) ∙ same;
+      rules = fewer_kept types allow.stages (length types) (omega (arith, within)) allow.rules;
+      refused = has_no_type last.0 error (subst (λ n. IsMeantAt s types n (allows last.0)) same (allow.rules (length types) last.0 last.1)) same untyped;
+    },
+    untyped_not_accepted types error untyped,
+  )
+    where
+      asked : (length allow.stages ≡ length f.expressions) ⊎ (length types < length allow.stages) → length types < length allow.stages
+      asked (inl all) = omega (arith, all, untyped.0.within)
+      asked (inr beyond) = beyond
+
+      within : length types < length allow.stages
+      within = asked allow.enough
+
+      last : (st : ShaderStages) × (slice_get allow.stages (length types) ≡ Some st)
+      last = found_at allow.stages (length types) within

@@ -83,19 +83,28 @@ impl<T: Typing> Validator<T> {
     {
         match infer_types(self.alloc, module, function, &self.typing) {
             Ok(mut info) => {
-                info.available_stages =
-                    self.validate_rules(module, mod_info, function, &info, overrides_resolved)?;
+                info.available_stages = self.validate_rules(
+                    module,
+                    mod_info,
+                    function,
+                    &info,
+                    overrides_resolved,
+                )?;
                 Ok(info)
             }
-            Err(UntypedExpression {
-                error: ResolveError::OutOfMemory,
-                ..
-            }) => Err(FunctionError::OutOfMemory),
-            Err(UntypedExpression {
-                info,
-                handle,
-                error,
-            }) => {
+            Err(
+                UntypedExpression {
+                    error: ResolveError::OutOfMemory,
+                    ..
+                },
+            ) => Err(FunctionError::OutOfMemory),
+            Err(
+                UntypedExpression {
+                    info,
+                    handle,
+                    error,
+                },
+            ) => {
                 self.validate_rules(module, mod_info, function, &info, overrides_resolved)?;
                 let source = ExpressionError::from(error);
                 Err(FunctionError::Expression { handle, source })
