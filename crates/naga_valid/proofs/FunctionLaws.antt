@@ -1,5 +1,5 @@
 -- The functions of accepted modules can be judged in order.
-use Rattle.std.proofs.Common.{◌≡◌, ◌<◌, ◌≤◌, ◌++◌, ◌∙◌, ℕ, All, Contains, List, [], ◌∷◌, Some, length, map, slice_get, refl, sym, ap, subst, arith}
+use Rattle.std.proofs.Common.{◌≡◌, ◌≤◌, ◌∙◌, ℕ, All, Contains, List, Some, length, slice_get, refl, ap, arith}
 use Rattle.std.specs.List.{flat_map}
 use Rattle.std.proofs.lemmas.List.{length-map}
 use Rattle.std.proofs.lemmas.List.Elements.{All-contains, Contains-append_left, Contains-append_right}
@@ -15,7 +15,6 @@ use Rattle.naga_ir.specs.declared.expression.Expression.TheVariants as form
 use Rattle.naga_ir.specs.declared.ir.EntryPoint.{EntryPoint}
 use Rattle.naga_ir.specs.declared.ir.Function.{Function}
 use Rattle.naga_ir.specs.declared.ir.Module.{Module}
-use Rattle.naga_ir.specs.declared.reference.Reference.{Reference}
 use Rattle.naga_ir.specs.declared.reference.Reference.TheVariants as to
 use Rattle.naga_types.proofs.LayoutParts.{contains-place}
 use Rattle.naga_types.specs.declared.info.TypeInfo.{TypeInfo}

@@ -1,5 +1,5 @@
 -- Asking the rules of a function's expressions in order, and what follows from what they say.
-use Rattle.std.proofs.Common.{◌≡◌, ◌⊎◌, ◌<◌, ◌≤◌, ◌+◌, ◌∙◌, ⊎_elim, ℕ, All, Contains, List, [], ◌∷◌, ◌++◌, Option, Some, None, Result, Ok, Err, inl, inr, length, slice_get, take, refl, sym, ap, subst, arith, length-append}
+use Rattle.std.proofs.Common.{◌≡◌, ◌⊎◌, ◌<◌, ◌≤◌, ◌∙◌, ⊎_elim, ℕ, Contains, List, [], ◌∷◌, ◌++◌, Option, Some, None, Result, Ok, Err, inl, inr, length, slice_get, take, refl, sym, ap, subst, arith, length-append}
 use Rattle.std.specs.List.{enumerate_from}
 use Rattle.std.specs.Prelude.{bit_and, fold, map, option_map}
 use Rattle.std.proofs.Math.Nat.{eq-or-lt_of_le}
@@ -17,7 +17,7 @@ use Rattle.naga_flags.specs.declared.flags.ShaderStages.{ShaderStages}
 use Rattle.naga_infos.specs.FunctionTypes.{AreFunctionTypes, AreTypesBefore, IsUntyped, function_resolves, type_in_order, type_of_argument}
 use Rattle.naga_infos.specs.declared.module_info.FunctionInfo.{FunctionInfo}
 use Rattle.naga_ir.proofs.ReferredTo.{within_all}
-use Rattle.naga_ir.specs.Handles.{Exists, FunctionReferencesOk, function_counts, own_operand}
+use Rattle.naga_ir.specs.Handles.{Exists, function_counts, own_operand}
 use Rattle.naga_ir.specs.ItemReferences.{expression_references}
 use Rattle.naga_ir.specs.References.{operands}
 use Rattle.naga_ir.specs.declared.expression.Expression.{Expression}
@@ -26,7 +26,7 @@ use Rattle.naga_ir.specs.declared.ir.Function.{Function}
 use Rattle.naga_ir.specs.declared.ir.FunctionArgument.{FunctionArgument}
 use Rattle.naga_ir.specs.declared.ir.Module.{Module}
 use Rattle.naga_operands.specs.Results.{IsReturned}
-use Rattle.naga_operands.specs.Surroundings.{ArgumentsExist, CanJudge}
+use Rattle.naga_operands.specs.Surroundings.{CanJudge}
 use Rattle.naga_operands.specs.declared.error.ExpressionError.{ExpressionError}
 use Rattle.naga_operands.specs.declared.error.ExpressionError.TheVariants as refusal
 use Rattle.naga_typing.proofs.Iteration.{Iterating, accepts_all, all_counted, begin, next_index, next_item, one_more}
@@ -36,7 +36,7 @@ use Rattle.naga_typing.specs.declared.expression_kind.ExpressionKind.{Expression
 use Rattle.naga_typing.specs.declared.typifier.ResolveError.{ResolveError}
 use Rattle.naga_typing.specs.declared.typifier.TypeResolution.{TypeResolution}
 use Rattle.naga_valid.proofs.Meanings.{allows, not_both, refuses}
-use Rattle.naga_valid.specs.Functions.{AreTypesReached, FunctionSurroundings, IsFirstUntyped, IsFunctionAccepted, IsFunctionRefusal, IsMeantAt, IsRefusedAt, KeepRules, RefusesFunction, breaks_rule, common_stages, has_no_type, judged_with}
+use Rattle.naga_valid.specs.Functions.{AreTypesReached, FunctionSurroundings, IsFirstUntyped, IsFunctionAccepted, IsMeantAt, KeepRules, RefusesFunction, breaks_rule, common_stages, has_no_type, judged_with}
 use Rattle.naga_valid.specs.declared.function.FunctionError.{FunctionError}
 use Rattle.naga_valid.specs.declared.function.FunctionError.TheVariants.{Expression as Expression_, OutOfMemory}
 use Rattle.naga_valid.specs.steps.Functions.{AllowInCommon, CanAskRules, IsFirstBreach, IsFirstBreachAs}

@@ -7,7 +7,7 @@ use Rattle.naga_exprs.specs.ExpressionRule.{IsMeant}
 use Rattle.naga_flags.specs.declared.flags.ShaderStages.{ShaderStages}
 use Rattle.naga_image_exprs.specs.Coordinates.{bad_layer, is_integer_scalar}
 use Rattle.naga_image_exprs.specs.Resources.{and_then}
-use Rattle.naga_image_exprs.specs.Samples.{IsImageSampleMeant, bad_clamp, bad_class, bad_comparison, bad_coordinate, bad_depth_reference, bad_external, bad_gather, bad_level, bad_offset, can_clamp, level_stages, sample_conditions, sampled}
+use Rattle.naga_image_exprs.specs.Samples.{IsImageSampleMeant, bad_clamp, bad_class, bad_comparison, bad_coordinate, bad_depth_reference, bad_external, bad_gather, bad_level, bad_offset, level_stages, sample_conditions, sampled}
 use Rattle.naga_image_exprs.specs.declared.resource.ImageType.{ImageType}
 use Rattle.naga_image_exprs.specs.declared.sample.Sample.{Sample}
 use Rattle.naga_ir.specs.ItemReferences.{global_lists}

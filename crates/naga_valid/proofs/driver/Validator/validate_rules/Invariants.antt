@@ -1,5 +1,3 @@
-use Rattle.std.proofs.Common.{◌≡◌}
-use Rattle.naga_typing.specs.Kinds.{AreKinds}
 use Rattle.naga_valid.proofs.FunctionRules.{Asked}
 use Rattle.naga_valid.proofs.driver.Validator.validate_rules.Given as goal
 use Rattle.naga_valid.specs.Functions.{function_surroundings}
