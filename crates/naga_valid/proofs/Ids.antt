@@ -1,5 +1,5 @@
 -- The numbers of the overrides so far.
-use Rattle.std.proofs.Common.{◌≡◌, ◌+◌, ◌<◌, ◌==◌, ◌||◌, ⊎_elim, ℕ, Bool, true, false, not, List, Option, Some, None, get_or, length, take, slice_get, unwrap_or, refl, sym, ap, subst, ◌∙◌, arith}
+use Rattle.std.proofs.Common.{◌≡◌, ◌+◌, ◌<◌, ◌==◌, ◌||◌, ⊎_elim, ℕ, Bool, true, false, not, List, Option, Some, None, get_or, length, take, slice_get, unwrap_or, refl, sym, ap, ◌∙◌, arith}
 use Rattle.std.specs.List.{list_any}
 use Rattle.std.specs.Option.{option_map}
 use Rattle.std.proofs.Math.Bool.{or-false, or_comm}

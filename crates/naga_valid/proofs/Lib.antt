@@ -1,6 +1,9 @@
 mod FirstErrors
+mod FunctionLaws
+mod FunctionRules
 mod Ids
 mod Judging
+mod Meanings
 mod ModuleLaws
 mod OverrideValues
 mod Referred

@@ -1,5 +1,5 @@
 -- What is accepted if overrides have to have their values is accepted too if they needn't.
-use Rattle.std.proofs.Common.{◌≡◌, [], ◌∷◌, ◌++◌, ℕ, Bool, true, false, not, List, Option, Some, None, Result, Ok, Err, All, IsOk, ap, map, refl, subst, take}
+use Rattle.std.proofs.Common.{◌≡◌, [], ◌∷◌, ◌++◌, ℕ, Bool, true, false, not, List, Option, Some, None, Result, Ok, Err, All, IsOk, ap, refl, subst, take}
 use Rattle.std.specs.List.{enumerate_from}
 use Rattle.std.proofs.lemmas.List.Elements.{All-append, All-map, All-weaker}
 use Rattle.naga_arena.proofs.Elements.{all-left, all-right, all-unmap}

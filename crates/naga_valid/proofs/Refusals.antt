@@ -1,5 +1,5 @@
 -- A module that is refused isn't valid.
-use Rattle.std.proofs.Common.{◌≡◌, ℕ, List, Result, Some, Err, All, IsOk, IsTrue, inl, inr, slice_get, refl, sym, subst, ap, ◌∙◌}
+use Rattle.std.proofs.Common.{◌≡◌, ℕ, List, Result, Err, IsOk, IsTrue, inl, inr, slice_get, refl, sym, subst, ap, ◌∙◌}
 use Rattle.naga_arena.proofs.Elements.{all_at}
 use Rattle.naga_arena.proofs.InOrder.{accepted_once, refused_not_accepted}
 use Rattle.naga_arena.specs.InOrder.{AllAcceptedInOrder, IsFirstRefusalInOrder}
@@ -8,18 +8,15 @@ use Rattle.naga_handles.specs.declared.error.ValidationFault.{ValidationFault}
 use Rattle.naga_ir.specs.Handles.{HandlesAccepted}
 use Rattle.naga_ir.specs.ItemReferences.{global_lists}
 use Rattle.naga_ir.specs.declared.ir.Module.{Module}
-use Rattle.naga_infos.specs.declared.error.ConstExpressionError.TheVariants.{Type_ as Unresolved}
 use Rattle.naga_types.specs.AcceptedTypes.{types_rule}
 use Rattle.naga_types.specs.declared.error.TypeError.{TypeError}
 use Rattle.naga_types.specs.declared.info.TypeInfo.{TypeInfo}
 use Rattle.naga_typing.proofs.Layouts.{layouts_once}
-use Rattle.naga_typing.specs.Kinds.{AreKinds, kind_in_order}
+use Rattle.naga_typing.specs.Kinds.{kind_in_order}
 use Rattle.naga_typing.specs.Layout.{layout_results}
 use Rattle.naga_typing.specs.Typings.{Resolves, resolve_in_order}
-use Rattle.naga_typing.specs.declared.expression_kind.ExpressionKind.{ExpressionKind}
 use Rattle.naga_typing.specs.declared.layouter.LayoutError.{LayoutError}
 use Rattle.naga_typing.specs.declared.layouter.TypeLayout.{TypeLayout}
-use Rattle.naga_typing.specs.declared.typifier.TypeResolution.{TypeResolution}
 use Rattle.naga_valid.specs.Accepted.{AreValidTypes, IsEarlyRefusal, IsKnown, IsLayoutRefusal, IsTypeRefusal, IsValid, Refuses, checks_values, lists_of}
 use Rattle.naga_valid.specs.Faults.{error_of}
 use Rattle.naga_valid.specs.State.{Facts, Settings}

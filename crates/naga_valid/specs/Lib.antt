@@ -3,9 +3,12 @@
 -- Accepted.IsRefusal: a fault of its handles, else the first refusal of its layouts, its types, the types of its global expressions, and its values
 -- Accepted.Accepts, Refuses: what validate says of a module that it accepts, and of one that it refuses
 -- Values.constant_rule, override_rule, value_results: the rules of constants and overrides, and of all values of a module
+-- Functions.IsFunctionAccepted, IsFunctionRefusal, RefusesFunction: when the expressions of a function are accepted, what is known of it then, and the first that is refused
+-- Functions.CanJudgeInOrder: what a module's functions need for that
 -- State.State, Settings, fresh: what a validator keeps from call to call, and begins with
 pub mod Accepted
 pub mod Faults
+pub mod Functions
 pub mod State
 pub mod Values
 pub mod steps

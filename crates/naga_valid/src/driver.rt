@@ -58,12 +58,12 @@ use std::marker::Model;
 /// infos of the types of the module last accepted.
 #[derive(Drop)]
 pub struct Validator<T = PlainTyping> {
-    alloc: Global,
+    pub(super) alloc: Global,
     flags: ValidationFlags,
     capabilities: Capabilities,
     subgroup_stages: ShaderStages,
     subgroup_operations: SubgroupOperationSet,
-    typing: T,
+    pub(super) typing: T,
     infos: TypeInfos,
     layouter: Layouter,
     override_ids: OverrideIds,

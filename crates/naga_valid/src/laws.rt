@@ -9,15 +9,18 @@
 //! The leaves of a value are its scalars, vectors, matrices and atomics, at any depth of arrays and
 //! structs. Each is named by the indices of the elements and members that lead to it.
 
-ghost use Rattle.std.specs.Prelude.{◌+◌, ◌*◌, ℕ, IfSome, slice_get};
+ghost use Rattle.std.specs.Prelude.{◌+◌, ◌*◌, ◌≤◌, ℕ, IfSome, length, slice_get};
+ghost use Rattle.naga_ir.specs.Handles.{HandlesAccepted};
 ghost use Rattle.naga_ir.specs.ItemReferences.{global_lists};
 ghost use Rattle.naga_types.specs.HostLayouts.{HasStorageByLeaves, HasUniformByLeaves, HaveLeafAlignments, IsForHosts, MembersHaveFlags};
 ghost use Rattle.naga_types.specs.HostLeaves.{IsLaidOutForHosts, resolved_for_hosts, sized_for_hosts};
 ghost use Rattle.naga_typing.specs.Leaves.{AreSeparate, EndsInArray, size_at_index};
-ghost use Rattle.naga_valid.specs.Accepted.{AreValidTypes};
+ghost use Rattle.naga_valid.specs.Accepted.{Accepts, AreValidTypes};
+ghost use Rattle.naga_valid.specs.Functions.{CanJudgeInOrder};
 ghost use Rattle.naga_valid.specs.State.{settings_of};
 
 use crate::driver::Validator;
+use naga_infos::module_info::ModuleInfo;
 use naga_ir::handle::Handle;
 use naga_ir::ir::Module;
 use naga_ir::tags::TypeTag;
@@ -121,4 +124,20 @@ pub fn struct_flags<T: Typing>(
 )
     requires accepted { AreValidTypes «module».now (settings_of validator.now resolved) validator.now.infos }
     ensures { IfSome (slice_get validator.now.infos ty) (λ info. MembersHaveFlags (global_lists «module».now) validator.now.infos ty info) }
+{}
+
+/// The functions of an accepted module can be judged by `Validator::validate_function_expressions`, in
+/// order, each once the infos of all functions before it are pushed to what `validate` returned, and its
+/// entry points once those of all functions are. `mod_info` is what `validate` returned; a push of
+/// functions or entry points leaves the flags of types as they are.
+pub fn functions<T: Typing>(
+    module: &Module,
+    validator: &Validator<T>,
+    resolved: bool,
+    mod_info: &ModuleInfo,
+)
+    requires accepted { Accepts (T.resolves validator.now.typing) «module».now (settings_of validator.now resolved) validator.now.infos mod_info.now.lists }
+    ensures handles { HandlesAccepted «module».now }
+    ensures flags { length «module».now.types ≤ length mod_info.now.lists.type_flags }
+    ensures in_order { CanJudgeInOrder «module».now }
 {}

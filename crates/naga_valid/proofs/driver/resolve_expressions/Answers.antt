@@ -1,4 +1,4 @@
-use Rattle.std.proofs.Common.{rules, ◌≡◌, ◌∙◌, [], ◌∷◌, ◌++◌, List, All, Some, Ok, Err, inr, length, slice_get, refl, ap, sym, subst}
+use Rattle.std.proofs.Common.{rules, ◌≡◌, ◌∙◌, [], ◌∷◌, ◌++◌, List, Some, Ok, Err, inr, length, slice_get, refl, ap, sym, subst}
 use Rattle.std.proofs.lemmas.List.Elements.{All-weaker}
 use Rattle.std.proofs.lemmas.Option.{slice_get_within}
 use Rattle.naga_arena.proofs.InOrder.{none_follow, one_more_follows}
@@ -11,7 +11,6 @@ use Rattle.naga_typing.proofs.ExpressionTypes.{all_resolved, can_resolve_next, i
 use Rattle.naga_typing.specs.PlainLaws.{types_exist}
 use Rattle.naga_typing.specs.Resolutions.{ResolutionExists, TypesExist}
 use Rattle.naga_typing.specs.Typings.{CanResolve, resolve_in_order}
-use Rattle.naga_typing.specs.declared.typifier.ResolveError.TheVariants.{OutOfMemory}
 use Rattle.naga_typing.specs.declared.typifier.TypeResolution.{TypeResolution}
 use Rattle.naga_valid.specs.declared.error.ValidationError.{ValidationError}
 use Rattle.naga_valid.specs.declared.error.ValidationError.TheVariants.{ConstExpression}

@@ -6,7 +6,6 @@ use Rattle.naga_valid.proofs.Ids.{none_noted, one_checked}
 use Rattle.naga_valid.proofs.Judging.{accepted_unless, all_accepted, begin, first_refused, next_index, next_item, one_more}
 use Rattle.naga_valid.proofs.Referred.{override-initialiser, override-type}
 use Rattle.naga_valid.specs.Values.{is_taken, override_result, override_rule, reported, results_of, shown_name}
-use Rattle.naga_valid.specs.declared.error.OverrideError.{OverrideError}
 use Rattle.naga_valid.specs.declared.error.ValidationError.{ValidationError}
 use Rattle.naga_valid.specs.declared.error.ValidationError.TheVariants.{Override}
 use Rattle.naga_valid.proofs.values.validate_overrides.Goals as goal

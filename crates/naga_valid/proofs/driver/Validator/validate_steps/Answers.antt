@@ -1,4 +1,4 @@
-use Rattle.std.proofs.Common.{rules, ◌≡◌, ◌∙◌, ⊎_elim, List, Result, All, IsOk, IsTrue, inl, inr, ap, refl, subst, sym}
+use Rattle.std.proofs.Common.{rules, ◌≡◌, ◌∙◌, ⊎_elim, List, Result, IsTrue, inl, inr, ap, subst}
 use Rattle.std.proofs.lemmas.Result.{err_from_is_err_and}
 use Rattle.naga_arena.specs.Span.{inner_of}
 use Rattle.naga_infos.specs.ModuleInfo.{ModuleInfoLists}

@@ -1,4 +1,4 @@
-use Rattle.std.proofs.Common.{rules, ◌≡◌, ◌≤◌, IsOk, [], length, ap, vec_len, arith}
+use Rattle.std.proofs.Common.{rules, ◌≡◌, IsOk, length, vec_len, arith}
 use Rattle.naga_valid.proofs.Ids.{none-of-false}
 use Rattle.naga_valid.specs.steps.Ids.{id_count}
 use Rattle.naga_valid.proofs.override_ids.OverrideIds.clear.Goals as goal

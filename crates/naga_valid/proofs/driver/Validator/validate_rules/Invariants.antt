@@ -1,0 +1,10 @@
+use Rattle.naga_valid.proofs.FunctionRules.{Asked}
+use Rattle.naga_valid.proofs.driver.Validator.validate_rules.Given as goal
+use Rattle.naga_valid.specs.Functions.{function_surroundings}
+
+-- the expressions so far keep their rules
+abbrev pub invariant-loop-handle : goal.invariant-loop-handle
+invariant-loop-handle g l =
+    Asked
+    (function_surroundings (g.T.Typing.resolves l.self.typing) (record { accepts = g.T.Typing.accepts_types l.self.typing; least_arguments = g.T.Typing.least_arguments l.self.typing }) l.self l.overrides_resolved l.module l.function l.mod_info.lists)
+    l.info.types l.stages l.handle-iterator

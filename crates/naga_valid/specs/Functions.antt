@@ -1,0 +1,127 @@
+-- Which functions are accepted, as far as their expressions say, and how the others are refused.
+use Rattle.std.specs.Prelude.{◌≡◌, ◌⊎◌, ◌<◌, ◌≤◌, ℕ, Bool, List, Result, Ok, Err, Some, bit_and, fold, length, map, slice_get}
+use Rattle.naga_flags.specs.Bits.{all_stages}
+use Rattle.naga_flags.specs.declared.flags.ShaderStages.{ShaderStages}
+use Rattle.naga_exprs.specs.ExpressionRule.{IsMeant}
+use Rattle.naga_infos.specs.FunctionTypes.{AreFunctionTypes, AreTypesBefore, IsUntyped}
+use Rattle.naga_infos.specs.ModuleInfo.{ModuleInfoLists}
+use Rattle.naga_infos.specs.declared.module_info.FunctionInfo.{FunctionInfo}
+use Rattle.naga_ir.specs.Handles.{FunctionReferencesOk}
+use Rattle.naga_ir.specs.declared.expression.Expression.{Expression}
+use Rattle.naga_ir.specs.declared.expression.Expression.TheVariants as form
+use Rattle.naga_ir.specs.declared.ir.EntryPoint.{EntryPoint}
+use Rattle.naga_ir.specs.declared.ir.Function.{Function}
+use Rattle.naga_ir.specs.declared.ir.Module.{Module}
+use Rattle.naga_math_exprs.specs.Math.{MathTyping}
+use Rattle.naga_operands.specs.Surroundings.{ExpressionSurroundings}
+use Rattle.naga_operands.specs.declared.error.ExpressionError.{ExpressionError}
+use Rattle.naga_operands.specs.declared.error.ExpressionError.TheVariants.{Type_}
+use Rattle.naga_typing.specs.Kinds.{AreKinds}
+use Rattle.naga_typing.specs.Typings.{Resolves}
+use Rattle.naga_typing.specs.declared.expression_kind.ExpressionKind.{ExpressionKind}
+use Rattle.naga_typing.specs.declared.typifier.ResolveError.{ResolveError}
+use Rattle.naga_typing.specs.declared.typifier.TypeResolution.{TypeResolution}
+use Rattle.naga_valid.specs.State.{State}
+use Rattle.naga_valid.specs.declared.function.FunctionError.{FunctionError}
+use Rattle.naga_valid.specs.declared.function.FunctionError.TheVariants.{Expression as Expression_, OutOfMemory}
+
+-- what the expressions of a function are judged by: how their types follow, what mathematical functions take, the capabilities, whether overrides must have their values, the stages that may use subgroup operations, the module, the function, and what is known of the module
+pub record FunctionSurroundings : Type 0 where
+  pub resolves : Resolves
+  pub math : MathTyping
+  pub capabilities : ℕ
+  pub resolved : Bool
+  pub subgroup_stages : ShaderStages
+  pub «module» : Module
+  pub function : Function
+  pub infos : ModuleInfoLists
+
+-- those that a validator judges them by
+abbrev pub function_surroundings : {T : Type 0} → Resolves → MathTyping → State T → Bool → Module → Function → ModuleInfoLists → FunctionSurroundings
+function_surroundings resolves math state resolved m f infos = record {
+  resolves = resolves;
+  math = math;
+  capabilities = state.capabilities.0;
+  resolved = resolved;
+  subgroup_stages = state.subgroup_stages;
+  «module» = m;
+  function = f;
+  infos = infos;
+}
+
+-- what one of them is judged by, once their types and kinds are known
+abbrev pub judged_with : FunctionSurroundings → List TypeResolution → List ExpressionKind → ExpressionSurroundings
+judged_with s types kinds = record {
+  capabilities = s.capabilities;
+  resolved = s.resolved;
+  subgroup_stages = s.subgroup_stages;
+  «module» = s.«module»;
+  function = s.function;
+  types = types;
+  infos = s.infos;
+  kinds = kinds;
+}
+
+-- by these types, this is what the rule of the expression at a place says
+abbrev pub IsMeantAt : FunctionSurroundings → List TypeResolution → ℕ → Result ShaderStages ExpressionError → Type 0
+IsMeantAt s types place meant =
+    (x : Expression) × (kinds : List ExpressionKind) × (slice_get s.function.expressions place ≡ Some x) × AreKinds s.function.expressions kinds × IsMeant s.math (judged_with s types kinds) x meant
+
+-- as many of the first expressions keep their rules, and these are the stages that may use each
+abbrev pub KeepRules : FunctionSurroundings → List TypeResolution → List ShaderStages → Type 0
+KeepRules s types stages = (place : ℕ) (allowed : ShaderStages) → slice_get stages place ≡ Some allowed → IsMeantAt s types place (Ok allowed)
+
+-- the stages that are in each of some sets of stages
+abbrev pub common_stages : List ShaderStages → ShaderStages
+common_stages stages = record { 0 = fold bit_and all_stages (map (λ (allowed : ShaderStages). allowed.0) stages) }
+
+-- a function is accepted, and this is known of it: each expression has its type and keeps its rule, and the stages that may use the function are those that may use each expression
+pub record IsFunctionAccepted (s : FunctionSurroundings) (info : FunctionInfo) : Type 0 where
+  pub types : AreFunctionTypes s.resolves s.«module» s.function info.types
+  pub stages : List ShaderStages
+  pub as_many : length stages ≡ length s.function.expressions
+  pub rules : KeepRules s info.types stages
+  pub common : info.available_stages ≡ common_stages stages
+
+-- the expression after those of these types has no type, for this reason, and is the first such
+abbrev pub IsFirstUntyped : FunctionSurroundings → List TypeResolution → ResolveError → Type 0
+IsFirstUntyped s types error =
+    AreTypesBefore s.resolves s.«module» s.function (length types) types × IsUntyped s.resolves s.«module» s.function (length types) types error
+
+-- the expressions have these types: all of them, or those before the first that has none
+abbrev pub AreTypesReached : FunctionSurroundings → List TypeResolution → Type 0
+AreTypesReached s types = AreFunctionTypes s.resolves s.«module» s.function types ⊎ ((error : ResolveError) × IsFirstUntyped s types error)
+
+-- the expression at a place is refused: its rule says so, or allows some stages, and it has no type
+pub data IsRefusedAt (s : FunctionSurroundings) (types : List TypeResolution) (place : ℕ) : ExpressionError → Type 0 where
+  breaks_rule : (source : ExpressionError) → IsMeantAt s types place (Err source) → IsRefusedAt s types place source
+  has_no_type : (allowed : ShaderStages) (error : ResolveError) → IsMeantAt s types place (Ok allowed) → length types ≡ place → IsFirstUntyped s types error → IsRefusedAt s types place (Type_ error)
+
+-- the expression at a place is the first that is refused: those before it have types and keep their rules
+pub record IsFunctionRefusal (s : FunctionSurroundings) (place : ℕ) (source : ExpressionError) : Type 0 where
+  pub types : List TypeResolution
+  pub reached : AreTypesReached s types
+  pub typed : place ≤ length types
+  pub before : List ShaderStages
+  pub as_many : length before ≡ place
+  pub rules : KeepRules s types before
+  pub refused : IsRefusedAt s types place source
+
+-- a function is refused with this error, and isn't accepted
+abbrev pub RefusesFunction : FunctionSurroundings → FunctionError → Type 0
+RefusesFunction s (Expression_ place source) = IsFunctionRefusal s place source × ((info : FunctionInfo) → ¬ (IsFunctionAccepted s info))
+RefusesFunction s OutOfMemory = ⊥
+
+-- each function whose result an expression of a function is has an index below this
+abbrev pub CallsBefore : Function → ℕ → Type 0
+CallsBefore f count = (e called : ℕ) → slice_get f.expressions e ≡ Some (form.CallResult called) → called < count
+
+-- the handles of a function are right, and so many functions have to be known before it is judged
+pub record CanJudgeFunction (m : Module) (f : Function) (count : ℕ) : Type 0 where
+  pub references : FunctionReferencesOk m f
+  pub calls : CallsBefore f count
+
+-- the functions of a module can be judged in order, each once those before it are known, and its entry points once all functions are
+pub record CanJudgeInOrder (m : Module) : Type 0 where
+  pub functions : (i : ℕ) (f : Function) → slice_get m.functions i ≡ Some f → CanJudgeFunction m f i
+  pub entry_points : (i : ℕ) (e : EntryPoint) → slice_get m.entry_points i ≡ Some e → CanJudgeFunction m e.function (length m.functions)

@@ -1,0 +1,40 @@
+-- What is known when the rules of a function's expressions are asked.
+use Rattle.std.specs.Prelude.{◌≡◌, ◌⊎◌, ◌<◌, ◌≤◌, ℕ, List, All, Err, length}
+use Rattle.naga_flags.specs.declared.flags.ShaderStages.{ShaderStages}
+use Rattle.naga_ir.specs.Handles.{FunctionReferencesOk, HandlesAccepted}
+use Rattle.naga_ir.specs.ItemReferences.{global_lists}
+use Rattle.naga_operands.specs.declared.error.ExpressionError.{ExpressionError}
+use Rattle.naga_typing.specs.Resolutions.{ResolutionExists}
+use Rattle.naga_typing.specs.declared.typifier.TypeResolution.{TypeResolution}
+use Rattle.naga_valid.specs.Functions.{AreTypesReached, CallsBefore, FunctionSurroundings, IsMeantAt, KeepRules, common_stages}
+use Rattle.naga_valid.specs.declared.function.FunctionError.{FunctionError}
+use Rattle.naga_valid.specs.declared.function.FunctionError.TheVariants.{Expression, OutOfMemory}
+
+-- the rules of a function's expressions can be asked, by these types
+pub record CanAskRules (s : FunctionSurroundings) (types : List TypeResolution) : Type 0 where
+  pub handles : HandlesAccepted s.«module»
+  pub in_function : FunctionReferencesOk s.«module» s.function
+  pub flags : length s.«module».types ≤ length s.infos.type_flags
+  pub calls : CallsBefore s.function (length s.infos.functions)
+  pub reached : AreTypesReached s types
+  pub exist : All (ResolutionExists (global_lists s.«module»)) types
+
+-- all expressions, or at least one more than have types, keep their rules, and have these stages in common
+pub record AllowInCommon (s : FunctionSurroundings) (types : List TypeResolution) (common : ShaderStages) : Type 0 where
+  pub stages : List ShaderStages
+  pub enough : (length stages ≡ length s.function.expressions) ⊎ (length types < length stages)
+  pub rules : KeepRules s types stages
+  pub are_common : common ≡ common_stages stages
+
+-- the expression at a place is the first that breaks its rule
+pub record IsFirstBreach (s : FunctionSurroundings) (types : List TypeResolution) (place : ℕ) (source : ExpressionError) : Type 0 where
+  pub typed : place ≤ length types
+  pub before : List ShaderStages
+  pub as_many : length before ≡ place
+  pub rules : KeepRules s types before
+  pub broken : IsMeantAt s types place (Err source)
+
+-- this as an error
+abbrev pub IsFirstBreachAs : FunctionSurroundings → List TypeResolution → FunctionError → Type 0
+IsFirstBreachAs s types (Expression place source) = IsFirstBreach s types place source
+IsFirstBreachAs s types OutOfMemory = ⊥
