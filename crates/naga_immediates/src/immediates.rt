@@ -1,8 +1,9 @@
 //! Which of the immediate data of a pipeline a shader uses, in slots of four bytes.
 
-ghost use Rattle.std.specs.Prelude.{◌≡◌, ℕ, ◌+◌, ◌-◌, ◌^◌, ◌<◌, ◌==◌, ◌↔◌, All, IsOk, IsTrue, MatchOption, None, Some, length, min, replicate, slice_get};
+ghost use Rattle.std.specs.Prelude.{◌≡◌, ℕ, ◌+◌, ◌-◌, ◌^◌, ◌<◌, ◌↔◌, All, IsOk, IsTrue, MatchOption, None, Some, length, min, replicate, slice_get};
+ghost use Rattle.naga_immediates.specs.SlotText as text;
 ghost use Rattle.naga_immediates.specs.Slots as spec;
-ghost use Rattle.naga_immediates.specs.Slots.{AccessesMember, AreExactly, HasSlot, SharesByte, UsesSlot, immediate_size, lists_with, slots_of_range, without};
+ghost use Rattle.naga_immediates.specs.Slots.{AccessesMember, AreExactly, HasSlot, SharesByte, UsesSlot, byte_count, immediate_size, lists_with, slot_count};
 ghost use Rattle.naga_immediates.specs.steps.SlotWalk.{Gains, KnowsNoted, byte_of};
 ghost use Rattle.naga_ir.specs.Handles.{GlobalReferencesOk, HandlesAccepted};
 ghost use Rattle.naga_ir.specs.ItemReferences.{global_lists};
@@ -19,10 +20,17 @@ use naga_ir::types::{AddressSpace, StructMember, TypeInner};
 use naga_ir::unique_arena::UniqueArena;
 use naga_typing::context::{GlobalCtx, to_ctx};
 use naga_typing::type_methods::{size, try_size};
+use std::fmt;
 use std::ops::{BitOr, BitOrAssign};
 
 /// How many slots there are.
-const SLOT_COUNT: u32 = 64;
+const SLOT_COUNT: u64 = 64;
+
+/// How many bytes a slot has.
+const SLOT_SIZE: u64 = 4;
+
+/// How many bytes all slots have.
+const BYTE_COUNT: usize = 256;
 
 /// A set of slots of the immediate data of a pipeline: naga's `ImmediateSlots`. The 256 bytes of
 /// immediate data are 64 slots, of which slot `k` has the bytes `4 * k` to `4 * k + 3`.
@@ -42,14 +50,14 @@ impl ImmediateSlots {
     /// The slots of which `size_bytes` bytes from `offset` on have a byte. If there are no bytes, that
     /// is none. Bytes from 256 on are in no slot; sums are whole numbers.
     pub fn from_range(offset: u32, size_bytes: u32) -> ImmediateSlots
-        ensures slots { AreExactly (SharesByte offset size_bytes) result }
-        ensures bits { result.0 ≡ slots_of_range offset size_bytes }
+        ensures { AreExactly (SharesByte offset size_bytes) result }
     {
         if size_bytes == 0 {
             return ImmediateSlots(0);
         }
-        let end = u64::from(offset) + u64::from(size_bytes);
-        ImmediateSlots(below((end + 3) / 4) - below(u64::from(offset) / 4))
+        let first = u64::from(offset);
+        let last = first + u64::from(size_bytes) - 1;
+        ImmediateSlots(below(last / SLOT_SIZE + 1) - below(first / SLOT_SIZE))
     }
 
     /// The slots that a value of the form `ty` uses if it begins at byte `offset`: those of which a
@@ -89,16 +97,14 @@ impl ImmediateSlots {
 
     /// Whether all slots of `other` are in this set.
     pub fn contains(self, other: ImmediateSlots) -> bool
-        ensures slots { IsTrue result ↔ ((k : ℕ) → HasSlot other k → HasSlot self k) }
-        ensures difference { result ≡ (without other.0 self.0 == 0) }
+        ensures { IsTrue result ↔ ((k : ℕ) → HasSlot other k → HasSlot self k) }
     {
         other.0 & !self.0 == 0
     }
 
     /// The slots of this set that aren't in `other`.
     pub fn difference(self, other: ImmediateSlots) -> ImmediateSlots
-        ensures slots { (k : ℕ) → HasSlot result k ↔ (HasSlot self k × ¬ (HasSlot other k)) }
-        ensures bits { result ≡ record { 0 = without self.0 other.0 } }
+        ensures { (k : ℕ) → HasSlot result k ↔ (HasSlot self k × ¬ (HasSlot other k)) }
     {
         ImmediateSlots(self.0 & !other.0)
     }
@@ -145,20 +151,70 @@ impl ImmediateSlots {
             None => ImmediateSlots::from_type(whole, 0, gctx.types, gctx),
         }
     }
+
+    /// Whether a slot is in the set.
+    fn has_slot(self, slot: u64) -> bool
+        requires { slot < slot_count }
+        ensures { result ≡ text.has_slot self slot }
+    {
+        self.0 >> slot & 1 == 1
+    }
+
+    /// Whether a run begins with a slot: it is in the set, and the one before it isn't.
+    fn begins_run(self, slot: u64) -> bool
+        requires { slot < slot_count }
+        ensures { result ≡ text.begins_run self slot }
+    {
+        self.has_slot(slot) && !(slot > 0 && self.has_slot(slot - 1))
+    }
+
+    /// The first slot from one on that isn't in the set, or the number of all slots.
+    fn end_of_run(self, first: u64) -> u64
+        ensures { result ≡ text.end_of_run self first }
+    {
+        (first..SLOT_COUNT)
+            .find(|slot| !self.has_slot(*slot))
+            .unwrap_or(SLOT_COUNT)
+    }
+}
+
+impl fmt::Display for ImmediateSlots {
+    ghost use Rattle.std.specs.Prelude.{Some};
+    ghost use Rattle.naga_immediates.specs.SlotText.{slot_text};
+
+    ghost output = { λ slots. Some (slot_text slots) };
+
+    /// Writes the maximal runs of slots, rising, each as its first byte and the byte after its last, as
+    /// `0..8, 16..20`; and `(none)` if the set is empty.
+    fn fmt<W: fmt::Write>(&self, f: &mut fmt::Formatter<W>) -> fmt::Result {
+        if self.0 == 0 {
+            return f.write_str("(none)");
+        }
+        let mut separator = "";
+        for slot in 0..SLOT_COUNT {
+            if self.begins_run(slot) {
+                let first = SLOT_SIZE * slot;
+                let end = SLOT_SIZE * self.end_of_run(slot);
+                write!(f, "{separator}{first}..{end}")?;
+                separator = ", ";
+            }
+        }
+        Ok(())
+    }
 }
 
 /// The bits of the slots before a slot, of those that there are.
 fn below(slot: u64) -> u64
-    ensures { result ≡ 2 ^ min 64 slot - 1 }
+    ensures { result ≡ 2 ^ min slot_count slot - 1 }
 {
-    if slot < u64::from(SLOT_COUNT) {
+    if slot < SLOT_COUNT {
         (1 << slot) - 1
     } else {
         u64::MAX
     }
 }
 
-/// The byte at which a member of a struct begins, if it is one of the 256 of immediate data.
+/// The byte at which a member of a struct begins, if it is one of those that slots have.
 fn member_byte(offset: u32, member: &StructMember) -> Option<u8>
     ensures { result ≡ byte_of (offset + member.now.offset) }
 {
@@ -202,18 +258,18 @@ struct Walk {
     slots: ImmediateSlots,
     /// For each byte the struct type that was the last to be walked through from there: all slots that
     /// it uses from there are among `slots`.
-    last: [Option<Handle<TypeTag>>; 256],
+    last: [Option<Handle<TypeTag>>; BYTE_COUNT],
 }
 
 impl Walk {
     /// The beginning of a walk.
     fn new() -> Walk
         ensures slots { result.slots ≡ record { 0 = 0 } }
-        ensures last { result.last ≡ replicate 256 None }
+        ensures last { result.last ≡ replicate byte_count None }
     {
         Walk {
             slots: ImmediateSlots(0),
-            last: [None; 256],
+            last: [None; BYTE_COUNT],
         }
     }
 

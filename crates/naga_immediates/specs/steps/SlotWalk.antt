@@ -1,15 +1,15 @@
 -- What the steps of `from_type` promise.
 use Rattle.std.specs.Prelude.{◌≡◌, ◌<◌, ◌⊎◌, ℕ, Option, Some, None, ltb, slice_get, if◌then◌else◌}
-use Rattle.naga_immediates.specs.Slots.{HasSlot, UsesSlot, slot_count}
+use Rattle.naga_immediates.specs.Slots.{HasSlot, UsesSlot, byte_count, slot_count}
 use Rattle.naga_immediates.specs.declared.immediates.ImmediateSlots.{ImmediateSlots}
 use Rattle.naga_immediates.specs.declared.immediates.Walk.{Walk}
 use Rattle.naga_ir.specs.ItemReferences.{GlobalLists}
 use Rattle.naga_ir_types.specs.declared.types.TypeInner.{TypeInner}
 use Rattle.naga_typing.specs.Leaves.{inner_at}
 
--- a byte of immediate data, if there is one of this number
+-- a byte that a slot has, if there is one of this number
 abbrev pub byte_of : ℕ → Option ℕ
-byte_of n = if ltb n 256 then Some n else None
+byte_of n = if ltb n byte_count then Some n else None
 
 -- a value of the type of an index uses a slot if it begins at byte `at`
 pub record TypeUses (g : GlobalLists) (t at k : ℕ) : Type 0 where
