@@ -1,4 +1,5 @@
 pub mod SlotBits
+pub mod SlotLeaves
 pub mod SlotParts
 pub mod SlotRuns
 pub mod SlotSets

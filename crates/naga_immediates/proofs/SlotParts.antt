@@ -30,7 +30,7 @@ use Rattle.naga_typing.specs.Context.{ReferencesExist}
 use Rattle.naga_typing.specs.Layout.{size_of}
 use Rattle.naga_typing.specs.Leaves.{inner_at}
 
-contains_at : {X : Type 0} (xs : List X) (j : ℕ) (x : X) → slice_get xs j ≡ Some x → Contains xs x
+pub contains_at : {X : Type 0} (xs : List X) (j : ℕ) (x : X) → slice_get xs j ≡ Some x → Contains xs x
 contains_at xs j x at = (j, slice_get_within xs j x at, get_or_from_slice_get xs j x x at)
 
 module _ (g : GlobalLists) where
