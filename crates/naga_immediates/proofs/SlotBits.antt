@@ -22,6 +22,10 @@ bit_cases zero h = inl refl
 bit_cases (suc zero) h = inr refl
 bit_cases (suc (suc x)) h = absurd (omega arith)
 
+-- two bits are the same if one is 1 exactly if the other is
+pub same_bit : (x y : ℕ) → x < 2 → y < 2 → (x ≡ 1 → y ≡ 1) → (y ≡ 1 → x ≡ 1) → x ≡ y
+same_bit x y h h′ there back = ⊎_elim (λ none. ⊎_elim (λ none′. none ∙ sym none′) (λ one. absurd (zero_not_one (sym none ∙ back one))) (bit_cases y h′)) (λ one. one ∙ sym (there one)) (bit_cases x h)
+
 one_without : (x y : ℕ) → x < 2 → y < 2 → (min x (1 - y) ≡ 1) ↔ ((x ≡ 1) × ¬ (y ≡ 1))
 one_without x y h h′ = (
   (λ e. (omega arith, λ e′. omega arith)),

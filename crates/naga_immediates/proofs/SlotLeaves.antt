@@ -1,6 +1,5 @@
 -- Which slots a type uses, by its leaves.
-use Rattle.std.proofs.Common.{◌≡◌, ◌<◌, ◌≤◌, ◌+◌, ◌*◌, ◌↔◌, ℕ, true, List, [], ◌∷◌, Option, Some, None, Contains, add-zero, refl, sym, ap, subst, ◌∙◌, arith}
-use Rattle.std.specs.List.{slice_get}
+use Rattle.std.proofs.Common.{◌≡◌, ◌<◌, ◌≤◌, ◌+◌, ◌↔◌, ℕ, true, List, [], ◌∷◌, Some, Contains, refl, sym, ap, subst, ◌∙◌, arith}
 use Rattle.std.proofs.lemmas.Option.{none-some}
 use Rattle.naga_immediates.proofs.SlotParts.{contains_at}
 use Rattle.naga_immediates.specs.LeafSlots.{HasNoArray, HasSlotsOfLeaves, LeavesHaveSlots, SharesLeaf}
@@ -16,7 +15,7 @@ use Rattle.naga_ir_types.specs.declared.types.TypeInner.TheVariants.{Array, Stru
 use Rattle.naga_typing.proofs.LeafAlignments.{place-in}
 use Rattle.naga_typing.proofs.LeafLemmas.{all_of, leaf-by_part, leaf-form, leaf-from_part, leaf-here, leaf-is_whole, leaf-whole, member_part, struct-has_part, struct-part}
 use Rattle.naga_typing.specs.Layout.{size_of}
-use Rattle.naga_typing.specs.Leaves.{Elements, IsInside, IsLeafAlignment, LeafBytes, Part, elements, end_of, inner_at, is_leaf, leaf_at, moved, one_each, part_at, itself as inside_itself, member as inside_member}
+use Rattle.naga_typing.specs.Leaves.{Elements, IsInside, IsLeafAlignment, LeafBytes, Part, elements, inner_at, is_leaf, leaf_at, moved, one_each, part_at, itself as inside_itself, member as inside_member}
 
 -- a form is no array
 abbrev IsNoArray : TypeInner → Type 0

@@ -1,5 +1,5 @@
 -- The maximal runs of a set of slots: they have all its slots, and no others.
-use Rattle.std.proofs.Common.{◌≡◌, ◌<◌, ◌≤◌, ◌+◌, ◌-◌, ◌^◌, ◌⊎◌, ⊎_elim, ℕ, zero, suc, List, [], ◌∷◌, Option, Some, None, All, Bool, true, false, true≢false, not, ◌&&◌, cond, Contains, length, get_or, map, refl, sym, zero-add, ap, subst, ◌∙◌, arith, eqb}
+use Rattle.std.proofs.Common.{◌≡◌, ◌<◌, ◌≤◌, ◌+◌, ◌-◌, ◌^◌, ⊎_elim, ℕ, zero, suc, List, [], ◌∷◌, Some, All, Bool, true, false, true≢false, not, cond, Contains, refl, sym, zero-add, ap, subst, ◌∙◌, arith}
 use Rattle.std.specs.Int.{bit_at}
 use Rattle.std.specs.List.{filter, find, range_with_len}
 use Rattle.std.specs.Option.{unwrap_or}
@@ -8,7 +8,7 @@ use Rattle.std.proofs.lemmas.List.Elements.{All-cons, All-contains, All-filter, 
 use Rattle.std.proofs.lemmas.List.FromFn.{get_or-range_with_len, length-range_with_len}
 use Rattle.std.proofs.lemmas.Nat.Bits.{bit_at-lt, same_from_bits_below}
 use Rattle.naga_arena.proofs.Elements.{contains-map}
-use Rattle.naga_immediates.proofs.SlotBits.{bit_cases, zero_not_one}
+use Rattle.naga_immediates.proofs.SlotBits.{same_bit}
 use Rattle.naga_immediates.specs.SlotText.{Run, begins_run, end_of_run, has_slot, runs}
 use Rattle.naga_immediates.specs.Slots.{slot_count}
 use Rattle.naga_immediates.specs.declared.immediates.ImmediateSlots.{ImmediateSlots}
@@ -133,16 +133,14 @@ module _ (slots : ImmediateSlots) where
 
 -- sets of the same runs are equal
 pub same_from_runs : (slots others : ImmediateSlots) → slots.0 < 2 ^ 64 → others.0 < 2 ^ 64 → runs slots ≡ runs others → slots ≡ others
-same_from_runs slots others small small′ same = ap (λ n. let set : ImmediateSlots = record { 0 = n } in set) (same_from_bits_below 64 slots.0 others.0 small small′ same_bit)
+same_from_runs slots others small small′ alike = ap (λ n. let set : ImmediateSlots = record { 0 = n } in set) (same_from_bits_below 64 slots.0 others.0 small small′ same)
   where
     goes : (xs ys : ImmediateSlots) → runs xs ≡ runs ys → (k : ℕ) → k < slot_count → has_slot xs k ≡ true → has_slot ys k ≡ true
     goes xs ys e k within has =
         let h = slot_in_run xs k within has in
         run_has_slots ys k (record { run = h.run; is_its = subst (λ rs. Contains rs h.run) e h.is_its; is_in = record { from = h.is_in.from; to = h.is_in.to } })
 
-    same_bit : (k : ℕ) → k < 64 → bit_at slots.0 k ≡ bit_at others.0 k
-    same_bit k within =
-        ⊎_elim
-        (λ none. ⊎_elim (λ none′. none ∙ sym none′) (λ one′. absurd (zero_not_one (sym none ∙ eqb-true _ _ (goes others slots (sym same) k within (eq-eqb _ _ one′))))) (bit_cases (bit_at others.0 k) (bit_at-lt others.0 k)))
-        (λ one. one ∙ sym (eqb-true _ _ (goes slots others same k within (eq-eqb _ _ one))))
-        (bit_cases (bit_at slots.0 k) (bit_at-lt slots.0 k))
+    same : (k : ℕ) → k < 64 → bit_at slots.0 k ≡ bit_at others.0 k
+    same k within =
+        same_bit (bit_at slots.0 k) (bit_at others.0 k) (bit_at-lt slots.0 k) (bit_at-lt others.0 k) (λ one. eqb-true _ _ (goes slots others alike k within (eq-eqb _ _ one)))
+        (λ one. eqb-true _ _ (goes others slots (sym alike) k within (eq-eqb _ _ one)))

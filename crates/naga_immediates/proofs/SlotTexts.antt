@@ -1,5 +1,5 @@
 -- The texts of sets of slots: how they are written, and that they tell sets apart.
-use Rattle.std.proofs.Common.{Bool, true, false, cond, ◌≡◌, ◌<◌, ◌≤◌, ◌+◌, ◌*◌, ◌%◌, ◌^◌, ◌≢◌, ℕ, lit<, List, [], ◌∷◌, ◌++◌, All, length, map, append_assoc, append-nil, refl, sym, ap, subst, ◌∙◌, arith}
+use Rattle.std.proofs.Common.{true, false, cond, ◌≡◌, ◌<◌, ◌≤◌, ◌+◌, ◌*◌, ◌%◌, ◌^◌, ◌≢◌, ℕ, lit<, List, [], ◌∷◌, ◌++◌, All, length, map, append_assoc, append-nil, refl, sym, ap, subst, ◌∙◌, arith}
 use Rattle.std.specs.List.{filter, flat_map, range_with_len}
 use Rattle.std.specs.Prelude.{⊤, codes, decimal}
 use Rattle.std.proofs.lemmas.Fmt.{decimal_by_steps, decimal_injective, decimal_nonempty}

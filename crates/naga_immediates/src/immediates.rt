@@ -3,8 +3,8 @@
 ghost use Rattle.std.specs.Prelude.{◌≡◌, ℕ, ◌+◌, ◌-◌, ◌^◌, ◌<◌, ◌↔◌, All, IsOk, IsTrue, MatchOption, None, Some, length, min, replicate, slice_get};
 ghost use Rattle.naga_immediates.specs.SlotText as text;
 ghost use Rattle.naga_immediates.specs.Slots as spec;
-ghost use Rattle.naga_immediates.specs.Slots.{AccessesMember, AreExactly, HasSlot, SharesByte, UsesSlot, byte_count, immediate_size, lists_with, slot_count};
-ghost use Rattle.naga_immediates.specs.steps.SlotWalk.{Gains, KnowsNoted, byte_of};
+ghost use Rattle.naga_immediates.specs.Slots.{AccessesMember, AreExactly, HasSlot, SharesByte, UsesSlot, immediate_size, lists_with, slot_count};
+ghost use Rattle.naga_immediates.specs.steps.SlotWalk.{Gains, KnowsNoted, byte_of, note_count, place_of};
 ghost use Rattle.naga_ir.specs.Handles.{GlobalReferencesOk, HandlesAccepted};
 ghost use Rattle.naga_ir.specs.ItemReferences.{global_lists};
 ghost use Rattle.naga_ir_types.specs.declared.types.«Type».{«Type»};
@@ -31,6 +31,12 @@ const SLOT_SIZE: u64 = 4;
 
 /// How many bytes all slots have.
 const BYTE_COUNT: usize = 256;
+
+/// How many struct types a walk notes for each byte.
+const NOTES_A_BYTE: usize = 8;
+
+/// How many it notes for all bytes.
+const NOTE_COUNT: usize = NOTES_A_BYTE * BYTE_COUNT;
 
 /// A set of slots of the immediate data of a pipeline: naga's `ImmediateSlots`. The 256 bytes of
 /// immediate data are 64 slots, of which slot `k` has the bytes `4 * k` to `4 * k + 3`.
@@ -68,10 +74,12 @@ impl ImmediateSlots {
     /// `types` stands for the types of `gctx`.
     ///
     /// The cost is linear in the members of structs, each counted once for each way by which it is
-    /// reached, but a struct type that was the last to be walked through from a byte isn't walked through
-    /// from there again. So a chain of structs of two members of the struct before is linear, and a chain of
-    /// pairs of structs, each with both structs of the pair before at the same byte, takes time that doubles
-    /// with each pair. It calls itself as deep as structs are nested.
+    /// reached. But a struct type isn't walked through again from a byte from which it was walked through,
+    /// unless a type whose index leaves the same remainder by 8 was since. So a chain of structs of two
+    /// members of the struct before is linear, and one of pairs of neighbours of which each has both before
+    /// as members. What takes time that doubles with each step is a chain of pairs of structs, eight apart
+    /// among the types, of which each has both structs of the pair before as members at one byte: nine types
+    /// a step. It calls itself as deep as structs are nested.
     pub fn from_type(
         ty: &TypeInner,
         offset: u32,
@@ -128,6 +136,8 @@ impl ImmediateSlots {
     /// The slots that may be used through a pointer to the global variable `global` of immediate data,
     /// or to a part of it: those of a member if `pointer` accesses the member by its index in the
     /// variable itself, and else all slots of the variable.
+    ///
+    /// The cost is that of `from_type` for the type of the member or the variable.
     pub fn for_pointer(
         pointer: Handle<ExpressionTag>,
         global: Handle<GlobalVariableTag>,
@@ -221,6 +231,14 @@ fn member_byte(offset: u32, member: &StructMember) -> Option<u8>
     u8::try_from(u64::from(offset) + u64::from(member.offset)).ok()
 }
 
+/// Where a walk notes that it has walked through a struct type from a byte.
+fn place_of(ty: Handle<TypeTag>, byte: u8) -> usize
+    ensures value { result ≡ place_of ty byte }
+    ensures within { result < note_count }
+{
+    NOTES_A_BYTE * usize::from(byte) + ty.index() % NOTES_A_BYTE
+}
+
 /// The slots of a value that is no struct.
 fn slots_of_part(inner: &TypeInner, offset: u32, gctx: GlobalCtx<'_>) -> ImmediateSlots
     requires exist { ReferencesExist (lists_of gctx) inner.now }
@@ -256,28 +274,28 @@ fn accessed_member<'a>(
 #[derive(Drop)]
 struct Walk {
     slots: ImmediateSlots,
-    /// For each byte the struct type that was the last to be walked through from there: all slots that
-    /// it uses from there are among `slots`.
-    last: [Option<Handle<TypeTag>>; BYTE_COUNT],
+    /// For each byte the struct types that were the last to be walked through from there, of those whose
+    /// indices leave the same remainder: all slots that they use from there are among `slots`.
+    noted: [Option<Handle<TypeTag>>; NOTE_COUNT],
 }
 
 impl Walk {
     /// The beginning of a walk.
     fn new() -> Walk
         ensures slots { result.slots ≡ record { 0 = 0 } }
-        ensures last { result.last ≡ replicate byte_count None }
+        ensures noted { result.noted ≡ replicate note_count None }
     {
         Walk {
             slots: ImmediateSlots(0),
-            last: [None; BYTE_COUNT],
+            noted: [None; NOTE_COUNT],
         }
     }
 
-    /// Whether a struct type was the last to be walked through from a byte.
+    /// Whether a struct type is noted to be walked through from a byte.
     fn has_walked(&self, ty: Handle<TypeTag>, byte: u8) -> bool
-        ensures { IsTrue result → slice_get self.now.last byte ≡ Some (Some ty) }
+        ensures { IsTrue result → slice_get self.now.noted (place_of ty byte) ≡ Some (Some ty) }
     {
-        match self.last[usize::from(byte)] {
+        match self.noted[place_of(ty, byte)] {
             Some(walked) => walked == ty,
             None => false,
         }
@@ -304,7 +322,7 @@ impl Walk {
                 self.add(member.ty, next, gctx);
             }
         }
-        self.last[usize::from(byte)] = Some(ty);
+        self.noted[place_of(ty, byte)] = Some(ty);
     }
 }
 
