@@ -6,4 +6,5 @@ mod OverrideValues
 mod Referred
 mod Refusals
 mod RuleResults
+mod SlotLaws
 mod WorkedSettings
