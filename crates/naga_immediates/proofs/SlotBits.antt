@@ -2,11 +2,16 @@
 use Rattle.std.proofs.Common.{◌≡◌, ◌<◌, ◌≤◌, ◌+◌, ◌-◌, ◌*◌, ◌/◌, ◌^◌, ◌↔◌, ◌⊎◌, ⊎_elim, ℕ, zero, suc, inl, inr, max, min, refl, sym, ap, subst, ◌∙◌, arith}
 use Rattle.std.specs.Int.{bit_at, bit_not, w64}
 use Rattle.std.specs.Int.RustNames.{bit_or}
+use Rattle.std.specs.Prelude.{bit_and}
 use Rattle.std.proofs.Math.Nat.{pow-le-pow_right}
 use Rattle.std.proofs.lemmas.Bool.{cases_lt}
 use Rattle.std.proofs.lemmas.Nat.{pow_pos}
 use Rattle.std.proofs.lemmas.Nat.Bits.{bit_at-lt, bit_at-zero, bit_at_above, bit_at_and, bit_at_mask_above, bit_at_mask_below, bit_at_mask_inside, bit_at_not, bit_at_or, same_from_bits}
-use Rattle.naga_immediates.specs.Slots.{SharesByte, without}
+use Rattle.naga_immediates.specs.Slots.{SharesByte}
+
+-- the slots of one set that aren't in another
+abbrev pub without : ℕ → ℕ → ℕ
+without slots others = bit_and slots (bit_not w64 others)
 
 pub zero_not_one : ◌≡◌ {A = ℕ} 0 1 → ⊥
 zero_not_one e = omega arith
@@ -16,6 +21,10 @@ pub bit_cases : (x : ℕ) → x < 2 → (x ≡ 0) ⊎ (x ≡ 1)
 bit_cases zero h = inl refl
 bit_cases (suc zero) h = inr refl
 bit_cases (suc (suc x)) h = absurd (omega arith)
+
+-- two bits are the same if one is 1 exactly if the other is
+pub same_bit : (x y : ℕ) → x < 2 → y < 2 → (x ≡ 1 → y ≡ 1) → (y ≡ 1 → x ≡ 1) → x ≡ y
+same_bit x y h h′ there back = ⊎_elim (λ none. ⊎_elim (λ none′. none ∙ sym none′) (λ one. absurd (zero_not_one (sym none ∙ back one))) (bit_cases y h′)) (λ one. one ∙ sym (there one)) (bit_cases x h)
 
 one_without : (x y : ℕ) → x < 2 → y < 2 → (min x (1 - y) ≡ 1) ↔ ((x ≡ 1) × ¬ (y ≡ 1))
 one_without x y h h′ = (
@@ -77,18 +86,18 @@ in_mask lo hi k h = (
     none e = zero_not_one (sym e ∙ h)
 
 -- a slot is among those of a range exactly if it shares a byte with it
-pub in_range : (first size k : ℕ) → 0 < size → (bit_at (2 ^ min 64 ((first + size + 3) / 4) - 2 ^ min 64 (first / 4)) k ≡ 1) ↔ ((k < 64) × SharesByte first size k)
+pub in_range : (first size k : ℕ) → 0 < size → (bit_at (2 ^ min 64 ((first + size - 1) / 4 + 1) - 2 ^ min 64 (first / 4)) k ≡ 1) ↔ ((k < 64) × SharesByte first size k)
 in_range first size k some = (there, back)
   where
-    there : bit_at (2 ^ min 64 ((first + size + 3) / 4) - 2 ^ min 64 (first / 4)) k ≡ 1 → (k < 64) × SharesByte first size k
+    there : bit_at (2 ^ min 64 ((first + size - 1) / 4 + 1) - 2 ^ min 64 (first / 4)) k ≡ 1 → (k < 64) × SharesByte first size k
     there h =
-        let p : (min 64 (first / 4) ≤ k) × (k < min 64 ((first + size + 3) / 4)) = in_mask _ _ k h in
+        let p : (min 64 (first / 4) ≤ k) × (k < min 64 ((first + size - 1) / 4 + 1)) = in_mask _ _ k h in
         within p.0 p.1
       where
-        within : min 64 (first / 4) ≤ k → k < min 64 ((first + size + 3) / 4) → (k < 64) × SharesByte first size k
+        within : min 64 (first / 4) ≤ k → k < min 64 ((first + size - 1) / 4 + 1) → (k < 64) × SharesByte first size k
         within from to = (omega arith, (max first (4 * k), omega arith, omega arith, omega arith, omega arith))
 
-    back : (k < 64) × SharesByte first size k → bit_at (2 ^ min 64 ((first + size + 3) / 4) - 2 ^ min 64 (first / 4)) k ≡ 1
+    back : (k < 64) × SharesByte first size k → bit_at (2 ^ min 64 ((first + size - 1) / 4 + 1) - 2 ^ min 64 (first / 4)) k ≡ 1
     back (within, (byte, a, b, c, d)) = bit_at_mask_inside _ _ k (omega arith) (omega arith)
 
 -- the slots before a later slot are no fewer

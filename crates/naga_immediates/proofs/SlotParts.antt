@@ -1,5 +1,5 @@
 -- Which slots a type uses, by its members.
-use Rattle.std.proofs.Common.{◌≡◌, ◌≢◌, ◌<◌, ◌≤◌, ◌+◌, ◌*◌, ◌↔◌, ◌⊎◌, ⊎_elim, ℕ, List, Option, Some, None, All, Contains, length, get_or, inl, inr, map, refl, replicate, sym, ap, subst, ◌∙◌, arith, ltb, if◌then◌else◌}
+use Rattle.std.proofs.Common.{◌≡◌, ◌<◌, ◌≤◌, ◌+◌, ◌↔◌, ◌⊎◌, ⊎_elim, ℕ, List, Option, Some, None, All, Contains, length, get_or, inl, inr, map, refl, replicate, sym, ap, subst, ◌∙◌, arith, ltb, if◌then◌else◌}
 use Rattle.std.specs.Int.RustNames.{bit_or}
 use Rattle.std.specs.List.{slice_get}
 use Rattle.std.specs.Option.{option_map}
@@ -14,7 +14,7 @@ use Rattle.naga_immediates.specs.Slots.{AreExactly, HasPart, HasSlot, SharesByte
 use Rattle.naga_immediates.specs.Slots.HasPart.{itself, in_member}
 use Rattle.naga_immediates.specs.declared.immediates.ImmediateSlots.{ImmediateSlots}
 use Rattle.naga_immediates.specs.declared.immediates.Walk.{Walk}
-use Rattle.naga_immediates.specs.steps.SlotWalk.{Gains, KnowsNoted, TypeUses, byte_of}
+use Rattle.naga_immediates.specs.steps.SlotWalk.{Gains, KnowsNoted, TypeUses, byte_of, note_count, place_of}
 use Rattle.naga_ir.proofs.ReferredTo.{parts_come_before}
 use Rattle.naga_ir.specs.Handles.{ExistsGlobally, GlobalReferencesOk}
 use Rattle.naga_ir.specs.ItemReferences.{GlobalLists, type_references}
@@ -30,7 +30,7 @@ use Rattle.naga_typing.specs.Context.{ReferencesExist}
 use Rattle.naga_typing.specs.Layout.{size_of}
 use Rattle.naga_typing.specs.Leaves.{inner_at}
 
-contains_at : {X : Type 0} (xs : List X) (j : ℕ) (x : X) → slice_get xs j ≡ Some x → Contains xs x
+pub contains_at : {X : Type 0} (xs : List X) (j : ℕ) (x : X) → slice_get xs j ≡ Some x → Contains xs x
 contains_at xs j x at = (j, slice_get_within xs j x at, get_or_from_slice_get xs j x x at)
 
 module _ (g : GlobalLists) where
@@ -215,14 +215,16 @@ module _ (g : GlobalLists) (members : List StructMember) (at at′ i : ℕ) (old
       subst (IsWalking g members at (i + 1) old) (sym e′)
       record { noted = h.noted; gains = skipped g members at i old walk.slots h.gains m is_at (subst (λ n. 256 ≤ n + m.offset) same (byte_past _ found is none)) }
 
-within_all : (byte : ℕ) (x : Option ℕ) → slice_get (replicate 256 None) byte ≡ Some x → byte < 256
-within_all byte x e = omega (arith, slice_get_within (replicate 256 None) byte x e, length-replicate 256 (let none : Option ℕ = None in none))
+nothing_noted : (place t : ℕ) → slice_get (replicate note_count None) place ≡ Some (Some t) → ⊥
+nothing_noted place t e =
+    let within : place < note_count = omega (arith, slice_get_within (replicate note_count None) place (Some t) e, length-replicate note_count (let none : Option ℕ = None in none)) in
+    none-some t (sym (get_or-replicate note_count place None (Some t) within) ∙ get_or_from_slice_get (replicate note_count None) place (Some t) (Some t) e)
 
 -- a walk begins with no slots and nothing noted
-pub starts : (g : GlobalLists) (members : List StructMember) (at : ℕ) (walk : Walk) → walk.slots ≡ record { 0 = 0 } → walk.last ≡ replicate 256 None → IsWalking g members at 0 (record { 0 = 0 }) walk
+pub starts : (g : GlobalLists) (members : List StructMember) (at : ℕ) (walk : Walk) → walk.slots ≡ record { 0 = 0 } → walk.noted ≡ replicate note_count None → IsWalking g members at 0 (record { 0 = 0 }) walk
 starts g members at walk none nothing =
     record {
-      noted = λ byte t k noted within u. let e : slice_get (replicate 256 None) byte ≡ Some (Some t) = ap (λ last. slice_get last byte) (sym nothing) ∙ noted in absurd (none-some t (sym (get_or-replicate 256 byte None (Some t) (within_all byte (Some t) e)) ∙ get_or_from_slice_get (replicate 256 None) byte (Some t) (Some t) e));
+      noted = λ byte t k noted within u. absurd (nothing_noted (place_of t byte) t (ap (λ noted. slice_get noted (place_of t byte)) (sym nothing) ∙ noted));
       gains = subst (GainsBefore g members at 0 (record { 0 = 0 })) (sym none) (begin g members at (record { 0 = 0 }));
     }
 

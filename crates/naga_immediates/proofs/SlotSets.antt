@@ -1,7 +1,12 @@
 -- Sets that have exactly the slots of which something holds.
-use Rattle.std.proofs.Common.{◌≡◌, ◌<◌, ◌≤◌, ◌+◌, ◌*◌, ◌↔◌, ◌⊎◌, ⊎_elim, ℕ, Option, Some, None, MatchOption, inl, inr, max, min, refl, sym, ap, subst, ◌∙◌, arith}
+use Rattle.std.proofs.Common.{◌≡◌, ◌<◌, ◌+◌, ◌↔◌, ◌⊎◌, ⊎_elim, ℕ, Option, Some, None, MatchOption, inl, inr, sym, ap, subst, arith}
 use Rattle.std.specs.Option.{unwrap_or}
-use Rattle.naga_immediates.specs.Slots.{AreExactly, HasSlot, SharesByte, slot_count}
+use Rattle.std.specs.Int.{bit_at}
+use Rattle.std.specs.Int.RustNames.{bit_or}
+use Rattle.std.proofs.lemmas.Bool.{cases_lt}
+use Rattle.std.proofs.lemmas.Nat.Bits.{bit_at-lt, same_from_bits}
+use Rattle.naga_immediates.proofs.SlotBits.{in_both, same_bit}
+use Rattle.naga_immediates.specs.Slots.{AreExactly, SharesByte, slot_count}
 use Rattle.naga_immediates.specs.declared.immediates.ImmediateSlots.{ImmediateSlots}
 
 -- sets have the same slots if the same holds of each slot
@@ -27,3 +32,36 @@ pub greatest_size : (first size : ℕ) (found : Option ℕ) (slots : ImmediateSl
     → AreExactly (SharesByte first (unwrap_or found 4294967295)) slots → AreExactly (SharesByte first size) slots
 greatest_size first size None slots many = exactly_too _ _ slots (λ k within. all_bytes first size k many within)
 greatest_size first size (Some n) slots is = exactly_too _ _ slots (λ k within. same_size first n size k is)
+
+-- bytes of one range or the next are those of both
+shared_by_both : (offset size more k : ℕ) → SharesByte offset (size + more) k ↔ (SharesByte offset size k ⊎ SharesByte (offset + size) more k)
+shared_by_both offset size more k = (there, ⊎_elim first second)
+  where
+    there : SharesByte offset (size + more) k → SharesByte offset size k ⊎ SharesByte (offset + size) more k
+    there (byte, a, b, c, d) = ⊎_elim (λ under. inl (byte, a, under, c, d)) (λ past. inr (byte, past, omega arith, c, d)) (cases_lt byte (offset + size))
+
+    first : SharesByte offset size k → SharesByte offset (size + more) k
+    first (byte, a, b, c, d) = (byte, a, omega arith, c, d)
+
+    second : SharesByte (offset + size) more k → SharesByte offset (size + more) k
+    second (byte, a, b, c, d) = (byte, omega arith, omega arith, c, d)
+
+-- so their slots are those of both
+pub ranges_join : (offset size more : ℕ) (first second both : ImmediateSlots) → AreExactly (SharesByte offset size) first → AreExactly (SharesByte (offset + size) more) second → AreExactly (SharesByte offset (size + more)) both
+    → record { 0 = bit_or first.0 second.0 } ≡ both
+ranges_join offset size more first second both one other all = ap (λ n. let slots : ImmediateSlots = record { 0 = n } in slots) (same_from_bits (bit_or first.0 second.0) both.0 same)
+  where
+    there : (k : ℕ) → bit_at (bit_or first.0 second.0) k ≡ 1 → bit_at both.0 k ≡ 1
+    there k has =
+        ⊎_elim
+        (λ h. let p = (one k).0 h in (all k).1 (p.0, (shared_by_both offset size more k).1 (inl p.1)))
+        (λ h. let p = (other k).0 h in (all k).1 (p.0, (shared_by_both offset size more k).1 (inr p.1)))
+        ((in_both first.0 second.0 k).0 has)
+
+    back : (k : ℕ) → bit_at both.0 k ≡ 1 → bit_at (bit_or first.0 second.0) k ≡ 1
+    back k has =
+        let p = (all k).0 has in
+        (in_both first.0 second.0 k).1 (⊎_elim (λ h. inl ((one k).1 (p.0, h))) (λ h. inr ((other k).1 (p.0, h))) ((shared_by_both offset size more k).0 p.1))
+
+    same : (k : ℕ) → bit_at (bit_or first.0 second.0) k ≡ bit_at both.0 k
+    same k = same_bit (bit_at (bit_or first.0 second.0) k) (bit_at both.0 k) (bit_at-lt (bit_or first.0 second.0) k) (bit_at-lt both.0 k) (there k) (back k)

@@ -1,6 +1,6 @@
 -- Slots of immediate data, which a set of slots tells apart: four bytes each, from byte 4k on.
-use Rattle.std.specs.Prelude.{◌≡◌, ◌+◌, ◌-◌, ◌*◌, ◌/◌, ◌^◌, ◌<◌, ◌≤◌, ◌==◌, ◌↔◌, ℕ, List, Option, Some, None, Bool, true, false, Contains, bit_and, length, min, option_and_then, option_map, slice_get, unwrap_or, if◌then◌else◌}
-use Rattle.std.specs.Int.{bit_at, bit_not, w64}
+use Rattle.std.specs.Prelude.{◌≡◌, ◌+◌, ◌*◌, ◌<◌, ◌≤◌, ◌↔◌, ℕ, List, Option, Some, None, Bool, true, false, Contains, length, option_and_then, option_map, slice_get, unwrap_or}
+use Rattle.std.specs.Int.{bit_at}
 use Rattle.std.specs.List.{find}
 use Rattle.naga_immediates.specs.declared.immediates.ImmediateSlots.{ImmediateSlots}
 use Rattle.naga_ir.specs.ItemReferences.{GlobalLists}
@@ -23,17 +23,25 @@ use Rattle.naga_typing.specs.declared.context.GlobalCtx.{GlobalCtx}
 abbrev pub lists_with : List «Type» → GlobalCtx → GlobalLists
 lists_with types gctx = record (lists_of gctx) { types = types }
 
--- how many slots there are: the 256 bytes of immediate data are four each
+-- how many slots there are
 abbrev pub slot_count : ℕ
 slot_count = 64
+
+-- how many bytes a slot has
+abbrev pub slot_size : ℕ
+slot_size = 4
+
+-- how many bytes all slots have: those of immediate data
+abbrev pub byte_count : ℕ
+byte_count = 256
 
 -- a slot is in a set
 abbrev pub HasSlot : ImmediateSlots → ℕ → Type 0
 HasSlot slots k = bit_at slots.0 k ≡ 1
 
--- `size` bytes from `first` on share a byte with a slot, which has the bytes 4k to 4k + 3
+-- `size` bytes from `first` on share a byte with a slot
 abbrev pub SharesByte : (first size k : ℕ) → Type 0
-SharesByte first size k = (byte : ℕ) × (first ≤ byte) × (byte < first + size) × (4 * k ≤ byte) × (byte < 4 * k + 4)
+SharesByte first size k = (byte : ℕ) × (first ≤ byte) × (byte < first + size) × (slot_size * k ≤ byte) × (byte < slot_size * k + slot_size)
 
 -- a set has exactly the slots of which this holds
 abbrev pub AreExactly : (ℕ → Type 0) → ImmediateSlots → Type 0
@@ -93,14 +101,6 @@ pub record AreSlotsReached (g : GlobalLists) (xs : List Expression) (variable : 
   pub is_whole : form_of_variable g variable ≡ Some whole
   pub reached : Reaches g xs whole pointer inner first
   pub exactly : AreExactly (UsesSlot g inner first) slots
-
--- the slots of one set that aren't in another
-abbrev pub without : ℕ → ℕ → ℕ
-without slots others = bit_and slots (bit_not w64 others)
-
--- the slots of `size` bytes from `first` on: from that of the first byte to that of the last
-abbrev pub slots_of_range : (first size : ℕ) → ℕ
-slots_of_range first size = if size == 0 then 0 else 2 ^ min slot_count ((first + size + 3) / 4) - 2 ^ min slot_count (first / 4)
 
 -- variables in a space hold immediate data
 abbrev pub is_immediate : AddressSpace → Bool

@@ -1,9 +1,10 @@
 //! Which of the immediate data of a pipeline a shader uses, in slots of four bytes.
 
-ghost use Rattle.std.specs.Prelude.{◌≡◌, ℕ, ◌+◌, ◌-◌, ◌^◌, ◌<◌, ◌==◌, ◌↔◌, All, IsOk, IsTrue, MatchOption, None, Some, length, min, replicate, slice_get};
+ghost use Rattle.std.specs.Prelude.{◌≡◌, ℕ, ◌+◌, ◌-◌, ◌^◌, ◌<◌, ◌↔◌, All, IsOk, IsTrue, MatchOption, None, Some, length, min, replicate, slice_get};
+ghost use Rattle.naga_immediates.specs.SlotText as text;
 ghost use Rattle.naga_immediates.specs.Slots as spec;
-ghost use Rattle.naga_immediates.specs.Slots.{AccessesMember, AreExactly, HasSlot, SharesByte, UsesSlot, immediate_size, lists_with, slots_of_range, without};
-ghost use Rattle.naga_immediates.specs.steps.SlotWalk.{Gains, KnowsNoted, byte_of};
+ghost use Rattle.naga_immediates.specs.Slots.{AccessesMember, AreExactly, HasSlot, SharesByte, UsesSlot, immediate_size, lists_with, slot_count};
+ghost use Rattle.naga_immediates.specs.steps.SlotWalk.{Gains, KnowsNoted, byte_of, note_count, place_of};
 ghost use Rattle.naga_ir.specs.Handles.{GlobalReferencesOk, HandlesAccepted};
 ghost use Rattle.naga_ir.specs.ItemReferences.{global_lists};
 ghost use Rattle.naga_ir_types.specs.declared.types.«Type».{«Type»};
@@ -19,10 +20,23 @@ use naga_ir::types::{AddressSpace, StructMember, TypeInner};
 use naga_ir::unique_arena::UniqueArena;
 use naga_typing::context::{GlobalCtx, to_ctx};
 use naga_typing::type_methods::{size, try_size};
+use std::fmt;
 use std::ops::{BitOr, BitOrAssign};
 
 /// How many slots there are.
-const SLOT_COUNT: u32 = 64;
+const SLOT_COUNT: u64 = 64;
+
+/// How many bytes a slot has.
+const SLOT_SIZE: u64 = 4;
+
+/// How many bytes all slots have.
+const BYTE_COUNT: usize = 256;
+
+/// How many struct types a walk notes for each byte.
+const NOTES_A_BYTE: usize = 8;
+
+/// How many it notes for all bytes.
+const NOTE_COUNT: usize = NOTES_A_BYTE * BYTE_COUNT;
 
 /// A set of slots of the immediate data of a pipeline: naga's `ImmediateSlots`. The 256 bytes of
 /// immediate data are 64 slots, of which slot `k` has the bytes `4 * k` to `4 * k + 3`.
@@ -42,14 +56,14 @@ impl ImmediateSlots {
     /// The slots of which `size_bytes` bytes from `offset` on have a byte. If there are no bytes, that
     /// is none. Bytes from 256 on are in no slot; sums are whole numbers.
     pub fn from_range(offset: u32, size_bytes: u32) -> ImmediateSlots
-        ensures slots { AreExactly (SharesByte offset size_bytes) result }
-        ensures bits { result.0 ≡ slots_of_range offset size_bytes }
+        ensures { AreExactly (SharesByte offset size_bytes) result }
     {
         if size_bytes == 0 {
             return ImmediateSlots(0);
         }
-        let end = u64::from(offset) + u64::from(size_bytes);
-        ImmediateSlots(below((end + 3) / 4) - below(u64::from(offset) / 4))
+        let first = u64::from(offset);
+        let last = first + u64::from(size_bytes) - 1;
+        ImmediateSlots(below(last / SLOT_SIZE + 1) - below(first / SLOT_SIZE))
     }
 
     /// The slots that a value of the form `ty` uses if it begins at byte `offset`: those of which a
@@ -60,10 +74,12 @@ impl ImmediateSlots {
     /// `types` stands for the types of `gctx`.
     ///
     /// The cost is linear in the members of structs, each counted once for each way by which it is
-    /// reached, but a struct type that was the last to be walked through from a byte isn't walked through
-    /// from there again. So a chain of structs of two members of the struct before is linear, and a chain of
-    /// pairs of structs, each with both structs of the pair before at the same byte, takes time that doubles
-    /// with each pair. It calls itself as deep as structs are nested.
+    /// reached. But a struct type isn't walked through again from a byte from which it was walked through,
+    /// unless a type whose index leaves the same remainder by 8 was since. So a chain of structs of two
+    /// members of the struct before is linear, and one of pairs of neighbours of which each has both before
+    /// as members. What takes time that doubles with each step is a chain of pairs of structs, eight apart
+    /// among the types, of which each has both structs of the pair before as members at one byte: nine types
+    /// a step. It calls itself as deep as structs are nested.
     pub fn from_type(
         ty: &TypeInner,
         offset: u32,
@@ -89,16 +105,14 @@ impl ImmediateSlots {
 
     /// Whether all slots of `other` are in this set.
     pub fn contains(self, other: ImmediateSlots) -> bool
-        ensures slots { IsTrue result ↔ ((k : ℕ) → HasSlot other k → HasSlot self k) }
-        ensures difference { result ≡ (without other.0 self.0 == 0) }
+        ensures { IsTrue result ↔ ((k : ℕ) → HasSlot other k → HasSlot self k) }
     {
         other.0 & !self.0 == 0
     }
 
     /// The slots of this set that aren't in `other`.
     pub fn difference(self, other: ImmediateSlots) -> ImmediateSlots
-        ensures slots { (k : ℕ) → HasSlot result k ↔ (HasSlot self k × ¬ (HasSlot other k)) }
-        ensures bits { result ≡ record { 0 = without self.0 other.0 } }
+        ensures { (k : ℕ) → HasSlot result k ↔ (HasSlot self k × ¬ (HasSlot other k)) }
     {
         ImmediateSlots(self.0 & !other.0)
     }
@@ -122,6 +136,8 @@ impl ImmediateSlots {
     /// The slots that may be used through a pointer to the global variable `global` of immediate data,
     /// or to a part of it: those of a member if `pointer` accesses the member by its index in the
     /// variable itself, and else all slots of the variable.
+    ///
+    /// The cost is that of `from_type` for the type of the member or the variable.
     pub fn for_pointer(
         pointer: Handle<ExpressionTag>,
         global: Handle<GlobalVariableTag>,
@@ -145,24 +161,82 @@ impl ImmediateSlots {
             None => ImmediateSlots::from_type(whole, 0, gctx.types, gctx),
         }
     }
+
+    /// Whether a slot is in the set.
+    fn has_slot(self, slot: u64) -> bool
+        requires { slot < slot_count }
+        ensures { result ≡ text.has_slot self slot }
+    {
+        self.0 >> slot & 1 == 1
+    }
+
+    /// Whether a run begins with a slot: it is in the set, and the one before it isn't.
+    fn begins_run(self, slot: u64) -> bool
+        requires { slot < slot_count }
+        ensures { result ≡ text.begins_run self slot }
+    {
+        self.has_slot(slot) && !(slot > 0 && self.has_slot(slot - 1))
+    }
+
+    /// The first slot from one on that isn't in the set, or the number of all slots.
+    fn end_of_run(self, first: u64) -> u64
+        ensures { result ≡ text.end_of_run self first }
+    {
+        (first..SLOT_COUNT)
+            .find(|slot| !self.has_slot(*slot))
+            .unwrap_or(SLOT_COUNT)
+    }
+}
+
+impl fmt::Display for ImmediateSlots {
+    ghost use Rattle.std.specs.Prelude.{Some};
+    ghost use Rattle.naga_immediates.specs.SlotText.{slot_text};
+
+    ghost output = { λ slots. Some (slot_text slots) };
+
+    /// Writes the maximal runs of slots, rising, each as its first byte and the byte after its last, as
+    /// `0..8, 16..20`; and `(none)` if the set is empty.
+    fn fmt<W: fmt::Write>(&self, f: &mut fmt::Formatter<W>) -> fmt::Result {
+        if self.0 == 0 {
+            return f.write_str("(none)");
+        }
+        let mut separator = "";
+        for slot in 0..SLOT_COUNT {
+            if self.begins_run(slot) {
+                let first = SLOT_SIZE * slot;
+                let end = SLOT_SIZE * self.end_of_run(slot);
+                write!(f, "{separator}{first}..{end}")?;
+                separator = ", ";
+            }
+        }
+        Ok(())
+    }
 }
 
 /// The bits of the slots before a slot, of those that there are.
 fn below(slot: u64) -> u64
-    ensures { result ≡ 2 ^ min 64 slot - 1 }
+    ensures { result ≡ 2 ^ min slot_count slot - 1 }
 {
-    if slot < u64::from(SLOT_COUNT) {
+    if slot < SLOT_COUNT {
         (1 << slot) - 1
     } else {
         u64::MAX
     }
 }
 
-/// The byte at which a member of a struct begins, if it is one of the 256 of immediate data.
+/// The byte at which a member of a struct begins, if it is one of those that slots have.
 fn member_byte(offset: u32, member: &StructMember) -> Option<u8>
     ensures { result ≡ byte_of (offset + member.now.offset) }
 {
     u8::try_from(u64::from(offset) + u64::from(member.offset)).ok()
+}
+
+/// Where a walk notes that it has walked through a struct type from a byte.
+fn place_of(ty: Handle<TypeTag>, byte: u8) -> usize
+    ensures value { result ≡ place_of ty byte }
+    ensures within { result < note_count }
+{
+    NOTES_A_BYTE * usize::from(byte) + ty.index() % NOTES_A_BYTE
 }
 
 /// The slots of a value that is no struct.
@@ -200,28 +274,28 @@ fn accessed_member<'a>(
 #[derive(Drop)]
 struct Walk {
     slots: ImmediateSlots,
-    /// For each byte the struct type that was the last to be walked through from there: all slots that
-    /// it uses from there are among `slots`.
-    last: [Option<Handle<TypeTag>>; 256],
+    /// For each byte the struct types that were the last to be walked through from there, of those whose
+    /// indices leave the same remainder: all slots that they use from there are among `slots`.
+    noted: [Option<Handle<TypeTag>>; NOTE_COUNT],
 }
 
 impl Walk {
     /// The beginning of a walk.
     fn new() -> Walk
         ensures slots { result.slots ≡ record { 0 = 0 } }
-        ensures last { result.last ≡ replicate 256 None }
+        ensures noted { result.noted ≡ replicate note_count None }
     {
         Walk {
             slots: ImmediateSlots(0),
-            last: [None; 256],
+            noted: [None; NOTE_COUNT],
         }
     }
 
-    /// Whether a struct type was the last to be walked through from a byte.
+    /// Whether a struct type is noted to be walked through from a byte.
     fn has_walked(&self, ty: Handle<TypeTag>, byte: u8) -> bool
-        ensures { IsTrue result → slice_get self.now.last byte ≡ Some (Some ty) }
+        ensures { IsTrue result → slice_get self.now.noted (place_of ty byte) ≡ Some (Some ty) }
     {
-        match self.last[usize::from(byte)] {
+        match self.noted[place_of(ty, byte)] {
             Some(walked) => walked == ty,
             None => false,
         }
@@ -248,7 +322,7 @@ impl Walk {
                 self.add(member.ty, next, gctx);
             }
         }
-        self.last[usize::from(byte)] = Some(ty);
+        self.noted[place_of(ty, byte)] = Some(ty);
     }
 }
 

@@ -9,4 +9,5 @@ mod OverrideValues
 mod Referred
 mod Refusals
 mod RuleResults
+mod SlotLaws
 mod WorkedSettings

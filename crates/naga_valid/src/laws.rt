@@ -1,25 +1,30 @@
 //! Laws of accepted modules, for code that fills or reads buffers which it shares with shaders.
 //!
 //! A law is a function that does nothing: its contract says what holds of the values that it is called
-//! with, and a caller may rely on that from then on. Each requires that the validator has accepted
-//! this module, with overrides resolved or not; `Validator::validate` and
+//! with, and a caller may rely on that from then on. Each that takes a module requires that the
+//! validator has accepted it, with overrides resolved or not; `Validator::validate` and
 //! `validate_resolved_overrides` promise that if they return `Ok`. Of a handle to no type of the
 //! module nothing is said. Sizes, offsets, spans, strides and alignments are in bytes.
 //!
 //! The leaves of a value are its scalars, vectors, matrices and atomics, at any depth of arrays and
 //! structs. Each is named by the indices of the elements and members that lead to it.
 
-ghost use Rattle.std.specs.Prelude.{◌+◌, ◌*◌, ◌≤◌, ℕ, IfSome, length, slice_get};
+ghost use Rattle.std.specs.Prelude.{◌≡◌, ◌+◌, ◌*◌, ◌≤◌, ℕ, IfSome, Some, bit_or, length, slice_get};
+ghost use Rattle.naga_immediates.specs.LeafSlots.{HasNoArray, HasSlotsOfLeaves};
+ghost use Rattle.naga_immediates.specs.SlotText as text;
+ghost use Rattle.naga_immediates.specs.Slots.{AreExactly, SharesByte, UsesSlot};
 ghost use Rattle.naga_ir.specs.Handles.{HandlesAccepted};
 ghost use Rattle.naga_ir.specs.ItemReferences.{global_lists};
 ghost use Rattle.naga_types.specs.HostLayouts.{HasStorageByLeaves, HasUniformByLeaves, HaveLeafAlignments, IsForHosts, MembersHaveFlags};
 ghost use Rattle.naga_types.specs.HostLeaves.{IsLaidOutForHosts, resolved_for_hosts, sized_for_hosts};
-ghost use Rattle.naga_typing.specs.Leaves.{AreSeparate, EndsInArray, size_at_index};
+ghost use Rattle.naga_ir_types.specs.declared.types.TypeInner.{TypeInner};
+ghost use Rattle.naga_typing.specs.Leaves.{AreSeparate, EndsInArray, inner_at, size_at_index};
 ghost use Rattle.naga_valid.specs.Accepted.{Accepts, AreValidTypes};
 ghost use Rattle.naga_valid.specs.Functions.{CanJudgeInOrder};
 ghost use Rattle.naga_valid.specs.State.{settings_of};
 
 use crate::driver::Validator;
+use naga_immediates::immediates::ImmediateSlots;
 use naga_infos::module_info::ModuleInfo;
 use naga_ir::handle::Handle;
 use naga_ir::ir::Module;
@@ -124,6 +129,55 @@ pub fn struct_flags<T: Typing>(
 )
     requires accepted { AreValidTypes «module».now (settings_of validator.now resolved) validator.now.infos }
     ensures { IfSome (slice_get validator.now.infos ty) (λ info. MembersHaveFlags (global_lists «module».now) validator.now.infos ty info) }
+{}
+
+/// The slots of immediate data that a type without arrays uses are those of its leaves. `slots` are the
+/// slots that a value of the type uses if it begins at byte `offset`, as `ImmediateSlots::from_type`
+/// returns them. A slot is among them exactly if it is one of the 64 that there are, and a leaf of the
+/// value shares a byte with it. If each leaf ends by byte 256, that is all that the leaves share bytes
+/// with.
+///
+/// It holds of types with the flags `DATA` and `HOST_SHAREABLE`. Of types with arrays inside nothing is
+/// said, since the slots of an array are those of its strides too. `length` is that of runtime-sized
+/// arrays, which such a type has none of.
+pub fn slots_of_leaves<T: Typing>(
+    module: &Module,
+    validator: &Validator<T>,
+    resolved: bool,
+    ty: Handle<TypeTag>,
+    length: u32,
+    offset: u32,
+    slots: ImmediateSlots,
+)
+    requires accepted { AreValidTypes «module».now (settings_of validator.now resolved) validator.now.infos }
+    ensures { IfSome (slice_get validator.now.infos ty) (λ info. IsForHosts info → HasNoArray (global_lists «module».now) ty
+        → (inner : TypeInner) → inner_at (global_lists «module».now) ty ≡ Some inner → AreExactly (UsesSlot (global_lists «module».now) inner offset) slots
+        → HasSlotsOfLeaves (global_lists «module».now) length ty offset slots) }
+{}
+
+/// Sets of slots that are shown by the same text are equal.
+pub fn slot_text(slots: ImmediateSlots, other: ImmediateSlots)
+    ensures { text.slot_text slots ≡ text.slot_text other → slots ≡ other }
+{}
+
+/// Two ranges of bytes, of which one begins where the other ends, use together the slots of the one
+/// range that they make. `first` are the slots of `size` bytes from `offset` on, `next` those of the
+/// `more` bytes after them, and `both` those of all, as `ImmediateSlots::from_range` returns them. Then
+/// `first | next` is `both`.
+///
+/// It holds at sums past 32 bits too.
+pub fn ranges_join(
+    offset: u32,
+    size: u32,
+    more: u32,
+    first: ImmediateSlots,
+    next: ImmediateSlots,
+    both: ImmediateSlots,
+)
+    requires first { AreExactly (SharesByte offset size) first }
+    requires next { AreExactly (SharesByte (offset + size) more) next }
+    requires both { AreExactly (SharesByte offset (size + more)) both }
+    ensures { record { 0 = bit_or first.0 next.0 } ≡ both }
 {}
 
 /// The functions of an accepted module can be judged by `Validator::validate_function_expressions`, in

@@ -44,6 +44,7 @@ pub use naga_handles::handles::validate_module_handles;
 pub use naga_handles::order::Item;
 pub use naga_handles::order::Walk;
 pub use naga_handles::order::visit_order;
+pub use naga_immediates::immediates::ImmediateSlots;
 pub use naga_infos::infer::UntypedExpression;
 pub use naga_infos::infer::infer_types;
 pub use naga_ir::alignment::Alignment;

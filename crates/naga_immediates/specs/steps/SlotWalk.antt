@@ -1,15 +1,27 @@
 -- What the steps of `from_type` promise.
-use Rattle.std.specs.Prelude.{◌≡◌, ◌<◌, ◌⊎◌, ℕ, Option, Some, None, ltb, slice_get, if◌then◌else◌}
-use Rattle.naga_immediates.specs.Slots.{HasSlot, UsesSlot, slot_count}
+use Rattle.std.specs.Prelude.{◌≡◌, ◌+◌, ◌*◌, ◌%◌, ◌<◌, ◌⊎◌, ℕ, Option, Some, None, ltb, slice_get, if◌then◌else◌}
+use Rattle.naga_immediates.specs.Slots.{HasSlot, UsesSlot, byte_count, slot_count}
 use Rattle.naga_immediates.specs.declared.immediates.ImmediateSlots.{ImmediateSlots}
 use Rattle.naga_immediates.specs.declared.immediates.Walk.{Walk}
 use Rattle.naga_ir.specs.ItemReferences.{GlobalLists}
 use Rattle.naga_ir_types.specs.declared.types.TypeInner.{TypeInner}
 use Rattle.naga_typing.specs.Leaves.{inner_at}
 
--- a byte of immediate data, if there is one of this number
+-- a byte that a slot has, if there is one of this number
 abbrev pub byte_of : ℕ → Option ℕ
-byte_of n = if ltb n 256 then Some n else None
+byte_of n = if ltb n byte_count then Some n else None
+
+-- how many struct types a walk notes for each byte
+abbrev pub notes_a_byte : ℕ
+notes_a_byte = 8
+
+-- how many it notes for all bytes
+abbrev pub note_count : ℕ
+note_count = 2048
+
+-- where it notes that it has walked through a struct type from a byte
+abbrev pub place_of : (t byte : ℕ) → ℕ
+place_of t byte = notes_a_byte * byte + t % notes_a_byte
 
 -- a value of the type of an index uses a slot if it begins at byte `at`
 pub record TypeUses (g : GlobalLists) (t at k : ℕ) : Type 0 where
@@ -25,4 +37,4 @@ pub record Gains (g : GlobalLists) (t at : ℕ) (old new : ImmediateSlots) : Typ
 
 -- a walk has found all slots of the types that it has noted
 abbrev pub KnowsNoted : GlobalLists → Walk → Type 0
-KnowsNoted g walk = (byte t k : ℕ) → slice_get walk.last byte ≡ Some (Some t) → k < slot_count → TypeUses g t byte k → HasSlot walk.slots k
+KnowsNoted g walk = (byte t k : ℕ) → slice_get walk.noted (place_of t byte) ≡ Some (Some t) → k < slot_count → TypeUses g t byte k → HasSlot walk.slots k

@@ -6,4 +6,4 @@ use Rattle.naga_immediates.proofs.immediates.slots_of_part.Goals as goal
 pub returns : goal.returns
 returns c =
     greatest_size _ _ c.try_size.result c.from_range.result c.try_size.ensures.value
-    (subst (λ n. AreExactly (SharesByte c.args.offset n) c.from_range.result) c.unwrap_or.ensures c.from_range.ensures.slots)
+    (subst (λ n. AreExactly (SharesByte c.args.offset n) c.from_range.result) c.unwrap_or.ensures c.from_range.ensures)

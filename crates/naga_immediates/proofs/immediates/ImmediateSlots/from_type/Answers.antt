@@ -1,4 +1,4 @@
-use Rattle.std.proofs.Common.{◌≡◌, ap, refl, sym, ◌∙◌, arith}
+use Rattle.std.proofs.Common.{ap, refl, sym, ◌∙◌, arith}
 use Rattle.naga_immediates.proofs.SlotParts.{member_exists, passes_on, plain, starts, used_by_other, walked, walks_on}
 use Rattle.naga_immediates.proofs.SlotSets.{exactly_too}
 use Rattle.naga_immediates.specs.Slots.{SharesByte, UsesSlot, lists_with}
@@ -15,7 +15,7 @@ returns-in_default c =
     c.slots_of_part.ensures
 
 pub loop-member-init : goal.loop-member-init
-loop-member-init c = starts _ _ _ c.new-walk.result c.new-walk.ensures.slots c.new-walk.ensures.last
+loop-member-init c = starts _ _ _ c.new-walk.result c.new-walk.ensures.slots c.new-walk.ensures.noted
 
 pub add-requires-clause-exists : goal.add-requires-clause-exists
 add-requires-clause-exists c =

@@ -1,4 +1,4 @@
-use Rattle.std.proofs.Common.{◌≡◌, ◌≢◌, ◌<◌, ◌≤◌, ◌+◌, ◌⊎◌, ⊎_elim, ℕ, List, Option, Some, length, get_or, inl, inr, refl, sym, ap, subst, ◌∙◌, arith, rules}
+use Rattle.std.proofs.Common.{◌≡◌, ◌≢◌, ◌<◌, ◌⊎◌, ⊎_elim, ℕ, List, Option, Some, length, get_or, inl, inr, sym, ap, subst, ◌∙◌, arith}
 use Rattle.std.specs.List.{slice_get, slice_set}
 use Rattle.std.proofs.lemmas.Bool.{cases_lt}
 use Rattle.std.proofs.lemmas.Grind.{get_or-set_at}
@@ -8,7 +8,7 @@ use Rattle.naga_immediates.proofs.SlotParts.{all_added, begin, inner_is, member_
 use Rattle.naga_immediates.specs.Slots.{AreExactly, HasSlot, SharesByte, slot_count}
 use Rattle.naga_immediates.specs.declared.immediates.ImmediateSlots.{ImmediateSlots}
 use Rattle.naga_immediates.specs.declared.immediates.Walk.{Walk}
-use Rattle.naga_immediates.specs.steps.SlotWalk.{Gains, KnowsNoted, TypeUses}
+use Rattle.naga_immediates.specs.steps.SlotWalk.{Gains, KnowsNoted, TypeUses, place_of}
 use Rattle.naga_ir.specs.ItemReferences.{GlobalLists}
 use Rattle.naga_ir_types.specs.declared.types.TypeInner.TheVariants.{Struct}
 use Rattle.naga_typing.proofs.Existence.{references_exist}
@@ -18,12 +18,12 @@ use Rattle.naga_immediates.proofs.immediates.Walk.+add.Goals as goal
 use Rattle.naga_immediates.proofs.immediates.Walk.+add.Goals.{in-Some, in_default-member_byte}
 
 -- what is noted stays found if slots are added
-still_known : (g : GlobalLists) (slots slots′ : ImmediateSlots) (last : List (Option ℕ)) → ((k : ℕ) → HasSlot slots k → HasSlot slots′ k)
-    → KnowsNoted g record { slots = slots; last = last } → KnowsNoted g record { slots = slots′; last = last }
-still_known g slots slots′ last kept known byte t k at within u = kept k (known byte t k at within u)
+still_known : (g : GlobalLists) (slots slots′ : ImmediateSlots) (noted : List (Option ℕ)) → ((k : ℕ) → HasSlot slots k → HasSlot slots′ k)
+    → KnowsNoted g record { slots = slots; noted = noted } → KnowsNoted g record { slots = slots′; noted = noted }
+still_known g slots slots′ noted kept known byte t k at within u = kept k (known byte t k at within u)
 
 -- what is noted is gained already
-noted_gains : (g : GlobalLists) (walk : Walk) (t byte : ℕ) → KnowsNoted g walk → slice_get walk.last byte ≡ Some (Some t) → Gains g t byte walk.slots walk.slots
+noted_gains : (g : GlobalLists) (walk : Walk) (t byte : ℕ) → KnowsNoted g walk → slice_get walk.noted (place_of t byte) ≡ Some (Some t) → Gains g t byte walk.slots walk.slots
 noted_gains g walk t byte known at = record { kept = λ k h. h; gained = λ k within u. known byte t k at within u; only = λ k h. inl h }
 
 -- what is read after a write is what was written, or what was there
@@ -42,14 +42,18 @@ read_set xs i j y v at =
     (cases_lt i j))
     (cases_lt j i)
 
+-- a place tells bytes apart at one type
+same_byte : (t t′ byte byte′ : ℕ) → t ≡ t′ → place_of t′ byte′ ≡ place_of t byte → byte ≡ byte′
+same_byte t t′ byte byte′ e same = omega arith
+
 -- a type whose slots are found may be noted
-noted_more : (g : GlobalLists) (walk : Walk) (t byte place : ℕ) → KnowsNoted g walk → place ≡ byte → ((k : ℕ) → k < slot_count → TypeUses g t byte k → HasSlot walk.slots k)
-    → KnowsNoted g record { slots = walk.slots; last = slice_set walk.last place (Some t) }
+noted_more : (g : GlobalLists) (walk : Walk) (t byte place : ℕ) → KnowsNoted g walk → place ≡ place_of t byte → ((k : ℕ) → k < slot_count → TypeUses g t byte k → HasSlot walk.slots k)
+    → KnowsNoted g record { slots = walk.slots; noted = slice_set walk.noted place (Some t) }
 noted_more g walk t byte place known same found byte′ t′ k at within u =
     ⊎_elim
-    (λ p. found k within (subst (λ n. TypeUses g t n k) (p.0 ∙ same) (subst (λ n. TypeUses g n byte′ k) (same_Some t′ t p.1) u)))
+    (λ p. let alike : t′ ≡ t = same_Some t′ t p.1 in found k within (subst (λ n. TypeUses g t n k) (sym (same_byte t t′ byte byte′ (sym alike) (p.0 ∙ same))) (subst (λ n. TypeUses g n byte′ k) alike u)))
     (λ before. known byte′ t′ k before within u)
-    (read_set walk.last place byte′ (Some t) (Some t′) at)
+    (read_set walk.noted place (place_of t′ byte′) (Some t) (Some t′) at)
 
 pub slots_of_part-requires : goal.slots_of_part-requires
 slots_of_part-requires t c = record { exist = references_exist (lists_of c.args.gctx) c.requires.references _ _ c.index.ensures; references = c.requires.references }
@@ -90,7 +94,7 @@ pub returns-clause-noted : goal.returns-clause-noted
 returns-clause-noted t c =
     let is : c.index.result.now.inner ≡ Struct c.as_slice-member-items.result.now c.in-Struct.span = c.in-Struct.is ∙ ap (λ ms. Struct ms c.in-Struct.span) (sym c.as_slice-member-items.ensures) in
     let gains = all_added (lists_of c.args.gctx) c.args.ty c.index.result.now.inner c.as_slice-member-items.result.now c.in-Struct.span c.args.byte c.loop-member.member-index _ _ (omega arith) (inner_is (lists_of c.args.gctx) c.args.ty _ c.index.ensures) is c.loop-member.invariant.gains in
-    noted_more (lists_of c.args.gctx) c.loop-member.self c.args.ty c.args.byte c.from-2.result c.loop-member.invariant.noted c.from-2.ensures gains.gained
+    noted_more (lists_of c.args.gctx) c.loop-member.self c.args.ty c.args.byte c.place_of.result c.loop-member.invariant.noted c.place_of.ensures.value gains.gained
 
 pub returns-clause-gains : goal.returns-clause-gains
 returns-clause-gains t c =
