@@ -41,6 +41,17 @@ pub(crate) fn assert_same_for<R: Debug, T: Debug + PartialEq>(
     assert!(rt; *got == *want, "{row:?}: {got:?}, and not {want:?}");
 }
 
+/// Makes sure that a set of slots is shown as this text, for one row of a table.
+pub(crate) fn assert_shown_for<R: Debug>(
+    rt: &(impl AllocGlobal + Abort),
+    row: &R,
+    slots: &ImmediateSlots,
+    want: &str,
+) {
+    let shown = format!(in rt.alloc(); "{slots}").expect(rt, "memory");
+    assert!(rt; shown.as_str() == want, "{row:?}: {shown}, and not {want}");
+}
+
 /// Makes sure that references in a module exist and go back.
 pub(crate) fn assert_references_ok(rt: &impl Abort, alloc: Global, module: &Module)
     ensures { GlobalReferencesOk (global_lists «module».now) }

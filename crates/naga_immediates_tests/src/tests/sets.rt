@@ -1,6 +1,6 @@
 //! Sets of slots by themselves.
 
-use super::assert_same_for;
+use super::{assert_same_for, assert_shown_for};
 use naga_immediates::immediates::ImmediateSlots;
 use std::process::Abort;
 
@@ -42,6 +42,7 @@ fn range_unaligned(rt: HostRuntime) {
             (6, 2, 0b10),
             (3, 2, 0b11),
             (255, 1, 1 << 63),
+            (252, 4, 1 << 63),
         ],
     );
 }
@@ -52,6 +53,7 @@ fn bytes_from_256_on_are_in_no_slot(rt: HostRuntime) {
         &rt,
         &[
             (0, 0, 0),
+            (300, 0, 0),
             (4294967295, 0, 0),
             (256, 4, 0),
             (252, 8, 1 << 63),
@@ -91,4 +93,17 @@ fn difference(rt: HostRuntime) {
     );
     let both = ImmediateSlots::from_range(0, 3) | ImmediateSlots::from_range(3, 2);
     assert_same_for(&rt, &both, &both, &ImmediateSlots::from_range(0, 5));
+}
+
+#[test]
+fn sets_are_shown_by_their_runs(rt: HostRuntime) {
+    for (raw, want) in [
+        (0, "(none)"),
+        (u64::MAX, "0..256"),
+        (0b1111_0001, "0..4, 16..32"),
+        (0b101, "0..4, 8..12"),
+        (1 << 63, "252..256"),
+    ] {
+        assert_shown_for(&rt, &raw, &ImmediateSlots::from_raw(raw), want);
+    }
 }

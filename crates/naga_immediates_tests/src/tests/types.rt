@@ -1,6 +1,6 @@
 //! The slots that types use.
 
-use super::{assert_same_for, slots_of_last, with_text};
+use super::{assert_same_for, assert_shown_for, slots_of_last, with_text};
 use naga_immediates::immediates::ImmediateSlots;
 use naga_ir::handle::Handle;
 use naga_ir::ir::Module;
@@ -65,24 +65,39 @@ fn from_type_excludes_struct_padding(rt: HostRuntime) {
         "type scalar float 4\ntype vector 4 float 4\ntype struct 32 0:0 1:16\ntype vector 2 float 4\ntype struct 48 3:0 2:16";
     let array =
         "type scalar float 4\ntype vector 4 float 4\ntype struct 32 0:0 1:16\ntype array 2 2 32";
-    for (text, offset, raw) in [
-        (inner, 0, 0b1111_0001),
-        (outer, 0, 0xF13),
-        (outer, 208, 0xF130_0000_0000_0000),
-        (outer, 212, 0xE260_0000_0000_0000),
-        (outer, 4294967295, 0),
-        (array, 0, 0xFFFF),
-        ("type struct 8", 0, 0),
+    let far = "type rayquery 0\ntype struct 4294967295 0:4294967295";
+    for (text, offset, raw, shown) in [
+        (inner, 0, 0b1111_0001, "0..4, 16..32"),
+        (outer, 0, 0xF13, "0..8, 16..20, 32..48"),
+        (
+            outer,
+            208,
+            0xF130_0000_0000_0000,
+            "208..216, 224..228, 240..256",
+        ),
+        (
+            outer,
+            212,
+            0xE260_0000_0000_0000,
+            "212..220, 228..232, 244..256",
+        ),
+        (outer, 4294967295, 0, "(none)"),
+        (array, 0, 0xFFFF, "0..64"),
+        ("type struct 8", 0, 0, "(none)"),
+        (far, 4294967295, 0, "(none)"),
         (
             "type scalar float 4\ntype struct 4294967295 0:4294967295 0:0 0:255",
             1,
             0b11,
+            "0..8",
         ),
     ] {
         let slots = with_text(&rt, rt.alloc(), text, |module| {
             slots_of_last(&rt, rt.alloc(), module, offset)
         });
-        assert_same_for(&rt, &(text, offset), &slots, &ImmediateSlots::from_raw(raw));
+        let row = (text, offset);
+        assert_same_for(&rt, &row, &slots, &ImmediateSlots::from_raw(raw));
+        assert_shown_for(&rt, &row, &slots, shown);
     }
 }
 
