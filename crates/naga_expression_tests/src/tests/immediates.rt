@@ -89,10 +89,7 @@ fn accepted_size(
 }
 
 /// Whether the base of an expression is there, if it accesses a member by its index.
-fn has_base(
-    expressions: &Arena<Expression, ExpressionTag>,
-    pointer: Handle<ExpressionTag>,
-) -> bool
+fn has_base(expressions: &Arena<Expression, ExpressionTag>, pointer: Handle<ExpressionTag>) -> bool
     requires { pointer < length expressions.now }
     ensures { IsTrue result → BaseExists expressions.now pointer }
 {
@@ -132,12 +129,7 @@ fn assert_reached(rt: &impl Abort, module: &Module, wanted: &[u64])
             &module.global_variables,
             to_ctx(module),
         );
-        assert_same_for(
-            rt,
-            &index,
-            &slots,
-            &ImmediateSlots::from_raw(wanted[index]),
-        );
+        assert_same_for(rt, &index, &slots, &ImmediateSlots::from_raw(wanted[index]));
     }
 }
 
@@ -146,16 +138,17 @@ fn slots_of_an_accepted_module(rt: HostRuntime) -> Result<(), Fail> {
     let alloc = rt.alloc();
     let mut contents = read_text(alloc, TYPES.as_bytes()).expect(&rt, "readable");
     let module = &mut contents.module;
-    let mut validator = Validator::new(
-        alloc,
-        ValidationFlags::default(),
-        Capabilities::IMMEDIATES,
-    );
+    let mut validator = Validator::new(alloc, ValidationFlags::default(), Capabilities::IMMEDIATES);
     add_variable(&rt, module, AddressSpace::Private, 1)?;
     assert_same_for(&rt, &"none", &accepted_size(&mut validator, module)?, &0);
     add_variable(&rt, module, AddressSpace::Immediate, 2)?;
     add_pointers(&rt, alloc, module)?;
-    assert_same_for(&rt, &"a struct", &accepted_size(&mut validator, module)?, &32);
+    assert_same_for(
+        &rt,
+        &"a struct",
+        &accepted_size(&mut validator, module)?,
+        &32,
+    );
     assert_reached(
         &rt,
         module,

@@ -7,36 +7,38 @@ use naga_ir::ir::Module;
 use naga_ir::list::List;
 use naga_ir::memory::OutOfMemory;
 use naga_ir::span::Span;
+use naga_ir::tags::TypeTag;
 use naga_ir::types::{Scalar, StructMember, Type, TypeInner};
 use std::alloc::Global;
 use std::process::Abort;
 use std::test::Fail;
 
-/// Adds a struct of members of the last type at these offsets to a module.
-fn add_struct(
-    rt: &impl Abort,
-    alloc: Global,
-    module: &mut Module,
-    offsets: &[u32],
-    span: u32,
-) -> Result<(), OutOfMemory> {
-    let last = module.types.len().checked_sub(1).expect(rt, "a type");
-    let mut members = Vec::new(alloc);
-    for offset in offsets {
-        members.push(StructMember {
-            name: None,
-            ty: Handle::new(last as u32),
-            binding: None,
-            offset: *offset,
-        })?;
-    }
-    let members = List::from_vec(members);
-    let inner = TypeInner::Struct { members, span };
+/// Adds a type without a name to a module.
+fn add_type(rt: &impl Abort, module: &mut Module, inner: TypeInner) -> Result<(), OutOfMemory> {
     assert!(rt; module.types.len() < 4294967295);
     module
         .types
         .insert(Type { name: None, inner }, Span::default())?;
     Ok(())
+}
+
+/// A struct of members of these types at these offsets.
+fn struct_of(
+    alloc: Global,
+    parts: [(Handle<TypeTag>, u32); 2],
+    span: u32,
+) -> Result<TypeInner, OutOfMemory> {
+    let mut members = Vec::new(alloc);
+    for (ty, offset) in parts {
+        members.push(StructMember {
+            name: None,
+            ty,
+            binding: None,
+            offset,
+        })?;
+    }
+    let members = List::from_vec(members);
+    Ok(TypeInner::Struct { members, span })
 }
 
 /// A module of one number, and of structs nested to a depth, each of members at these offsets of the
@@ -45,15 +47,30 @@ fn nested(
     rt: &impl Abort,
     alloc: Global,
     depth: u32,
-    offsets: &[u32],
+    offsets: [u32; 2],
 ) -> Result<Module, OutOfMemory> {
     let mut module = Module::new(alloc);
-    let inner = TypeInner::Scalar(Scalar::F32);
-    module
-        .types
-        .insert(Type { name: None, inner }, Span::default())?;
+    add_type(rt, &mut module, TypeInner::Scalar(Scalar::F32))?;
     for level in 0..depth {
-        add_struct(rt, alloc, &mut module, offsets, level)?;
+        assert!(rt; level < 4294967295);
+        let before = Handle::new(level);
+        let parts = [(before, offsets[0]), (before, offsets[1])];
+        let inner = struct_of(alloc, parts, level)?;
+        add_type(rt, &mut module, inner)?;
+    }
+    Ok(module)
+}
+
+/// A module of two numbers, and of pairs of structs, each of both types of the pair before at byte 0.
+fn paired(rt: &impl Abort, alloc: Global, pairs: u32) -> Result<Module, OutOfMemory> {
+    let mut module = Module::new(alloc);
+    add_type(rt, &mut module, TypeInner::Scalar(Scalar::F32))?;
+    add_type(rt, &mut module, TypeInner::Scalar(Scalar::U32))?;
+    for at in 0..2 * pairs.min(1000) {
+        let first = at - at % 2;
+        let parts = [(Handle::new(first), 0), (Handle::new(first + 1), 0)];
+        let inner = struct_of(alloc, parts, at)?;
+        add_type(rt, &mut module, inner)?;
     }
     Ok(module)
 }
@@ -109,7 +126,7 @@ fn deep_structs_and_shared_members_cost_little(rt: HostRuntime) -> Result<(), Fa
         (64, [0, 4], u64::MAX),
         (5, [0, 4], 0b11_1111),
     ] {
-        let module = nested(&rt, rt.alloc(), depth, &offsets)?;
+        let module = nested(&rt, rt.alloc(), depth, offsets)?;
         let slots = slots_of_last(&rt, rt.alloc(), &module, 0);
         assert_same_for(
             &rt,
@@ -118,5 +135,8 @@ fn deep_structs_and_shared_members_cost_little(rt: HostRuntime) -> Result<(), Fa
             &ImmediateSlots::from_raw(want),
         );
     }
+    let module = paired(&rt, rt.alloc(), 64)?;
+    let slots = slots_of_last(&rt, rt.alloc(), &module, 4);
+    assert_same_for(&rt, &"pairs", &slots, &ImmediateSlots::from_raw(0b10));
     Ok(())
 }
