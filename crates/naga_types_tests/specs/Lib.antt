@@ -1,8 +1,5 @@
 -- To read first, after those of naga_typing:
 -- Arguments.AreArguments, IsFirstWrong, AreTooFew: what the arguments of a math function may be, for any typing
--- VariableTyping.variable_resolves: a typing that supports global variables, and is lawful
 -- DeclaredTyping.declared_resolves: a typing that supports only what the laws ask
 pub mod Arguments
 pub mod DeclaredTyping
-pub mod VariableLaws
-pub mod VariableTyping

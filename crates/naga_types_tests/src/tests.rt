@@ -11,6 +11,7 @@ mod errors;
 mod flags;
 mod forms;
 mod full_typing;
+mod inference;
 mod infos;
 mod kinds;
 mod layouts;

@@ -284,7 +284,7 @@ pub(super) fn pair(
 }
 
 /// Adds an expression to a function.
-pub(super) fn append(
+fn append(
     rt: &impl Abort,
     function: &mut Function,
     expression: Expression,

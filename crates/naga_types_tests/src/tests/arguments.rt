@@ -4,9 +4,9 @@ ghost use Rattle.std.specs.Prelude.{◌≡◌, ◌⊎◌, ℕ, MatchResult, map}
 ghost use Rattle.naga_types_tests.specs.Arguments.{AreArguments, AreTooFew, IsFirstWrong};
 
 use super::assert_same;
-use super::variables::VariableTyping;
 use naga_ir::expression::MathFunction;
 use naga_ir::types::{Scalar, TypeInner};
+use naga_typing::full_typing::FullTyping;
 use naga_typing::plain_typing::PlainTyping;
 use naga_typing::typing::Typing;
 
@@ -51,7 +51,7 @@ fn arguments_are_checked_from_the_first(rt: HostRuntime) {
         (&[&float, &float], Ok(())),
         (&[&float, &float, &float], Err(ArgumentError::WrongType(2))),
     ] {
-        let checked = check_arguments(&VariableTyping, MathFunction::Max, types);
+        let checked = check_arguments(&FullTyping, MathFunction::Max, types);
         assert_same(&rt, &checked, &want);
     }
     let truth = TypeInner::Scalar(Scalar::BOOL);

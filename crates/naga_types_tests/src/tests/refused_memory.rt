@@ -7,7 +7,7 @@
 
 use super::kinds::kinds_of;
 use super::structs::add_lights;
-use super::{add, add_type, assert_references_ok, judged, with_module};
+use super::{add, add_type, assert_references_ok, inference, judged, with_module};
 use naga_flags::flags::{Capabilities, TypeFlags};
 use naga_ir::alignment::Alignment;
 use naga_ir::expression::{Expression, Literal};
@@ -164,8 +164,9 @@ fn is_refused(rt: &(impl AllocGlobal + Abort)) -> bool {
         is_refused_in_a_copy(rt),
         is_refused_in_a_name(rt),
         is_refused_in_infos(rt),
+        inference::is_refused(rt),
     ];
-    scenarios != [Ok(false); 4]
+    scenarios != [Ok(false); 5]
 }
 
 #[test]

@@ -78,7 +78,7 @@ fn resolve_all<T: Typing>(
 }
 
 /// Makes sure that the handles of a module are right.
-fn assert_handles_ok(rt: &impl Abort, alloc: Global, module: &Module)
+pub(super) fn assert_handles_ok(rt: &impl Abort, alloc: Global, module: &Module)
     ensures { HandlesAccepted «module».now }
 {
     assert!(rt; validate_module_handles(alloc, module).is_ok());
