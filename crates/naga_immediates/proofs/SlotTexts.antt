@@ -1,4 +1,4 @@
--- The texts of sets of slots: how they are written, and that they tell sets apart.
+-- The texts of sets of slots: how they are written, and that different sets have different ones.
 use Rattle.std.proofs.Common.{true, false, cond, ◌≡◌, ◌<◌, ◌≤◌, ◌+◌, ◌*◌, ◌%◌, ◌^◌, ◌≢◌, ℕ, lit<, List, [], ◌∷◌, ◌++◌, All, length, map, append_assoc, append-nil, refl, sym, ap, subst, ◌∙◌, arith}
 use Rattle.std.specs.List.{filter, flat_map, range_with_len}
 use Rattle.std.specs.Prelude.{⊤, codes, decimal}
@@ -70,7 +70,7 @@ digits_end (x ∷ ds) (y ∷ es) r s (here, rest) (here′, rest′) begins begi
     let h = digits_end ds es r s rest rest′ begins begins′ cc in
     (ap (λ n. n ∷ ds) same ∙ ap (λ ds. y ∷ ds) h.0, h.1)
 
--- a run is small enough for its text to tell it
+-- a run is small enough for its text to determine it
 abbrev IsSmall : Run → Type 0
 IsSmall run = (slot_size * run.first < 2 ^ 64) × (slot_size * run.end < 2 ^ 64)
 
@@ -79,7 +79,7 @@ text_ends : (run : Run) (r : List ℕ) → run_text run ++ r ≡ decimal (slot_s
 text_ends run r =
     append_assoc (decimal (slot_size * run.first)) (codes ".." ++ decimal (slot_size * run.end)) r ∙ ap (λ t. decimal (slot_size * run.first) ++ t) (append_assoc (codes "..") (decimal (slot_size * run.end)) r)
 
--- a run and what comes after it are told by their text
+-- a run and what comes after it are determined by their text
 run_ends : (run other : Run) (r s : List ℕ) → IsSmall run → IsSmall other → BeginsOtherwise r → BeginsOtherwise s → run_text run ++ r ≡ run_text other ++ s → (run ≡ other) × (r ≡ s)
 unfolding BeginsOtherwise
 run_ends run other r s small small′ begins begins′ e =

@@ -1,4 +1,4 @@
--- Slots of immediate data, which a set of slots tells apart: four bytes each, from byte 4k on.
+-- Slots of immediate data, the parts that a set of slots distinguishes: four bytes each, from byte 4k on.
 use Rattle.std.specs.Prelude.{◌≡◌, ◌+◌, ◌*◌, ◌<◌, ◌≤◌, ◌↔◌, ℕ, List, Option, Some, None, Bool, true, false, Contains, length, option_and_then, option_map, slice_get, unwrap_or}
 use Rattle.std.specs.Int.{bit_at}
 use Rattle.std.specs.List.{find}
@@ -79,7 +79,7 @@ AccessesNone xs whole pointer = (m : StructMember) → ¬ (AccessesMember xs who
 abbrev pub BaseExists : List Expression → ℕ → Type 0
 BaseExists xs pointer = (base index : ℕ) → slice_get xs pointer ≡ Some (AccessIndex base index) → base < length xs
 
--- what a pointer into a variable of a form reaches, as far as its slots are told apart: a value of a form, and its first byte
+-- what a pointer into a variable of a form reaches, as far as slots distinguish it: a value of a form, and its first byte
 pub data Reaches (g : GlobalLists) (xs : List Expression) (whole : TypeInner) (pointer : ℕ) : TypeInner → ℕ → Type 0 where
   member : (m : StructMember) (inner : TypeInner) → AccessesMember xs whole pointer m → inner_at g m.ty ≡ Some inner → Reaches g xs whole pointer inner m.offset
   all : AccessesNone xs whole pointer → Reaches g xs whole pointer whole 0
