@@ -1,12 +1,21 @@
-//! Validates the module that standard input describes a hundred times, and prints nothing:
-//! `scripts/benchmark` times it. It ends with 0 if the module is accepted each time, else with 1.
+//! Validates the module that standard input describes a hundred times, or if that is a number the
+//! expressions of a function of so many, and prints nothing: `scripts/benchmark` times it. It ends with
+//! 0 if all are accepted each time, else with 1.
 #![tactic(auto)]
+
+mod function;
 
 use naga_text::text::{Contents, read_text};
 use naga_valid::Validator;
 use std::alloc::Global;
 use std::io::Read;
 use std::process::ExitCode;
+use std::str;
+
+/// The number that a text is, if it is one.
+fn number(text: &[u8]) -> Option<u32> {
+    str::from_utf8(text).ok()?.parse().ok()
+}
 
 /// Whether the module of a text is accepted each time.
 fn is_accepted_each_time(alloc: Global, contents: &Contents) -> bool {
@@ -18,8 +27,11 @@ fn is_accepted_each_time(alloc: Global, contents: &Contents) -> bool {
     accepted
 }
 
-/// The same of the text itself, which has to be readable.
+/// The same of the text itself, which has to be readable, or of the function if it is a number.
 fn is_accepted_text(alloc: Global, text: &[u8]) -> bool {
+    if let Some(count) = number(text) {
+        return function::is_accepted(alloc, count);
+    }
     match read_text(alloc, text) {
         Ok(contents) => is_accepted_each_time(alloc, &contents),
         Err(_) => false,

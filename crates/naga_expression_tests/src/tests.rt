@@ -8,6 +8,7 @@ ghost use Rattle.naga_typing.specs.Resolutions.{ResolutionExists};
 
 mod access;
 mod images;
+mod immediates;
 mod math;
 mod operands;
 mod operators;

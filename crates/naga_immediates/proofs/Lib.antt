@@ -4,3 +4,4 @@ pub mod SlotParts
 pub mod SlotRuns
 pub mod SlotSets
 pub mod SlotTexts
+mod WorkedText

@@ -284,7 +284,7 @@ pub(super) fn pair(
 }
 
 /// Adds an expression to a function.
-fn append(
+pub(super) fn append(
     rt: &impl Abort,
     function: &mut Function,
     expression: Expression,
