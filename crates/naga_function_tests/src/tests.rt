@@ -14,7 +14,7 @@ use naga_text::text::read_text;
 use naga_valid::{
     AddressSpace, BinaryOperator, Binding, Capabilities, EntryPoint, Expression, ExpressionError,
     FullTyping, Function, FunctionArgument, FunctionError, FunctionResult, GlobalVariable, Handle,
-    LocalVariable, Module, ModuleInfo, OutOfMemory, ShaderStages, Span, Text, TypeResolution,
+    List, LocalVariable, Module, ModuleInfo, OutOfMemory, ShaderStages, Span, Statement, Text, TypeResolution,
     ValidationError, ValidationFlags, Validator, laws,
 };
 use std::alloc::Global;
@@ -170,6 +170,22 @@ fn binary(op: BinaryOperator, left: u32, right: u32) -> Expression {
         left: at(left),
         right: at(right),
     }
+}
+
+/// A call of a function with one argument, and its result.
+fn call(
+    alloc: Global,
+    function: u32,
+    argument: u32,
+    result: u32,
+) -> Result<Statement, OutOfMemory> {
+    let mut arguments = List::new(alloc);
+    arguments.push(at(argument))?;
+    Ok(Statement::Call {
+        function: at(function),
+        arguments,
+        result: Some(at(result)),
+    })
 }
 
 /// Puts the expression of a change in its place.
