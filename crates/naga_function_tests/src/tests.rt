@@ -14,8 +14,8 @@ use naga_text::text::read_text;
 use naga_valid::{
     AddressSpace, BinaryOperator, Binding, Capabilities, EntryPoint, Expression, ExpressionError,
     FullTyping, Function, FunctionArgument, FunctionError, FunctionResult, GlobalVariable, Handle,
-    List, LocalVariable, Module, ModuleInfo, OutOfMemory, ShaderStages, Span, Statement, Text, TypeResolution,
-    ValidationError, ValidationFlags, Validator, laws,
+    List, LocalVariable, Module, ModuleInfo, OutOfMemory, ShaderStages, Span, Statement, Text,
+    TypeResolution, ValidationError, ValidationFlags, Validator, laws,
 };
 use std::alloc::Global;
 use std::fmt::Debug;
@@ -172,19 +172,19 @@ fn binary(op: BinaryOperator, left: u32, right: u32) -> Expression {
     }
 }
 
-/// A call of a function with one argument, and its result.
+/// A call of a function with one argument, whose result is an expression.
 fn call(
     alloc: Global,
     function: u32,
     argument: u32,
-    result: u32,
+    returned: u32,
 ) -> Result<Statement, OutOfMemory> {
     let mut arguments = List::new(alloc);
     arguments.push(at(argument))?;
     Ok(Statement::Call {
         function: at(function),
         arguments,
-        result: Some(at(result)),
+        result: Some(at(returned)),
     })
 }
 
@@ -249,7 +249,10 @@ fn accepted(
             Ok(info)
         }
         Err(error) => {
-            assert!(rt; *error.as_inner() == ValidationError::OutOfMemory, "{error:?}");
+            assert!(rt;
+                *error.as_inner() == ValidationError::OutOfMemory,
+                "{error:?}"
+            );
             Err(OutOfMemory)
         }
     }
@@ -323,7 +326,10 @@ fn assert_types(rt: &impl Abort, module: &Module, types: &[TypeResolution], want
     assert_same_for(rt, &"types", &types.len(), &want.len());
     for (place, resolution) in types.iter().enumerate() {
         let ty = want.get(place).expect(rt, "a type that is wanted");
-        assert!(rt; is_type(rt, module, resolution, *ty), "{place}: {resolution:?}");
+        assert!(rt;
+            is_type(rt, module, resolution, *ty),
+            "{place}: {resolution:?}"
+        );
     }
 }
 
@@ -337,7 +343,12 @@ fn fill_and_judge(
     shader.fill(rt, rt.alloc(), module, change)?;
     let info = judge(rt, rt.alloc(), module)?;
     let known = info.get_entry_point(0);
-    assert_types(rt, module, known.types.as_slice(), shader.expression_types());
+    assert_types(
+        rt,
+        module,
+        known.types.as_slice(),
+        shader.expression_types(),
+    );
     Ok(known.available_stages)
 }
 

@@ -29,10 +29,10 @@ use super::{
 };
 use bitflags::Flags;
 use naga_valid::{
-    AddressSpace, BinaryOperator, Binding, ComposeError, Expression, ExpressionError,
-    Function, ImageClass, ImageDimension, List, Literal, MathFunction, Module, OutOfMemory,
-    Range, ResolveError, SampleLevel, Scalar, ScalarKind, ShaderStages, Statement,
-    SwizzleComponent, TypeInner, VectorSize,
+    AddressSpace, BinaryOperator, Binding, ComposeError, Expression, ExpressionError, Function,
+    ImageClass, ImageDimension, List, Literal, MathFunction, Module, OutOfMemory, Range,
+    ResolveError, SampleLevel, Scalar, ScalarKind, ShaderStages, Statement, SwizzleComponent,
+    TypeInner, VectorSize,
 };
 use std::alloc::Global;
 use std::process::Abort;
@@ -158,8 +158,29 @@ const SUM: u32 = 22;
 
 /// The types of these.
 pub(super) const EXPRESSION_TYPES: &[u32] = &[
-    VEC2, F32, IMAGE, SAMPLER, TO_MATERIAL, TO_COLOR, F32, VEC4, VEC3, F32, VEC4, TO_TINT, VEC4,
-    VEC4, TO_STRENGTH, F32, VEC4, VEC4, F32, BOOL, F32, VEC4, VEC4,
+    VEC2,
+    F32,
+    IMAGE,
+    SAMPLER,
+    TO_MATERIAL,
+    TO_COLOR,
+    F32,
+    VEC4,
+    VEC3,
+    F32,
+    VEC4,
+    TO_TINT,
+    VEC4,
+    VEC4,
+    TO_STRENGTH,
+    F32,
+    VEC4,
+    VEC4,
+    F32,
+    BOOL,
+    F32,
+    VEC4,
+    VEC4,
 ];
 
 /// The bits of 0.25.

@@ -9,11 +9,7 @@ use naga_valid::{FunctionError, ShaderStages};
 use std::process::Abort;
 
 /// Whether memory was refused while a shader was judged that these stages may use.
-fn is_refused_of(
-    rt: &(impl AllocGlobal + Abort),
-    shader: Shader,
-    stages: ShaderStages,
-) -> bool {
+fn is_refused_of(rt: &(impl AllocGlobal + Abort), shader: Shader, stages: ShaderStages) -> bool {
     match judged(rt, shader, None) {
         Ok(said) => {
             assert!(rt; said == stages);
