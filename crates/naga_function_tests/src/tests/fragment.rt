@@ -449,6 +449,12 @@ fn wrong_values_are_refused(rt: HostRuntime) {
             first_three(PLACE),
             ExpressionError::InvalidSwizzleComponent(SwizzleComponent::Z, VectorSize::Bi),
         ),
+        // A color has four components.
+        refusal(
+            ALPHA,
+            part(LOADED, 4),
+            ExpressionError::IndexOutOfBounds(at(LOADED), 4),
+        ),
         // Vectors are splatted from scalars.
         refusal(
             GREY,
