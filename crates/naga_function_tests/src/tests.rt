@@ -242,6 +242,7 @@ fn accepted(
     ensures flags { IfOk result (λ info. length «module».now.types ≤ length info.lists.type_flags) }
     ensures in_order { OnOk result (CanJudgeInOrder «module».now) }
     ensures functions { IfOk result (λ info. info.lists.functions ≡ []) }
+    ensures entry_points { IfOk result (λ info. info.lists.entry_points ≡ []) }
 {
     match validator.validate(module) {
         Ok(info) => {
@@ -269,6 +270,7 @@ fn judge_functions(
     requires in_order { CanJudgeInOrder «module».now }
     requires none { info.old.lists.functions ≡ [] }
     ensures flags { info.new.lists.type_flags ≡ info.old.lists.type_flags }
+    ensures entry_points { info.new.lists.entry_points ≡ info.old.lists.entry_points }
     ensures functions { OnOk result (length info.new.lists.functions ≡ length «module».now.functions) }
 {
     for (_, function) in module.functions.iter() {
