@@ -388,12 +388,12 @@ struct Refusal {
 }
 
 /// A wrong expression that is refused itself.
-fn refusal(place: u32, wrong: Expression, source: ExpressionError) -> Refusal {
-    refusal_at(place, wrong, place, source)
+fn refused(place: u32, wrong: Expression, source: ExpressionError) -> Refusal {
+    refused_at(place, wrong, place, source)
 }
 
 /// A wrong expression that another one can't have as an operand.
-fn refusal_at(place: u32, wrong: Expression, refused: u32, source: ExpressionError) -> Refusal {
+fn refused_at(place: u32, wrong: Expression, refused: u32, source: ExpressionError) -> Refusal {
     let wrong = Change {
         place,
         expression: wrong,

@@ -27,8 +27,8 @@
 
 use super::{
     Change, Refusal, Shader, Variable, add_arguments, add_entry_point, add_function, add_local,
-    add_variables, append, assert_refused, assert_stages, at, binary, call, load, part, refusal,
-    refusal_at, replace, result_of,
+    add_variables, append, assert_refused, assert_stages, at, binary, call, load, part, refused,
+    refused_at, replace, result_of,
 };
 use bitflags::Flags;
 use naga_valid::{
@@ -355,37 +355,37 @@ fn stages_are_those_with_workgroups(rt: HostRuntime) {
 fn wrong_accesses() -> [Refusal; 6] {
     [
         // The length of an array of a fixed size is no expression.
-        refusal(
+        refused(
             LENGTH,
             Expression::ArrayLength(at(SHARED)),
             ExpressionError::InvalidArrayType(at(SHARED)),
         ),
         // A number has no elements.
-        refusal(
+        refused(
             ELEMENT,
             access(COUNT, STEP),
             ExpressionError::InvalidBaseType(at(COUNT)),
         ),
         // A truth value is no index.
-        refusal(
+        refused(
             ELEMENT,
             access(ELEMENTS, GOES_ON),
             ExpressionError::InvalidIndexType(at(GOES_ON)),
         ),
         // There are 64 shares, so the last has the index 63.
-        refusal(
+        refused(
             SHARE,
             access(SHARED, STEP),
             ExpressionError::IndexOutOfBounds(at(SHARED), 64),
         ),
         // A runtime-sized array is not loaded as a whole.
-        refusal(
+        refused(
             VALUE,
             load(ELEMENTS),
             ExpressionError::InvalidPointerType(at(ELEMENTS)),
         ),
         // Nor are atomics loaded for the workgroup: what is loaded is the value of one.
-        refusal(
+        refused(
             FIRST,
             shared_load(ATOMIC),
             ExpressionError::InvalidWorkGroupUniformLoadResultType(at(ATOMIC)),
@@ -404,7 +404,7 @@ fn wrong_accesses_are_refused(rt: HostRuntime) {
 fn wrong_numbers_are_refused(rt: HostRuntime) {
     for refusal in [
         // An atomic sum of another type can't be added to a number.
-        refusal_at(
+        refused_at(
             EARLIER,
             sum_before(F32),
             LATER,
@@ -417,7 +417,7 @@ fn wrong_numbers_are_refused(rt: HostRuntime) {
             },
         ),
         // A number of 32 bits can be shifted by 31.
-        refusal_at(
+        refused_at(
             BITS,
             Expression::Literal(Literal::U32(32)),
             RESULT,
@@ -427,13 +427,13 @@ fn wrong_numbers_are_refused(rt: HostRuntime) {
             },
         ),
         // Whole numbers have no derivatives.
-        refusal(
+        refused(
             NEXT,
             Expression::Derivative { expr: at(COUNT) },
             ExpressionError::InvalidDerivative,
         ),
         // A runtime-sized array has no zero.
-        refusal(
+        refused(
             STEP,
             Expression::ZeroValue(at(VALUES)),
             ExpressionError::InvalidZeroValue(at(VALUES)),

@@ -24,8 +24,8 @@
 
 use super::{
     Change, Shader, Variable, add_arguments, add_entry_point, add_function, add_local,
-    add_variables, append, assert_refused, assert_stages, at, binary, call, load, part, refusal,
-    refusal_at, replace, result_of,
+    add_variables, append, assert_refused, assert_stages, at, binary, call, load, part, refused,
+    refused_at, replace, result_of,
 };
 use bitflags::Flags;
 use naga_valid::{
@@ -438,31 +438,31 @@ fn stages_are_those_of_the_functions_that_are_called(rt: HostRuntime) {
 fn wrong_values_are_refused(rt: HostRuntime) {
     for refusal in [
         // The function has two arguments.
-        refusal(
+        refused(
             FADE,
             Expression::FunctionArgument(2),
             ExpressionError::FunctionArgumentDoesntExist(2),
         ),
         // A vector of two components has no third.
-        refusal(
+        refused(
             RGB,
             first_three(PLACE),
             ExpressionError::InvalidSwizzleComponent(SwizzleComponent::Z, VectorSize::Bi),
         ),
         // A color has four components.
-        refusal(
+        refused(
             ALPHA,
             part(LOADED, 4),
             ExpressionError::IndexOutOfBounds(at(LOADED), 4),
         ),
         // Vectors are splatted from scalars.
-        refusal(
+        refused(
             GREY,
             splat(VectorSize::Quad, TEXEL),
             ExpressionError::InvalidSplatType(at(TEXEL)),
         ),
         // Terms have one type: to add a scalar to a vector, WGSL splats it first.
-        refusal(
+        refused(
             SUM,
             binary(BinaryOperator::Add, LOADED, FADE),
             ExpressionError::InvalidBinaryOperandTypes {
@@ -474,13 +474,13 @@ fn wrong_values_are_refused(rt: HostRuntime) {
             },
         ),
         // Vectors of four are blended by a scalar or a vector of four.
-        refusal(
+        refused(
             BLENDED,
             mix(RGB),
             ExpressionError::InvalidArgumentType(MathFunction::Mix, 2, at(RGB)),
         ),
         // A number is no condition.
-        refusal(
+        refused(
             OPACITY,
             Expression::Select {
                 condition: at(FADE),
@@ -490,7 +490,7 @@ fn wrong_values_are_refused(rt: HostRuntime) {
             ExpressionError::SelectConditionNotABool { actual: NUMBER },
         ),
         // Three components are not four.
-        refusal(
+        refused(
             HIGHLIGHT,
             color_of(rt.alloc(), &[RGB]).expect(&rt, "memory"),
             ExpressionError::Compose(ComposeError::ComponentCount {
@@ -507,7 +507,7 @@ fn wrong_values_are_refused(rt: HostRuntime) {
 fn wrong_resources_are_refused(rt: HostRuntime) {
     for refusal in [
         // A sampler that compares needs depths and a reference.
-        refusal_at(
+        refused_at(
             SMOOTH,
             Expression::GlobalVariable(at(COMPARED)),
             TEXEL,
@@ -521,25 +521,25 @@ fn wrong_resources_are_refused(rt: HostRuntime) {
             },
         ),
         // A picture has two coordinates.
-        refusal(
+        refused(
             TEXEL,
             sample(FADE),
             ExpressionError::InvalidImageCoordinateType(ImageDimension::D2, at(FADE)),
         ),
         // A function without a result has no value.
-        refusal(
+        refused(
             SHARPNESS,
             Expression::CallResult(at(CLIP)),
             ExpressionError::Type_(ResolveError::NotResolvable),
         ),
         // The material has two members.
-        refusal(
+        refused(
             STRENGTH_POINTER,
             part(BUFFER, 2),
             ExpressionError::IndexOutOfBounds(at(BUFFER), 2),
         ),
         // A color is no pointer.
-        refusal(
+        refused(
             LOADED,
             load(TEXEL),
             ExpressionError::InvalidPointerType(at(TEXEL)),
