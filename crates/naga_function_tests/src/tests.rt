@@ -268,9 +268,10 @@ fn judge_functions(
     requires handles { HandlesAccepted «module».now }
     requires flags { length «module».now.types ≤ length info.old.lists.type_flags }
     requires in_order { CanJudgeInOrder «module».now }
-    requires none { info.old.lists.functions ≡ [] }
-    ensures flags { info.new.lists.type_flags ≡ info.old.lists.type_flags }
-    ensures entry_points { info.new.lists.entry_points ≡ info.old.lists.entry_points }
+    requires functions { info.old.lists.functions ≡ [] }
+    requires entry_points { info.old.lists.entry_points ≡ [] }
+    ensures flags { OnOk result (length «module».now.types ≤ length info.new.lists.type_flags) }
+    ensures entry_points { OnOk result (info.new.lists.entry_points ≡ []) }
     ensures functions { OnOk result (length info.new.lists.functions ≡ length «module».now.functions) }
 {
     for (_, function) in module.functions.iter() {
