@@ -45,4 +45,4 @@ loop-function-preserved c =
     }
 
 pub returns-clause-functions : goal.returns-clause-functions
-returns-clause-functions c = all_counted accepts_all c.args.module.now.functions _ _ c.loop-function.invariant.iterating c.in-None.ensures.steps
+returns-clause-functions c = all_counted accepts_all c.args.module.now.functions _ _ c.loop-function.invariant.iterating c.in-None.ensures.steps.0
