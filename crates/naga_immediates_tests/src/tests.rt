@@ -18,19 +18,6 @@ use std::alloc::Global;
 use std::fmt::Debug;
 use std::process::Abort;
 
-/// What `judge` makes of the module that a text describes.
-pub(crate) fn with_text<R, F: FnOnce(&Module) -> R>(
-    rt: &impl Abort,
-    alloc: Global,
-    text: &str,
-    judge: F,
-) -> R
-    requires { F.IsAlwaysCallable judge }
-{
-    let contents = read_text(alloc, text.as_bytes()).expect(rt, "readable");
-    judge(&contents.module)
-}
-
 /// Makes sure that a value is as wanted, for one row of a table.
 pub(crate) fn assert_same_for<R: Debug, T: Debug + PartialEq>(
     rt: &impl Abort,
@@ -78,4 +65,15 @@ pub(crate) fn slots_of_last(
     let ty = last_type(rt, module);
     let gctx = to_ctx(module);
     ImmediateSlots::from_type(&module.types[ty].inner, offset, &module.types, gctx)
+}
+
+/// The slots that the last type of the module that a text describes uses from a byte on.
+pub(crate) fn slots_of_text(
+    rt: &impl Abort,
+    alloc: Global,
+    text: &str,
+    offset: u32,
+) -> ImmediateSlots {
+    let contents = read_text(alloc, text.as_bytes()).expect(rt, "readable");
+    slots_of_last(rt, alloc, &contents.module, offset)
 }

@@ -1,6 +1,6 @@
 //! The slots that types use.
 
-use super::{assert_same_for, assert_shown_for, slots_of_last, with_text};
+use super::{assert_same_for, assert_shown_for, slots_of_last, slots_of_text};
 use naga_immediates::immediates::ImmediateSlots;
 use naga_ir::handle::Handle;
 use naga_ir::ir::Module;
@@ -9,16 +9,14 @@ use naga_ir::memory::OutOfMemory;
 use naga_ir::span::Span;
 use naga_ir::tags::TypeTag;
 use naga_ir::types::{Scalar, StructMember, Type, TypeInner};
+use naga_ir::unique_arena::UniqueArena;
 use std::alloc::Global;
 use std::process::Abort;
-use std::test::Fail;
 
-/// Adds a type without a name to a module.
-fn add_type(rt: &impl Abort, module: &mut Module, inner: TypeInner) -> Result<(), OutOfMemory> {
-    assert!(rt; module.types.len() < 4294967295);
-    module
-        .types
-        .insert(Type { name: None, inner }, Span::default())?;
+/// Adds a type without a name.
+fn add_type(rt: &impl Abort, types: &mut UniqueArena, inner: TypeInner) -> Result<(), OutOfMemory> {
+    assert!(rt; types.len() < 4294967295);
+    types.insert(Type { name: None, inner }, Span::default())?;
     Ok(())
 }
 
@@ -41,38 +39,57 @@ fn struct_of(
     Ok(TypeInner::Struct { members, span })
 }
 
-/// A module of one number, and of structs nested to a depth, each of members at these offsets of the
-/// struct before.
-fn nested(
+/// Adds one number, and structs nested to a depth, each of members at these offsets of the struct before.
+fn add_nested(
+    rt: &impl Abort,
+    alloc: Global,
+    types: &mut UniqueArena,
+    depth: u32,
+    offsets: [u32; 2],
+) -> Result<(), OutOfMemory> {
+    add_type(rt, types, TypeInner::Scalar(Scalar::F32))?;
+    for level in 0..depth {
+        let before = Handle::new(level);
+        let parts = [(before, offsets[0]), (before, offsets[1])];
+        add_type(rt, types, struct_of(alloc, parts, level)?)?;
+    }
+    Ok(())
+}
+
+/// Adds two numbers, and pairs of structs, each of both types of the pair before at byte 0.
+fn add_pairs(
+    rt: &impl Abort,
+    alloc: Global,
+    types: &mut UniqueArena,
+    pairs: u32,
+) -> Result<(), OutOfMemory> {
+    add_type(rt, types, TypeInner::Scalar(Scalar::F32))?;
+    add_type(rt, types, TypeInner::Scalar(Scalar::U32))?;
+    for at in 0..2 * pairs.min(1000) {
+        let first = at - at % 2;
+        let parts = [(Handle::new(first), 0), (Handle::new(first + 1), 0)];
+        add_type(rt, types, struct_of(alloc, parts, at)?)?;
+    }
+    Ok(())
+}
+
+/// The slots that the last of nested structs uses.
+fn slots_of_nested(
     rt: &impl Abort,
     alloc: Global,
     depth: u32,
     offsets: [u32; 2],
-) -> Result<Module, OutOfMemory> {
+) -> ImmediateSlots {
     let mut module = Module::new(alloc);
-    add_type(rt, &mut module, TypeInner::Scalar(Scalar::F32))?;
-    for level in 0..depth {
-        assert!(rt; level < 4294967295);
-        let before = Handle::new(level);
-        let parts = [(before, offsets[0]), (before, offsets[1])];
-        let inner = struct_of(alloc, parts, level)?;
-        add_type(rt, &mut module, inner)?;
-    }
-    Ok(module)
+    add_nested(rt, alloc, &mut module.types, depth, offsets).expect(rt, "memory");
+    slots_of_last(rt, alloc, &module, 0)
 }
 
-/// A module of two numbers, and of pairs of structs, each of both types of the pair before at byte 0.
-fn paired(rt: &impl Abort, alloc: Global, pairs: u32) -> Result<Module, OutOfMemory> {
+/// The slots that the last of pairs of structs uses from a byte on.
+fn slots_of_pairs(rt: &impl Abort, alloc: Global, pairs: u32, offset: u32) -> ImmediateSlots {
     let mut module = Module::new(alloc);
-    add_type(rt, &mut module, TypeInner::Scalar(Scalar::F32))?;
-    add_type(rt, &mut module, TypeInner::Scalar(Scalar::U32))?;
-    for at in 0..2 * pairs.min(1000) {
-        let first = at - at % 2;
-        let parts = [(Handle::new(first), 0), (Handle::new(first + 1), 0)];
-        let inner = struct_of(alloc, parts, at)?;
-        add_type(rt, &mut module, inner)?;
-    }
-    Ok(module)
+    add_pairs(rt, alloc, &mut module.types, pairs).expect(rt, "memory");
+    slots_of_last(rt, alloc, &module, offset)
 }
 
 #[test]
@@ -109,9 +126,7 @@ fn from_type_excludes_struct_padding(rt: HostRuntime) {
             "0..8",
         ),
     ] {
-        let slots = with_text(&rt, rt.alloc(), text, |module| {
-            slots_of_last(&rt, rt.alloc(), module, offset)
-        });
+        let slots = slots_of_text(&rt, rt.alloc(), text, offset);
         let row = (text, offset);
         assert_same_for(&rt, &row, &slots, &ImmediateSlots::from_raw(raw));
         assert_shown_for(&rt, &row, &slots, shown);
@@ -119,24 +134,17 @@ fn from_type_excludes_struct_padding(rt: HostRuntime) {
 }
 
 #[test]
-fn deep_structs_and_shared_members_cost_little(rt: HostRuntime) -> Result<(), Fail> {
+fn deep_structs_and_shared_members_cost_little(rt: HostRuntime) {
     for (depth, offsets, want) in [
         (10_000, [0, 0], 0b1),
         (64, [0, 0], 0b1),
         (64, [0, 4], u64::MAX),
         (5, [0, 4], 0b11_1111),
     ] {
-        let module = nested(&rt, rt.alloc(), depth, offsets)?;
-        let slots = slots_of_last(&rt, rt.alloc(), &module, 0);
-        assert_same_for(
-            &rt,
-            &(depth, offsets),
-            &slots,
-            &ImmediateSlots::from_raw(want),
-        );
+        let slots = slots_of_nested(&rt, rt.alloc(), depth, offsets);
+        let row = (depth, offsets);
+        assert_same_for(&rt, &row, &slots, &ImmediateSlots::from_raw(want));
     }
-    let module = paired(&rt, rt.alloc(), 64)?;
-    let slots = slots_of_last(&rt, rt.alloc(), &module, 4);
+    let slots = slots_of_pairs(&rt, rt.alloc(), 64, 4);
     assert_same_for(&rt, &"pairs", &slots, &ImmediateSlots::from_raw(0b10));
-    Ok(())
 }
