@@ -1,4 +1,4 @@
-use Rattle.std.proofs.Common.{◌≡◌, ◌≤◌, ◌∷◌, [], ◌∙◌, Some, length, slice_get, refl, sym, subst, ap, length-append}
+use Rattle.std.proofs.Common.{◌≤◌, ◌∷◌, [], ◌∙◌, length, refl, sym, subst, ap, length-append}
 use Rattle.naga_function_tests.proofs.tests.judge_functions.Goals as goal
 use Rattle.naga_infos.specs.ModuleInfo.{ModuleInfoWithRoom}
 use Rattle.naga_typing.proofs.Iteration.{Iterating, accepts_all, all_counted, begin, next_index, next_item, one_more}
