@@ -2,6 +2,7 @@
 
 ghost use Rattle.std.specs.Prelude.{◌≡◌, ◌==◌, ℕ, ◌<◌, ◌≤◌, [], ◌∷◌, ◌++◌, length, IfOk, OnOk, OnErr, Some, slice_get, slice_set, ◌↔◌, IfErr, IsOk};
 ghost use Rattle.naga_arena.specs.Existence.{IsGoodRange};
+ghost use Rattle.naga_arena.specs.Numbers.{largest_u32};
 ghost use Rattle.std.specs.List.{enumerate_from};
 
 use crate::handle::{BadHandle, Handle, Kind};
@@ -24,6 +25,7 @@ pub struct Arena<T, K> {
 }
 
 impl<T, K> Model for Arena<T, K> {
+    ghost use Rattle.naga_arena.specs.Numbers.{largest_u32};
     ghost use Rattle.std.specs.Prelude.{List, ◌≡◌, ◌≤◌, length};
     ghost use Rattle.std.specs.Coded.{coded_list};
 
@@ -33,7 +35,7 @@ impl<T, K> Model for Arena<T, K> {
 
     ghost view = { λ a. a.data.items };
 
-    ghost invariant = { λ a. (length a.span_info.items ≡ length a.data.items) × (length a.data.items ≤ 4294967295) };
+    ghost invariant = { λ a. (length a.span_info.items ≡ length a.data.items) × (length a.data.items ≤ largest_u32) };
 }
 
 impl<T: Drop, K> Arena<T, K> {
@@ -51,7 +53,7 @@ impl<T: Drop, K> Arena<T, K> {
     /// The number of items.
     pub fn len(&self) -> usize
         ensures value { result ≡ length self.now }
-        ensures bound { result ≤ 4294967295 }
+        ensures bound { result ≤ largest_u32 }
     {
         self.data.len()
     }
@@ -69,7 +71,7 @@ impl<T: Drop, K> Arena<T, K> {
     ///
     /// `OutOfMemory` if memory was refused, which leaves the arena as it was and drops the item.
     pub fn append(&mut self, item: T, span: Span) -> Result<Handle<K>, OutOfMemory>
-        requires { length self.old < 4294967295 }
+        requires { length self.old < largest_u32 }
         ensures place { IfOk result (λ h. h ≡ length self.old) }
         ensures appended { OnOk result (self.new ≡ self.old ++ item ∷ []) }
         ensures refused { OnErr result (self.new ≡ self.old) }

@@ -1,5 +1,6 @@
 //! Handles: the indices of items in arenas.
 
+ghost use Rattle.naga_arena.specs.Numbers.{largest_u32};
 ghost use Rattle.std.specs.Prelude.{◌≡◌, ◌<◌, ◌↔◌, IfErr, IsOk};
 
 use crate::text::StaticText;
@@ -29,13 +30,14 @@ pub struct Handle<K> {
 }
 
 impl<K> Model for Handle<K> {
+    ghost use Rattle.naga_arena.specs.Numbers.{largest_u32};
     ghost use Rattle.std.specs.Prelude.{ℕ, ◌<◌};
 
     ghost Value = { ℕ };
 
     ghost view = { λ h. h.index };
 
-    ghost invariant = { λ h. h.index < 4294967295 };
+    ghost invariant = { λ h. h.index < largest_u32 };
 
     ghost inverse = { λ n. record { index = n; kind = record {} } };
 }
@@ -43,7 +45,7 @@ impl<K> Model for Handle<K> {
 impl<K> Handle<K> {
     /// The handle of index `index`. `u32::MAX` is no index.
     pub fn new(index: u32) -> Handle<K>
-        requires { index < 4294967295 }
+        requires { index < largest_u32 }
         ensures { result ≡ index }
     {
         Handle {
@@ -55,7 +57,7 @@ impl<K> Handle<K> {
     /// The index, from 0.
     pub fn index(self) -> usize
         ensures value { result ≡ self }
-        ensures bound { result < 4294967295 }
+        ensures bound { result < largest_u32 }
     {
         self.index as usize
     }

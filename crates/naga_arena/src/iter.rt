@@ -1,5 +1,6 @@
 //! Going over an arena.
 
+ghost use Rattle.naga_arena.specs.Numbers.{largest_u32};
 ghost use Rattle.std.specs.Prelude.{◌≡◌, ◌≤◌, length};
 ghost use Rattle.std.specs.List.{enumerate_from};
 
@@ -15,6 +16,7 @@ pub struct Iter<'a, T, K> {
 }
 
 impl<'a, T, K> Model for Iter<'a, T, K> {
+    ghost use Rattle.naga_arena.specs.Numbers.{largest_u32};
     ghost use Rattle.std.specs.Prelude.{◌+◌, ◌≤◌, ℕ, List, length};
     ghost use Rattle.std.specs.Coded.{coded_list, coded×, coded_ℕ};
     ghost use Rattle.std.specs.List.{enumerate_from};
@@ -25,13 +27,13 @@ impl<'a, T, K> Model for Iter<'a, T, K> {
 
     ghost view = { λ s. enumerate_from s.next s.items.now };
 
-    ghost invariant = { λ s. s.next + length s.items.now ≤ 4294967295 };
+    ghost invariant = { λ s. s.next + length s.items.now ≤ largest_u32 };
 }
 
 impl<'a, T, K> Iter<'a, T, K> {
     /// All items of an arena, from handle 0 on.
     pub fn new(items: &'a [T]) -> Iter<'a, T, K>
-        requires { length items.now ≤ 4294967295 }
+        requires { length items.now ≤ largest_u32 }
         ensures { result ≡ enumerate_from 0 items.entry.now }
     {
         Iter {

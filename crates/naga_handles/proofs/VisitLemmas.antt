@@ -2,6 +2,7 @@
 use Rattle.std.proofs.Common.{◌≡◌, ◌<◌, ◌≤◌, ◌+◌, ◌⊎◌, inl, inr, ℕ, Some, None, length, slice_get, refl, sym, ap, subst, ◌∙◌, arith}
 use Rattle.std.proofs.lemmas.Bool.{cases_lt}
 use Rattle.std.proofs.lemmas.Option.{same_Some}
+use Rattle.naga_arena.specs.Numbers.{largest_u32}
 use Rattle.naga_ir.specs.Handles.{size_initialiser}
 use Rattle.naga_ir.specs.ItemReferences.{global_lists}
 use Rattle.naga_ir.specs.References.{named_type}
@@ -96,7 +97,7 @@ module _ (m : Module) where
             let nothing = ap (size_initialiser (global_lists m)) place ∙ none in absurd (cc)
 
     -- one that asks for expressions was visited with them
-    pub reached_sized : (d last now : ℕ) → size_initialiser (global_lists m) t ≡ Some last → SeenUpTo m t c d last → d ≤ 4294967295 → now ≡ t + 1 + d → Reached m (t + 1) d now
+    pub reached_sized : (d last now : ℕ) → size_initialiser (global_lists m) t ≡ Some last → SeenUpTo m t c d last → d ≤ largest_u32 → now ≡ t + 1 + d → Reached m (t + 1) d now
     reached_sized d last now sized up few counted = record {
       inside = up.inside;
       few = few;

@@ -2,6 +2,7 @@
 
 ghost use Rattle.std.specs.Prelude.{◌≡◌, ◌+◌, ◌<◌, ◌≤◌, List, [], ◌∷◌, ◌++◌, IfErr, IfOk, OnOk, length};
 ghost use Rattle.naga_arena.specs.Memory.{UnlessOutOfMemory};
+ghost use Rattle.naga_arena.specs.Numbers.{largest_u32};
 ghost use Rattle.naga_ir.specs.ItemReferences.{global_lists};
 ghost use Rattle.naga_handles.specs.Order.{CanBeOrdered, IsOrder, NamesOrderFault, RanksFall};
 ghost use Rattle.naga_handles.specs.steps.VisitState.{IsNoOrder, Placed, PlacesUpTo, Reached};
@@ -78,7 +79,7 @@ fn order_of(alloc: Global, module: &Module) -> Result<Walk, ValidationFault>
 /// Adds the global expressions from index `from` to before index `to`.
 fn push_expressions(order: &mut Vec<Item>, from: usize, to: usize) -> Result<(), OutOfMemory>
     requires grows { from ≤ to }
-    requires few { to ≤ 4294967295 }
+    requires few { to ≤ largest_u32 }
     ensures { OnOk result (PlacesUpTo order.old.items order.new.items from to) }
 {
     for index in from..to {
@@ -95,7 +96,7 @@ fn push_visited(
     handle: Handle<TypeTag>,
 ) -> Result<(), OutOfMemory>
     requires grows { from ≤ to }
-    requires few { to ≤ 4294967295 }
+    requires few { to ≤ largest_u32 }
     ensures { OnOk result ((between : List Item) × PlacesUpTo order.old.items between from to × (order.new.items ≡ between ++ item.Type_ handle ∷ [])) }
 {
     push_expressions(order, from, to)?;
@@ -110,7 +111,7 @@ fn visit_in_order(
     order: &mut Vec<Item>,
     handle: Handle<TypeTag>,
 ) -> Result<(), ValidationFault>
-    requires few { handle < 4294967295 }
+    requires few { handle < largest_u32 }
     requires exists { handle < length «module».now.types }
     requires reached { Reached «module».now handle walker.old.visited walker.old.reader.looks }
     requires placed { Placed (global_lists «module».now) order.old.items handle walker.old.visited }

@@ -10,6 +10,7 @@
 //! each item is visited once. naga's `validate_module_handles` reasons alike.
 
 ghost use Rattle.std.specs.Prelude.{◌≡◌, ℕ, ◌+◌, ◌<◌, ◌≤◌, IfErr, IfOk, OnOk, Some, length, slice_get};
+ghost use Rattle.naga_arena.specs.Numbers.{largest_u32};
 ghost use Rattle.naga_ir.specs.Handles.{Exists, module_counts, size_initialiser};
 ghost use Rattle.naga_ir.specs.ItemReferences.{global_lists};
 ghost use Rattle.naga_ir.specs.References as references;
@@ -200,13 +201,13 @@ impl Walker {
         handle: Handle<TypeTag>,
         last: Handle<ExpressionTag>,
     ) -> Result<(), InvalidHandleError>
-        requires few { (handle < 4294967295) × (self.old.visited ≤ 4294967295) }
+        requires few { (handle < largest_u32) × (self.old.visited ≤ largest_u32) }
         requires exists { last < length «module».now.global_expressions }
         requires inside { self.old.visited ≤ length «module».now.global_expressions }
         requires sized { size_initialiser (global_lists «module».now) handle ≡ Some last }
         requires counted { self.old.reader.looks ≡ handle + 1 + self.old.visited }
         ensures seen { OnOk result (SeenUpTo «module».now handle self.old.visited self.new.visited last) }
-        ensures few { OnOk result (self.new.visited ≤ 4294967295) }
+        ensures few { OnOk result (self.new.visited ≤ largest_u32) }
         ensures counted { OnOk result (self.new.reader.looks ≡ handle + 1 + self.new.visited) }
         ensures refused { IfErr result (IsOrderFault «module».now) }
     {
@@ -222,11 +223,11 @@ impl Walker {
 
     /// Visits the global expressions that no size needs. The types that they name only have to exist.
     pub(crate) fn visit_rest(&mut self, module: &Module) -> Result<(), InvalidHandleError>
-        requires few { length «module».now.types ≤ 4294967295 }
+        requires few { length «module».now.types ≤ largest_u32 }
         requires reached { Reached «module».now (length «module».now.types) self.old.visited self.old.reader.looks }
         ensures accepted { OnOk result (CanBeOrdered «module».now) }
         ensures visited { OnOk result (self.new.visited ≡ length «module».now.global_expressions) }
-        ensures few { OnOk result (self.new.visited ≤ 4294967295) }
+        ensures few { OnOk result (self.new.visited ≤ largest_u32) }
         ensures counted { OnOk result (self.new.reader.looks ≡ length «module».now.types + length «module».now.global_expressions) }
         ensures refused { IfErr result (IsOrderFault «module».now) }
     {
@@ -246,7 +247,7 @@ impl Walker {
         module: &Module,
         handle: Handle<TypeTag>,
     ) -> Result<(), InvalidHandleError>
-        requires few { handle < 4294967295 }
+        requires few { handle < largest_u32 }
         requires exists { handle < length «module».now.types }
         requires reached { Reached «module».now handle self.old.visited self.old.reader.looks }
         ensures reached { OnOk result (Reached «module».now (handle + 1) self.new.visited self.new.reader.looks) }

@@ -2,6 +2,7 @@
 
 ghost use Rattle.std.specs.Prelude.{◌≡◌, ◌==◌, ℕ, ◌<◌, ◌≤◌, [], ◌∷◌, ◌++◌, length, IsOk, IfOk, OnOk, OnErr, IfSome, IsSome, Contains, ◌↔◌, Some, slice_get, codes, IfErr};
 ghost use Rattle.naga_arena.specs.Existence.{IsGoodRange};
+ghost use Rattle.naga_arena.specs.Numbers.{largest_u32};
 ghost use Rattle.std.specs.List.{enumerate_from};
 ghost use Rattle.naga_ir_types.specs.Distinct.{AllDistinct};
 
@@ -30,6 +31,7 @@ pub struct UniqueArena {
 }
 
 impl Model for UniqueArena {
+    ghost use Rattle.naga_arena.specs.Numbers.{largest_u32};
     ghost use Rattle.std.specs.Prelude.{List, ◌≡◌, ◌≤◌, length};
     ghost use Rattle.naga_ir_types.specs.declared.types.«Type».{«Type»};
 
@@ -37,7 +39,7 @@ impl Model for UniqueArena {
 
     ghost view = { λ a. a.set.keys };
 
-    ghost invariant = { λ a. (length a.span_info.items ≡ length a.set.keys) × (length a.set.keys ≤ 4294967295) };
+    ghost invariant = { λ a. (length a.span_info.items ≡ length a.set.keys) × (length a.set.keys ≤ largest_u32) };
 }
 
 impl UniqueArena {
@@ -54,7 +56,7 @@ impl UniqueArena {
     /// The number of types.
     pub fn len(&self) -> usize
         ensures value { result ≡ length self.now }
-        ensures bound { result ≤ 4294967295 }
+        ensures bound { result ≤ largest_u32 }
     {
         self.set.len()
     }
@@ -69,7 +71,7 @@ impl UniqueArena {
     /// All types, in the order of their handles. No two are equal.
     pub fn as_slice(&self) -> &[Type]
         ensures items { result.now ≡ self.now }
-        ensures bound { length result.now ≤ 4294967295 }
+        ensures bound { length result.now ≤ largest_u32 }
         ensures distinct { AllDistinct self.now }
     {
         self.set.as_slice()
@@ -123,7 +125,7 @@ impl UniqueArena {
     /// `OutOfMemory` if memory was refused, which leaves the arena as it was and drops `value`. A type
     /// that the arena has is never refused.
     pub fn insert(&mut self, value: Type, span: Span) -> Result<Handle<TypeTag>, OutOfMemory>
-        requires { length self.old < 4294967295 }
+        requires { length self.old < largest_u32 }
         ensures present { (k : ℕ) → slice_get self.old k ≡ Some value → IsOk result × IfOk result (λ h. h ≡ k) × (self.new ≡ self.old) }
         ensures place { ¬ (Contains self.old value) → IfOk result (λ h. h ≡ length self.old) }
         ensures appended { ¬ (Contains self.old value) → OnOk result (self.new ≡ self.old ++ value ∷ []) }

@@ -1,5 +1,6 @@
 -- What is known while types and global expressions are visited.
 use Rattle.std.specs.Prelude.{◌≡◌, ◌⊎◌, ℕ, ◌+◌, ◌<◌, ◌≤◌, max, List, Option, Some, None, Contains, length, slice_get}
+use Rattle.naga_arena.specs.Numbers.{largest_u32}
 use Rattle.naga_ir.specs.Handles.{Exists, initialiser_of, module_counts, size_initialiser}
 use Rattle.naga_ir.specs.ItemReferences.{GlobalLists, global_lists}
 use Rattle.naga_ir.specs.Ranks.{gate, rank_of_expression, rank_of_type, top_before}
@@ -80,7 +81,7 @@ pub record SeenUpTo (m : Module) (t from to last : ℕ) : Type 0 where
 -- the types before t and the expressions before c were visited, each once
 pub record Reached (m : Module) (t c looks : ℕ) : Type 0 where
   pub inside : c ≤ length m.global_expressions
-  pub few : c ≤ 4294967295
+  pub few : c ≤ largest_u32
   pub top : top_before (global_lists m) t ≡ c
   pub looked : looks ≡ t + c
   pub seen : (e : ℕ) → e < c → Seen m t e

@@ -1,6 +1,7 @@
 //! What is read of a module while its types and global expressions are visited, counted.
 
-ghost use Rattle.std.specs.Prelude.{◌≡◌, ◌+◌, ◌<◌, Some, length, slice_get};
+ghost use Rattle.naga_arena.specs.Numbers.{largest_u32};
+ghost use Rattle.std.specs.Prelude.{◌≡◌, ◌+◌, ◌*◌, ◌<◌, Some, length, slice_get};
 
 use naga_ir::expression::Expression;
 use naga_ir::handle::Handle;
@@ -32,7 +33,7 @@ impl Reader {
     /// The type that a handle names.
     pub(crate) fn type_at<'a>(&mut self, module: &'a Module, handle: Handle<TypeTag>) -> &'a Type
         requires exists { handle < length «module».now.types }
-        requires few { self.old.looks < 8589934592 }
+        requires few { self.old.looks < 2 * largest_u32 }
         ensures read { slice_get «module».now.types handle ≡ Some result.now }
         ensures counted { self.new.looks ≡ self.old.looks + 1 }
     {
@@ -47,7 +48,7 @@ impl Reader {
         handle: Handle<ExpressionTag>,
     ) -> &'a Expression
         requires exists { handle < length «module».now.global_expressions }
-        requires few { self.old.looks < 8589934592 }
+        requires few { self.old.looks < 2 * largest_u32 }
         ensures read { slice_get «module».now.global_expressions handle ≡ Some result.now }
         ensures counted { self.new.looks ≡ self.old.looks + 1 }
     {

@@ -1,5 +1,6 @@
 use Rattle.std.proofs.Common.{is_ok, not, true, if◌then◌else◌, ◌≡◌, ℕ, ◌+◌, ◌<◌, [], ◌∷◌, ◌++◌, length, Contains, Some, slice_get, List, sym, subst, ap, ◌∙◌, refl, true≢false, length-append, arith}
 use Rattle.std.specs.List.{IsDistinct}
+use Rattle.naga_arena.specs.Numbers.{largest_u32}
 use Rattle.naga_ir_types.specs.declared.types.«Type».{«Type»}
 use Rattle.naga_ir_types.specs.contracts.types.TypePartialEq.TheImpl as types
 use Rattle.naga_ir_types.proofs.SameType.{type_same}
@@ -38,7 +39,7 @@ invariant_of-self-else-is_err c =
     let ok : is_ok c.push.result ≡ true = c.is_err.ensures.negation ∙ ap not c.if-is_err.false in
     let spans : c.push.new.self.items ≡ ss ++ c.args.span ∷ [] = c.push.ensures.items ∙ ap (λ b. if b then ss ++ c.args.span ∷ [] else ss) ok in
     let longer : length c.push.new.self.items ≡ length ss + 1 = ap length spans ∙ length-append ss (c.args.span ∷ []) in
-    let room : length ks < 4294967295 = omega (arith, ap length c.self.view_is) in
+    let room : length ks < largest_u32 = omega (arith, ap length c.self.view_is) in
     (longer ∙ ap (λ n. n + 1) c.self.invariant.0 ∙ sym more, omega (arith, more, room))
 
 pub returns-then-is_err-clause-present : goal.returns-then-is_err-clause-present
