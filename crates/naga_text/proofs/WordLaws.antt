@@ -18,7 +18,8 @@ use Rattle.naga_ir_types.specs.declared.types.CooperativeSize.{CooperativeSize}
 use Rattle.naga_ir_types.specs.declared.types.CooperativeSize.TheVariants.{Eight, Sixteen}
 use Rattle.naga_ir_types.specs.declared.types.VectorSize.{VectorSize}
 use Rattle.naga_ir_types.specs.declared.types.VectorSize.TheVariants.{Bi, Tri, Quad}
-use Rattle.naga_text.specs.Words.{handle_of, largest_u16, number_of, number_up_to, value_after}
+use Rattle.naga_text.specs.Bytes.{letter_o, minus}
+use Rattle.naga_text.specs.Words.{handle_of, largest_u16, most_digits, number_of, number_up_to, value_after}
 use Rattle.naga_text.specs.Forms.{array_size_part, handle, number, optional, pointed_components}
 use Rattle.naga_text.specs.steps.WordForms.{◌>>=◌, array_size_of, bounded_size_of, cooperative_size_at, cooperative_size_of, count_at, count_of, optional_of, pointed_size_at, pointed_size_of, size_at, size_of}
 use Rattle.naga_text.proofs.TableLaws.{by_number, by_test, passed_by}
@@ -98,10 +99,10 @@ counted (Some count) n h = sym (ap count_at (sym h) ∙ count_at_again count)
 -- a word that writes a number is digits, and the number is no greater than its limit
 digits_of : (most : ℕ) (w : List ℕ) (n : ℕ) → number_up_to most w ≡ Some n → (all_ascii_digits w ≡ true) × (n ≤ most)
 digits_of most w n h =
-    by_test (nat_lt 0 (length w) && nat_le (length w) 20 && all_ascii_digits w && nat_le (value_after 0 w) most) (Some (value_after 0 w)) None n h
+    by_test (nat_lt 0 (length w) && nat_le (length w) most_digits && all_ascii_digits w && nat_le (value_after 0 w) most) (Some (value_after 0 w)) None n h
     (λ e p.
-    let tests = and_parts (nat_lt 0 (length w) && nat_le (length w) 20 && all_ascii_digits w) (nat_le (value_after 0 w) most) e in (
-      (and_parts (nat_lt 0 (length w) && nat_le (length w) 20) (all_ascii_digits w) tests.0).1,
+    let tests = and_parts (nat_lt 0 (length w) && nat_le (length w) most_digits && all_ascii_digits w) (nat_le (value_after 0 w) most) e in (
+      (and_parts (nat_lt 0 (length w) && nat_le (length w) most_digits) (all_ascii_digits w) tests.0).1,
       subst (λ n. n ≤ most) (same_Some (value_after 0 w) n p) (leb-true (value_after 0 w) most tests.1),
     ))
     (λ h. cc)
@@ -118,10 +119,10 @@ bounded_size_found : (w : List ℕ) (size : ArraySize) → bounded_size_of w ≡
 bounded_size_found [] size h = cc
 bounded_size_found (c ∷ cs) size h =
     let P = λ (size : ArraySize). array_size_part size (c ∷ cs) in
-    by_test (c == 111) _ _ size h
+    by_test (c == letter_o) _ _ size h
     (λ same h.
     option_and_then_some _ (handle_of cs) size h λ handle e h.
-    subst P (same_Some (Pending handle) size h) (cs, ap (λ c. c ∷ cs) (eqb-true c 111 same), e))
+    subst P (same_Some (Pending handle) size h) (cs, ap (λ c. c ∷ cs) (eqb-true c letter_o same), e))
     (λ h.
     option_and_then_some _ (count_of (c ∷ cs)) size h λ count e h.
     option_and_then_some count_at (number_of (c ∷ cs)) count e λ n f e.
@@ -134,7 +135,7 @@ array_size_found w size h =
 count_again : (w : List ℕ) (count : NonZeroU32) → number_of w ≡ Some (non_zero_u32_get count) → array_size_of w ≡ Some (Constant count)
 count_again [] count h = cc
 count_again (c ∷ cs) count h =
-    let no_override : (c == 111) ≡ false = ne_eqb c 111 (λ e. no_digit largest_u32 111 cs _ refl (ap (λ c. number_of (c ∷ cs)) (sym e) ∙ h)) in
+    let no_override : (c == letter_o) ≡ false = ne_eqb c letter_o (λ e. no_digit largest_u32 letter_o cs _ refl (ap (λ c. number_of (c ∷ cs)) (sym e) ∙ h)) in
     let no_word : bytes_eq (c ∷ cs) (codes "dyn") ≡ false = elim (cases_Bool (bytes_eq (c ∷ cs) (codes "dyn"))) [
       | inl e ↦ absurd (no_digit largest_u32 100 (121 ∷ 110 ∷ []) _ refl (ap number_of (sym ((bytes_eq-Decides (c ∷ cs) (codes "dyn")).0 e)) ∙ h))
       | inr e ↦ e
@@ -171,11 +172,11 @@ pub optional_handle_found : (w : List ℕ) (index : Option ℕ) → optional_of 
 optional_handle_found w index h = optional_found handle_of w index h
 
 pub optional_handle_again : (w : List ℕ) (index : Option ℕ) → optional handle index w → optional_of handle_of w ≡ Some index
-optional_handle_again w index h = optional_again handle_of (λ n e. no_digit largest_handle 45 [] n refl e) w index h
+optional_handle_again w index h = optional_again handle_of (λ n e. no_digit largest_handle minus [] n refl e) w index h
 
 -- and a number that may be
 pub optional_number_found : (w : List ℕ) (n : Option ℕ) → optional_of (number_up_to largest_u16) w ≡ Some n → optional (number largest_u16) n w
 optional_number_found w n h = optional_found (number_up_to largest_u16) w n h
 
 pub optional_number_again : (w : List ℕ) (n : Option ℕ) → optional (number largest_u16) n w → optional_of (number_up_to largest_u16) w ≡ Some n
-optional_number_again w n h = optional_again (number_up_to largest_u16) (λ n e. no_digit largest_u16 45 [] n refl e) w n h
+optional_number_again w n h = optional_again (number_up_to largest_u16) (λ n e. no_digit largest_u16 minus [] n refl e) w n h

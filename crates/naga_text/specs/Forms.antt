@@ -16,6 +16,7 @@ use Rattle.naga_ir_types.specs.declared.types.StructMember.{StructMember}
 use Rattle.naga_ir_types.specs.declared.types.TypeInner.{TypeInner}
 use Rattle.naga_ir_types.specs.declared.types.TypeInner.TheVariants.{Scalar, Vector, Matrix, CooperativeMatrix, Atomic, Pointer, ValuePointer, Array, Struct, Image, Sampler, AccelerationStructure, RayQuery, BindingArray}
 use Rattle.naga_ir_types.specs.declared.types.VectorSize.{VectorSize}
+use Rattle.naga_text.specs.Bytes.{letter_o}
 use Rattle.naga_text.specs.Tables.{binary_operators, chosen, classes, dimensions, kinds, roles, spaces, truths, unary_operators}
 use Rattle.naga_text.specs.Words.{handle_of, integer_up_to, largest_i16, largest_i32, largest_i64, largest_u16, number_of, number_up_to, pieces_of}
 use Rattle.naga_text.specs.declared.line.Line.{Line}
@@ -72,7 +73,7 @@ Fill (part ∷ parts) (w ∷ ws) = part w × Fill parts ws
 -- the part of how many elements an array has; an override follows the letter o
 abbrev pub array_size_part : ArraySize → Part
 array_size_part (array_size.Constant n) = of_32_bits (non_zero_u32_get n)
-array_size_part (array_size.Pending size) = after_byte 111 (handle size)
+array_size_part (array_size.Pending size) = after_byte letter_o (handle size)
 array_size_part array_size.Dynamic = word (codes "dyn")
 
 -- the number of components that a value pointer has, and 0 of none

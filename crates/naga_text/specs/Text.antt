@@ -11,6 +11,7 @@ use Rattle.naga_ir.specs.declared.ir.Module.{Module}
 use Rattle.naga_ir.specs.declared.ir.Override.{Override as OverrideType}
 use Rattle.naga_ir_types.specs.Distinct.{AllDistinct}
 use Rattle.naga_ir_types.specs.declared.types.«Type».{«Type»}
+use Rattle.naga_text.specs.Bytes.{hash}
 use Rattle.naga_text.specs.Forms.{IsForm}
 use Rattle.naga_text.specs.Words.{words_of}
 use Rattle.naga_text.specs.declared.line.Line.{Line}
@@ -22,7 +23,7 @@ use Rattle.naga_text.specs.declared.text.TextError.TheVariants as error
 -- a line is neither empty nor a comment
 abbrev pub has_content : List ℕ → Bool
 has_content [] = false
-has_content (c ∷ cs) = not (c == 35)
+has_content (c ∷ cs) = not (c == hash)
 
 -- the flags that a line sets
 abbrev pub flags_in : Line → Option ValidationFlags

@@ -1,5 +1,6 @@
 //! What one line says.
 
+ghost use Rattle.naga_flags.specs.Bits.{all_capabilities, all_validation_flags};
 ghost use Rattle.naga_text.specs.Forms.{IsForm};
 ghost use Rattle.naga_text.specs.steps.LineForms.{capabilities_of, constant_of, doc_of, expression_line_of, fixed_readers, flags_of, line_of, override_of, read_by, resolved_of, type_line_of};
 ghost use Rattle.naga_text.specs.declared.line.Line.{Line};
@@ -49,11 +50,25 @@ pub enum Line {
     },
 }
 
+/// The bits of all parts that can be validated.
+fn all_flags() -> u64
+    ensures { result ≡ all_validation_flags }
+{
+    u64::from(ValidationFlags::all().bits())
+}
+
+/// The bits of all capabilities.
+fn all_capabilities() -> u64
+    ensures { result ≡ all_capabilities }
+{
+    Capabilities::all().bits()
+}
+
 fn flags(words: &[&[u8]]) -> Option<Line>
     ensures { result ≡ flags_of (map (λ w. w.now) words.now) }
 {
     let [n] = words else { return None };
-    let bits = number_up_to(n, 63)? as u8;
+    let bits = number_up_to(n, all_flags())? as u8;
     Some(Line::Flags(ValidationFlags::from_bits_retain(bits)))
 }
 
@@ -61,7 +76,7 @@ fn capabilities(words: &[&[u8]]) -> Option<Line>
     ensures { result ≡ capabilities_of (map (λ w. w.now) words.now) }
 {
     let [n] = words else { return None };
-    let bits = number_up_to(n, 17_592_186_044_415)?;
+    let bits = number_up_to(n, all_capabilities())?;
     Some(Line::Capabilities(Capabilities::from_bits_retain(bits)))
 }
 

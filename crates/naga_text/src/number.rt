@@ -1,17 +1,23 @@
 //! Numbers in decimal digits, and the minus that stands for none.
 
-ghost use Rattle.naga_text.specs.Words.{handle_of, integer_up_to, largest_u16, number_of, number_up_to};
+ghost use Rattle.naga_text.specs.Words.{handle_of, integer_up_to, largest_i64, largest_u16, number_of, number_up_to};
 ghost use Rattle.naga_text.specs.steps.WordForms.{optional_of};
-ghost use Rattle.std.specs.Prelude.{◌≡◌, ◌+◌, ◌^◌, ◌<◌, ◌≤ℤ◌, IfSome, neg_ℤ, pos};
+ghost use Rattle.std.specs.Prelude.{◌≡◌, ◌+◌, ◌≤◌, ◌≤ℤ◌, IfSome, neg_ℤ, pos};
 
 use crate::words::equals;
 use naga_ir::handle::Handle;
+
+/// The most digits that a number is written in: as many as the greatest `u64` has.
+const MOST_DIGITS: usize = 20;
+
+/// The greatest index of a handle.
+const MOST_INDEX: u64 = u32::MAX as u64 - 1;
 
 /// The number that a word writes in 1 to 20 digits, if it is at most `most`.
 pub fn number_up_to(word: &[u8], most: u64) -> Option<u64>
     ensures { result ≡ number_up_to most word.now }
 {
-    if word.is_empty() || word.len() > 20 {
+    if word.is_empty() || word.len() > MOST_DIGITS {
         return None;
     }
     let mut value = 0u128;
@@ -31,7 +37,7 @@ pub fn number_up_to(word: &[u8], most: u64) -> Option<u64>
 /// The integer that a word writes: a number up to `most`, or after a minus the negative of one up to
 /// `most + 1`.
 pub fn integer_up_to(word: &[u8], most: u64) -> Option<i128>
-    requires { most < 2 ^ 63 }
+    requires { most ≤ largest_i64 }
     ensures value { result ≡ integer_up_to most word.now }
     ensures least { IfSome result (λ n. neg_ℤ (pos (most + 1)) ≤ℤ n) }
     ensures greatest { IfSome result (λ n. n ≤ℤ pos most) }
@@ -46,14 +52,14 @@ pub fn integer_up_to(word: &[u8], most: u64) -> Option<i128>
 pub fn number(word: &[u8]) -> Option<u32>
     ensures { result ≡ number_of word.now }
 {
-    Some(number_up_to(word, 4_294_967_295)? as u32)
+    Some(number_up_to(word, u32::MAX as u64)? as u32)
 }
 
 /// The index of a handle.
 pub fn index(word: &[u8]) -> Option<usize>
     ensures { result ≡ handle_of word.now }
 {
-    Some(number_up_to(word, 4_294_967_294)? as usize)
+    Some(number_up_to(word, MOST_INDEX)? as usize)
 }
 
 /// The handle of an index.

@@ -18,7 +18,7 @@ fn scalar(kind_word: &[u8], width_word: &[u8]) -> Option<Scalar>
 {
     Some(Scalar {
         kind: kind(kind_word)?,
-        width: number_up_to(width_word, 255)? as u8,
+        width: number_up_to(width_word, u8::MAX as u64)? as u8,
     })
 }
 

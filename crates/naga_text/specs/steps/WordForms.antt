@@ -11,6 +11,7 @@ use Rattle.naga_ir_types.specs.declared.types.CooperativeSize.TheVariants.{Eight
 use Rattle.naga_ir_types.specs.declared.types.StructMember.{StructMember}
 use Rattle.naga_ir_types.specs.declared.types.VectorSize.{VectorSize}
 use Rattle.naga_ir_types.specs.declared.types.VectorSize.TheVariants.{Bi, Tri, Quad}
+use Rattle.naga_text.specs.Bytes.{letter_o}
 use Rattle.naga_text.specs.Words.{handle_of, number_of, number_up_to, pieces_of}
 
 -- what the second reads of the value of the first, as `?` in code
@@ -62,7 +63,7 @@ count_of w = number_of w >>= count_at
 -- the override of a word that begins with the letter o, and else the count
 abbrev pub bounded_size_of : List ℕ → Option ArraySize
 bounded_size_of [] = None
-bounded_size_of (c ∷ cs) = if c == 111 then handle_of cs >>= (λ size. Some (Pending size)) else count_of (c ∷ cs) >>= (λ count. Some (Constant count))
+bounded_size_of (c ∷ cs) = if c == letter_o then handle_of cs >>= (λ size. Some (Pending size)) else count_of (c ∷ cs) >>= (λ count. Some (Constant count))
 
 -- how many elements a word says that an array has
 abbrev pub array_size_of : List ℕ → Option ArraySize
