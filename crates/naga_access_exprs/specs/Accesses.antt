@@ -11,11 +11,10 @@ use Rattle.naga_ir_types.specs.declared.types.TypeInner.{TypeInner}
 use Rattle.naga_ir_types.specs.declared.types.TypeInner.TheVariants.{Scalar, Vector, Matrix, CooperativeMatrix, Atomic, Pointer, ValuePointer, Array, Struct, Image, Sampler, AccelerationStructure, RayQuery, BindingArray}
 use Rattle.naga_operands.specs.Stages.{every_stage}
 use Rattle.naga_operands.specs.Surroundings.{ExpressionSurroundings, form_at}
-use Rattle.naga_operands.specs.Words.{is_scalar_that}
+use Rattle.naga_operands.specs.Words.{is_integer_scalar}
 use Rattle.naga_operands.specs.declared.error.ExpressionError.{ExpressionError}
 use Rattle.naga_operands.specs.declared.error.ExpressionError.TheVariants as refusal
 use Rattle.naga_types.specs.Judging.{granted, judged, unless}
-use Rattle.naga_types.specs.TypeRule.{is_integer}
 use Rattle.naga_typing.specs.Constants.{index_of}
 use Rattle.naga_typing.specs.Index.{IsLength, LengthOfArray, pending_length, resolved_length}
 use Rattle.naga_typing.specs.Resolutions.{inner_in}
@@ -49,7 +48,7 @@ abbrev pub lengths : Truth → GlobalLists → LengthOfArray
 lengths true g = resolved_length g
 lengths false g = pending_length
 
--- the refusal of a constant index, unless it is below the length of its base, or that is not known
+-- the refusal of a constant index: its base has no length, or one that is known and not above the index
 abbrev pub past_end : ℕ → ℕ → Result IndexableLength IndexableLengthError → Option ExpressionError
 past_end base value (Ok (Known n)) = unless (ltb value n) (refusal.IndexOutOfBounds base value)
 past_end base value (Ok Pending) = None
@@ -67,13 +66,13 @@ bad_constant base index length (Err NonConst) = None
 abbrev pub access_conditions : ExpressionSurroundings → ℕ → ℕ → Result IndexableLength IndexableLengthError → List (Option ExpressionError)
 access_conditions s base index length =
     unless (has_parts (form_at s base)) (refusal.InvalidBaseType base) ∷
-    unless (is_scalar_that (λ scalar. is_integer scalar.kind) (form_at s index)) (refusal.InvalidIndexType index) ∷
+    unless (is_integer_scalar (form_at s index)) (refusal.InvalidIndexType index) ∷
     bad_constant base index length (index_of (global_lists s.«module») (slice_get s.function.expressions index)) ∷
     []
 
 -- what is meant by the rule of an access, by the length of its base
-abbrev pub IsAccessResult : ExpressionSurroundings → ℕ → ℕ → Result ShaderStages ExpressionError → Type 0
-IsAccessResult s base index result =
+abbrev pub IsAccessMeant : ExpressionSurroundings → ℕ → ℕ → Result ShaderStages ExpressionError → Type 0
+IsAccessMeant s base index result =
     let g = global_lists s.«module» in
     (length : Result IndexableLength IndexableLengthError) × IsLength g (lengths s.resolved g) (form_at s base) length × (result ≡ judged (access_conditions s base index length) every_stage)
 

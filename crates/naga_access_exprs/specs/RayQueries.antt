@@ -45,7 +45,7 @@ is_ray_query vertices (Some (AccelerationStructure vertex_return)) = false
 is_ray_query vertices (Some (BindingArray base size)) = false
 is_ray_query vertices None = false
 
--- a form is a pointer to a ray query of the function
+-- a form is a pointer to a ray query of the function, and to one that gives the vertices of a hit if they are asked for
 abbrev pub points_to_ray_query : List «Type» → Truth → TypeInner → Truth
 points_to_ray_query types vertices (Pointer base space) = is_function space && is_ray_query vertices (inner_in types (Handle base))
 points_to_ray_query types vertices (Scalar scalar) = false

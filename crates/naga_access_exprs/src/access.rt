@@ -2,7 +2,7 @@
 
 ghost use Rattle.std.specs.Prelude.{◌≡◌, ◌<◌, length};
 ghost use Rattle.naga_access_exprs.specs.Accesses as rule;
-ghost use Rattle.naga_access_exprs.specs.Accesses.{IsAccessResult, access_index_rule};
+ghost use Rattle.naga_access_exprs.specs.Accesses.{IsAccessMeant, access_index_rule};
 ghost use Rattle.naga_access_exprs.specs.Vectors as vectors;
 ghost use Rattle.naga_access_exprs.specs.Vectors.{swizzle_rule};
 ghost use Rattle.naga_ir.specs.Handles.{GlobalReferencesOk};
@@ -118,7 +118,7 @@ pub fn validate_access(
     requires base { base < length context.info.now.types }
     requires index { index < length context.info.now.types }
     requires exists { index < length context.function.now.expressions }
-    ensures { IsAccessResult (surroundings context.entry) base index result }
+    ensures { IsAccessMeant (surroundings context.entry) base index result }
 {
     let base_type = context.type_of(base);
     let length = indexable_length(context.overrides_resolved, base_type, context.module);
@@ -175,7 +175,7 @@ fn index_limit(inner: &TypeInner, module: &Module) -> Option<usize>
     part_limit(inner)
 }
 
-/// The stages that may use an access at a known index.
+/// The stages that may use an access at a known index (WGSL "Composite Value Decomposition Expressions").
 ///
 /// # Errors
 ///

@@ -48,7 +48,7 @@ fn points_to_ray_query(inner: &TypeInner, module: &Module, vertices: bool) -> bo
     matches!(space, AddressSpace::Function) && is_ray_query(&module.types[*base].inner, vertices)
 }
 
-/// The stages that may use what a ray has hit.
+/// The stages that may use what a ray has hit (SPIR-V "SPV_KHR_ray_query").
 ///
 /// # Errors
 ///
@@ -67,7 +67,8 @@ pub fn validate_ray_query_get_intersection(
     Ok(every_stage())
 }
 
-/// The stages that may use the vertices of the triangle that a ray has hit.
+/// The stages that may use the vertices of the triangle that a ray has hit (SPIR-V
+/// "SPV_KHR_ray_tracing_position_fetch").
 ///
 /// # Errors
 ///

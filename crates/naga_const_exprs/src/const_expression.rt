@@ -34,6 +34,7 @@ use naga_typing::typing::Typing;
 pub fn validate_literal(capabilities: Capabilities, literal: Literal) -> Result<(), LiteralError>
     ensures { result ≡ literal_rule capabilities.0 literal }
 {
+    // Whether immediates may hold such a scalar is no condition of literals.
     let _immediates = check_width(capabilities, literal.scalar())?;
     Ok(())
 }
@@ -119,12 +120,10 @@ fn check_form<T: Typing>(
     match expression {
         Expression::Literal(literal) => Ok(validate_literal(ctx.capabilities, *literal)?),
         Expression::Constant(_) | Expression::ZeroValue(_) => Ok(()),
-        Expression::Compose { ty, components } => Ok(validate_compose_at(
-            *ty,
-            gctx,
-            components.as_slice(),
-            mod_info.const_expression_types(),
-        )?),
+        Expression::Compose { ty, components } => {
+            let types = mod_info.const_expression_types();
+            Ok(validate_compose_at(*ty, gctx, components.as_slice(), types)?)
+        }
         Expression::Splat { value, .. } => check_splat(*value, &mod_info[*value], gctx.types),
         Expression::Override(_)
         | Expression::Access { .. }

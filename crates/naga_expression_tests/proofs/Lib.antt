@@ -1,2 +1,2 @@
 mod HoldsBefore
-mod Judged
+mod JudgeableExpressions

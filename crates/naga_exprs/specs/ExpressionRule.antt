@@ -1,6 +1,6 @@
 -- The rule of an expression of a function, by its form.
 use Rattle.std.specs.Prelude.{◌≡◌, Result, Ok}
-use Rattle.naga_access_exprs.specs.Accesses.{IsAccessResult, access_index_rule}
+use Rattle.naga_access_exprs.specs.Accesses.{IsAccessMeant, access_index_rule}
 use Rattle.naga_access_exprs.specs.Memory.{array_length_rule, cooperative_load_rule, load_rule}
 use Rattle.naga_access_exprs.specs.RayQueries.{ray_query_get_intersection_rule, ray_query_vertex_positions_rule}
 use Rattle.naga_access_exprs.specs.Vectors.{swizzle_rule}
@@ -15,7 +15,7 @@ use Rattle.naga_operands.specs.Results.{IsReturned}
 use Rattle.naga_operands.specs.Stages.{every_stage}
 use Rattle.naga_operands.specs.Surroundings.{ExpressionSurroundings}
 use Rattle.naga_operands.specs.declared.error.ExpressionError.{ExpressionError}
-use Rattle.naga_operator_exprs.specs.Binary.{IsBinaryResult}
+use Rattle.naga_operator_exprs.specs.Binary.{IsBinaryMeant}
 use Rattle.naga_operator_exprs.specs.Cooperative.{cooperative_multiply_add_rule}
 use Rattle.naga_operator_exprs.specs.Operators.{as_rule, derivative_rule, relational_rule, select_rule, unary_rule}
 use Rattle.naga_value_exprs.specs.Values.{argument_rule, call_stages, composition_rule, literal_value_rule, splat_rule, workgroup_load_rule, zero_value_rule}
@@ -27,7 +27,7 @@ IsMeant t s (form.Constant c) meant = meant ≡ Ok every_stage
 IsMeant t s (form.Override o) meant = meant ≡ Ok every_stage
 IsMeant t s (form.ZeroValue ty) meant = meant ≡ zero_value_rule s ty
 IsMeant t s (form.Compose ty components) meant = meant ≡ composition_rule s ty components
-IsMeant t s (form.Access base index) meant = IsAccessResult s base index meant
+IsMeant t s (form.Access base index) meant = IsAccessMeant s base index meant
 IsMeant t s (form.AccessIndex base index) meant = meant ≡ access_index_rule s base index
 IsMeant t s (form.Splat size value) meant = meant ≡ splat_rule s value
 IsMeant t s (form.Swizzle size vector pattern) meant = meant ≡ swizzle_rule s size vector pattern
@@ -36,7 +36,7 @@ IsMeant t s (form.GlobalVariable v) meant = meant ≡ Ok every_stage
 IsMeant t s (form.LocalVariable v) meant = meant ≡ Ok every_stage
 IsMeant t s (form.Load pointer) meant = meant ≡ load_rule s pointer
 IsMeant t s (form.Unary op expr) meant = meant ≡ unary_rule s op expr
-IsMeant t s (form.Binary op left right) meant = IsBinaryResult s op left right meant
+IsMeant t s (form.Binary op left right) meant = IsBinaryMeant s op left right meant
 IsMeant t s (form.Select condition accept reject) meant = meant ≡ select_rule s condition accept reject
 IsMeant t s (form.Derivative expr) meant = meant ≡ derivative_rule s expr
 IsMeant t s (form.Relational fun argument) meant = meant ≡ relational_rule s fun argument
@@ -61,5 +61,5 @@ IsMeant t s (form.CooperativeLoad pointer stride) meant = meant ≡ cooperative_
 IsMeant t s (form.CooperativeMultiplyAdd a b c) meant = meant ≡ cooperative_multiply_add_rule s a b c
 
 -- what a call returns for an expression: what is meant, out of memory aside
-abbrev pub IsExpressionResult : MathTyping → ExpressionSurroundings → Expression → Result ShaderStages ExpressionError → Type 0
-IsExpressionResult t s x result = (meant : Result ShaderStages ExpressionError) × IsMeant t s x meant × IsReturned meant result
+abbrev pub IsExpressionReturned : MathTyping → ExpressionSurroundings → Expression → Result ShaderStages ExpressionError → Type 0
+IsExpressionReturned t s x result = (meant : Result ShaderStages ExpressionError) × IsMeant t s x meant × IsReturned meant result

@@ -1,6 +1,6 @@
 //! The rule of one expression of a function (naga's `Validator::validate_expression`).
 
-ghost use Rattle.naga_exprs.specs.ExpressionRule.{IsExpressionResult};
+ghost use Rattle.naga_exprs.specs.ExpressionRule.{IsExpressionReturned};
 ghost use Rattle.naga_operands.specs.Surroundings.{CanJudge, IsJudgeable, surroundings};
 
 use naga_access_exprs::access::{validate_access, validate_access_index, validate_swizzle};
@@ -42,7 +42,7 @@ fn validate_form<T: Typing>(
     expression: &Expression,
 ) -> Result<ShaderStages, ExpressionError>
     requires can_judge { IsJudgeable (surroundings context) expression.now }
-    ensures { IsExpressionResult (record { accepts = T.accepts_types typing.now; least_arguments = T.least_arguments typing.now }) (surroundings context.entry) expression.now result }
+    ensures { IsExpressionReturned (record { accepts = T.accepts_types typing.now; least_arguments = T.least_arguments typing.now }) (surroundings context.entry) expression.now result }
 {
     match *expression {
         Expression::Access { base, index } => validate_access(context, base, index),
@@ -140,7 +140,7 @@ fn validate_form<T: Typing>(
     }
 }
 
-/// The pipeline stages that may use an expression of a function.
+/// The pipeline stages that may use an expression of a function (naga's `Validator::validate_expression`).
 ///
 /// The handles of the module and of the function are right, and `mod_info` says of each type what it may
 /// be used for. All that the expression refers to exists. Its operands come before `root`, and `info` and
@@ -148,17 +148,19 @@ fn validate_form<T: Typing>(
 /// an argument. If the expression is the result of a call, `mod_info` knows the function. What
 /// mathematical functions take is what the typing accepts.
 ///
-/// Accepting takes no memory. The cost is linear in the expression's own components, but for the search for
+/// Accepting takes no memory. The cost is linear in the expression's own components, in the members of
+/// structs that it compares, and in the pointers through which its base is reached, but for the search for
 /// forbidden integers on the right of a division or a shift. It goes through the compositions that a constant
 /// is made of as if they were written out in full, and calls itself at those of several components. If all
-/// these are accepted, they have at most as many components as a vector. Global expressions that nobody has
-/// checked, as without the flag `CONSTANTS`, can make the search take exponential time, by `vec2(G0, G0)`,
-/// `vec2(G1, G1)` and so on, or a stack as deep as their arena, by `vec2(G0, 1)`, `vec2(G1, 1)` and so on.
+/// these are accepted, they have at most as many components as a vector. Expressions that nobody has checked,
+/// global ones without the flag `CONSTANTS` or those of the function before `root`, can make the search take
+/// exponential time, by `vec2(E0, E0)`, `vec2(E1, E1)` and so on, or a stack as deep as their arena, by
+/// `vec2(E0, 1)`, `vec2(E1, 1)` and so on.
 ///
 /// # Errors
 ///
 /// That of the first condition of its form that the expression breaks; the forms' own functions list
-/// them. `OutOfMemory` if memory was refused for a struct that an error holds.
+/// them. `OutOfMemory` if memory was refused for a struct or a text that an error holds.
 pub fn validate_expression<T: Typing>(
     alloc: Global,
     ctx: ExprContext<'_, T>,
@@ -180,7 +182,7 @@ pub fn validate_expression<T: Typing>(
       infos = mod_info.now.lists;
       kinds = kinds.now;
     }) root expression.now }
-    ensures { IsExpressionResult (record { accepts = T.accepts_types ctx.entry.typing.now; least_arguments = T.least_arguments ctx.entry.typing.now }) (record {
+    ensures { IsExpressionReturned (record { accepts = T.accepts_types ctx.entry.typing.now; least_arguments = T.least_arguments ctx.entry.typing.now }) (record {
       capabilities = ctx.entry.capabilities.0;
       resolved = ctx.entry.overrides_resolved;
       subgroup_stages = ctx.entry.subgroup_stages;

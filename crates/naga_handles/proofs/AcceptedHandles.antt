@@ -16,7 +16,7 @@ use Rattle.naga_ir.specs.declared.ir.Module.{Module}
 use Rattle.naga_ir.specs.declared.reference.Reference.{Reference}
 use Rattle.naga_ir.specs.declared.reference.Reference.TheVariants as to
 use Rattle.naga_ir_types.specs.declared.types.«Type».{«Type»}
-use Rattle.naga_ir.proofs.ReferredTo.{item_in, only, type_in, within_all}
+use Rattle.naga_ir.proofs.ReferencesOfItems.{item_in, only, type_in, within_all}
 use Rattle.naga_handles.specs.Faults.{IsFault, IsHandleFault, IsOrderFault, PlainReference, VisitedReference, forward_in_module, in_entry_point, initialiser, invalid, item, missing_member, no_entry_point, not_back, not_gated, not_there, not_visited, of_constant, of_override, on_walk, other, plain_references, size, type_}
 use Rattle.naga_handles.specs.Faults as faults
 use Rattle.naga_handles.specs.declared.error.InvalidHandleError.{InvalidHandleError}

@@ -31,33 +31,33 @@ checks-map each check f xs r means h =
 abbrev pub check : Counts → Subjects → Reference → Check
 check n subjects r = record { there = n; subject = subjects r; target = r }
 
-looks-map : {A : Type 0} (n : Counts) (subjects : Subjects) (to_reference : A → Reference) (xs : List A)
+reads-map : {A : Type 0} (n : Counts) (subjects : Subjects) (to_reference : A → Reference) (xs : List A)
     → map (λ x. check n subjects (to_reference x)) xs ≡ checks n subjects (map to_reference xs)
-looks-map n subjects to_reference [] = refl
-looks-map n subjects to_reference (x ∷ xs) = ap (λ ys. check n subjects (to_reference x) ∷ ys) (looks-map n subjects to_reference xs)
+reads-map n subjects to_reference [] = refl
+reads-map n subjects to_reference (x ∷ xs) = ap (λ ys. check n subjects (to_reference x) ∷ ys) (reads-map n subjects to_reference xs)
 
 -- checking items is checking their references
 pub checks-references : {A : Type 0} (n : Counts) (subjects : Subjects) (each : A → Result (Unit {0}) InvalidHandleError → Type 0) (to_reference : A → Reference) (xs : List A)
     (r : Result (Unit {0}) InvalidHandleError) → ((x : A) (s : Result (Unit {0}) InvalidHandleError) → each x s → IsResult (check n subjects (to_reference x)) s)
     → ChecksEach each xs r → ChecksEach IsResult (checks n subjects (map to_reference xs)) r
 checks-references n subjects each to_reference xs r means h =
-    checks-along IsResult _ _ r (looks-map n subjects to_reference xs) (checks-map each IsResult (λ x. check n subjects (to_reference x)) xs r means h)
+    checks-along IsResult _ _ r (reads-map n subjects to_reference xs) (checks-map each IsResult (λ x. check n subjects (to_reference x)) xs r means h)
 
 -- the checks of two lists, one after the other
-looks-append : (n : Counts) (subjects : Subjects) (xs ys : List Reference) → checks n subjects xs ++ checks n subjects ys ≡ checks n subjects (xs ++ ys)
-looks-append n subjects xs ys = sym (map-append (check n subjects) xs ys)
+reads-append : (n : Counts) (subjects : Subjects) (xs ys : List Reference) → checks n subjects xs ++ checks n subjects ys ≡ checks n subjects (xs ++ ys)
+reads-append n subjects xs ys = sym (map-append (check n subjects) xs ys)
 
 -- if the first of two lists is accepted, the other decides
 pub references-then : (n : Counts) (subjects : Subjects) (xs ys : List Reference) (r : Result (Unit {0}) InvalidHandleError)
     → ChecksEach IsResult (checks n subjects xs) (Ok tt) → ChecksEach IsResult (checks n subjects ys) r → ChecksEach IsResult (checks n subjects (xs ++ ys)) r
 references-then n subjects xs ys r accepted h =
-    checks-along IsResult _ _ r (looks-append n subjects xs ys) (checks-then IsResult (checks n subjects xs) (checks n subjects ys) r accepted h)
+    checks-along IsResult _ _ r (reads-append n subjects xs ys) (checks-then IsResult (checks n subjects xs) (checks n subjects ys) r accepted h)
 
 -- one of them is refused, so the others aren't taken
 pub references-before : (n : Counts) (subjects : Subjects) (xs ys : List Reference) (error : InvalidHandleError)
     → ChecksEach IsResult (checks n subjects xs) (Err error) → ChecksEach IsResult (checks n subjects (xs ++ ys)) (Err error)
 references-before n subjects xs ys error h =
-    checks-along IsResult _ _ (Err error) (looks-append n subjects xs ys) (checks-before IsResult (checks n subjects xs) (checks n subjects ys) error h)
+    checks-along IsResult _ _ (Err error) (reads-append n subjects xs ys) (checks-before IsResult (checks n subjects xs) (checks n subjects ys) error h)
 
 -- checking operands is checking the references to them
 pub checks-operands : (n : Counts) (e : ℕ) (xs : List ℕ) (r : Result (Unit {0}) InvalidHandleError)
@@ -69,11 +69,11 @@ pub checks-flat : {A : Type 0} (n : Counts) (subjects : Subjects) (each : A → 
     (r : Result (Unit {0}) InvalidHandleError) → ((x : A) (s : Result (Unit {0}) InvalidHandleError) → each x s → ChecksEach IsResult (checks n subjects (references x)) s)
     → ChecksEach each xs r → ChecksEach IsResult (checks n subjects (flat_map references xs)) r
 checks-flat {A = A} n subjects each references xs r means h =
-    checks-along IsResult _ _ r (looks-flat xs) (flatten IsResult each (λ x. checks n subjects (references x)) xs r means h)
+    checks-along IsResult _ _ r (reads-flat xs) (flatten IsResult each (λ x. checks n subjects (references x)) xs r means h)
   where
-    looks-flat : (ys : List A) → flat_map (λ x. checks n subjects (references x)) ys ≡ checks n subjects (flat_map references ys)
-    looks-flat [] = refl
-    looks-flat (y ∷ ys) = ap (λ zs. checks n subjects (references y) ++ zs) (looks-flat ys) ∙ looks-append n subjects (references y) (flat_map references ys)
+    reads-flat : (ys : List A) → flat_map (λ x. checks n subjects (references x)) ys ≡ checks n subjects (flat_map references ys)
+    reads-flat [] = refl
+    reads-flat (y ∷ ys) = ap (λ zs. checks n subjects (references y) ++ zs) (reads-flat ys) ∙ reads-append n subjects (references y) (flat_map references ys)
 
 -- the named type and item of an expression, as references
 pub named-present : (x : Expression) → present (option_map to.Type_ (named_type x) ∷ named_item x ∷ []) ≡ named_references x
@@ -150,8 +150,8 @@ checks-called-map {g = g} {f = f} {ys = ys} {r = r} check part xs e means h =
     checks-map (FnReturnsAt g f) check part xs r (λ x t a. subst (λ y. check (part y) t) a.shows (means a.shown t a.says.met)) (checks-along (FnReturnsAt g f) ys xs r e h)
 
 -- checking items by a closure that makes other checks is checking all these
-pub checks-called-looks : {A F : Type 0} {g : Shared F (Bor A × Unit {0}) (Result (Unit {0}) InvalidHandleError)} {f : F} {ys : List A} {r : Result (Unit {0}) InvalidHandleError}
+pub checks-called-reads : {A F : Type 0} {g : Shared F (Bor A × Unit {0}) (Result (Unit {0}) InvalidHandleError)} {f : F} {ys : List A} {r : Result (Unit {0}) InvalidHandleError}
     (asked : A → List Check) (xs : List A) → ys ≡ xs
     → ((y : Bor A) (t : Result (Unit {0}) InvalidHandleError) → g.post f (y, tt) t → ChecksEach IsResult (asked y.now) t) → ChecksEach (FnReturnsAt g f) ys r → ChecksEach IsResult (flat_map asked xs) r
-checks-called-looks {g = g} {f = f} {ys = ys} {r = r} asked xs e means h =
+checks-called-reads {g = g} {f = f} {ys = ys} {r = r} asked xs e means h =
     flatten IsResult (FnReturnsAt g f) asked xs r (λ x t a. subst (λ y. ChecksEach IsResult (asked y) t) a.shows (means a.shown t a.says.met)) (checks-along (FnReturnsAt g f) ys xs r e h)

@@ -4,7 +4,7 @@ use Rattle.std.specs.List.{enumerate_from, flat_map}
 use Rattle.std.proofs.lemmas.List.Elements.{All-append, All-contains, All-contains_itself, All-cons, All-nil, All-tail, All-weaker, Contains-append_left, Contains-append_right}
 use Rattle.std.proofs.lemmas.Option.{same_Some}
 use Rattle.naga_arena.proofs.Elements.{all-of}
-use Rattle.naga_ir.proofs.ReferredTo.{within_all}
+use Rattle.naga_ir.proofs.ReferencesOfItems.{within_all}
 
 -- what holds of all that the items of a list give
 pub all-flat : {X Y : Type 0} (P : Y → Type 0) (f : X → List Y) (xs : List X) → All (λ x. All P (f x)) xs → All P (flat_map f xs)

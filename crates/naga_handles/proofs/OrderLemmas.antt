@@ -5,7 +5,7 @@ use Rattle.std.proofs.lemmas.Bool.{cases_lt}
 use Rattle.std.proofs.lemmas.List.Elements.{All-append, All-contains, Contains-append_left, Contains-append_right}
 use Rattle.std.proofs.lemmas.Option.{slice_get_within}
 use Rattle.naga_handles.proofs.ReferenceLists.{all_in, all_named, all_of_option, all_within}
-use Rattle.naga_ir.proofs.ReferredTo.{item_in, only, type_in, within_all}
+use Rattle.naga_ir.proofs.ReferencesOfItems.{item_in, only, type_in, within_all}
 use Rattle.naga_ir.specs.Handles.{Exists, OrderedReference, constant, initialiser_of, module_counts, operand, override, part, place_of, size_initialiser, size_type}
 use Rattle.naga_ir.specs.ItemReferences.{expression_references, global_lists, type_references}
 use Rattle.naga_ir.specs.References.{named_item, named_type, operands}
@@ -83,8 +83,8 @@ at_place (x ∷ xs) zero h = (x, refl)
 at_place (x ∷ xs) (suc k) h = at_place xs k (omega (arith, h))
 
 -- if all were visited, all can be ordered
-pub can_be_ordered : (m : Module) (c looks : ℕ) → Reached m (length m.types) c looks → ((e : ℕ) → c ≤ e → e < length m.global_expressions → Seen m (length m.types) e) → CanBeOrdered m
-can_be_ordered m c looks r rest =
+pub can_be_ordered : (m : Module) (c reads : ℕ) → Reached m (length m.types) c reads → ((e : ℕ) → c ≤ e → e < length m.global_expressions → Seen m (length m.types) e) → CanBeOrdered m
+can_be_ordered m c reads r rest =
     all_right m (λ t x at. r.types t x (slice_get_within m.types t x at) at) (λ e x at. seen_stands m (length m.types) e x (seen e x at) at) (λ e x at. seen_names m (length m.types) e x (seen e x at) at)
     (λ t n e x within h l at. r.gates t n e x within h l at) (at_place m.types)
   where

@@ -58,16 +58,16 @@ module _ (m : Module) where
     inside = omega arith;
     few = omega arith;
     top = top_zero (global_lists m);
-    looked = refl;
+    counted = refl;
     seen = λ e h. absurd (omega (arith, h));
     types = λ k x h. absurd (omega (arith, h));
     gates = λ k n e x h. absurd (omega (arith, h));
   }
 
-  pub reached_at : (c looks : ℕ) → c ≡ 0 → looks ≡ 0 → Reached m 0 c looks
-  reached_at c looks none same = subst (λ (k : ℕ). Reached m 0 k looks) (sym none) (subst (λ (k : ℕ). Reached m 0 0 k) (sym same) reached_none)
+  pub reached_at : (c reads : ℕ) → c ≡ 0 → reads ≡ 0 → Reached m 0 c reads
+  reached_at c reads none same = subst (λ (k : ℕ). Reached m 0 k reads) (sym none) (subst (λ (k : ℕ). Reached m 0 0 k) (sym same) reached_none)
 
-  module _ (t c looks : ℕ) (x : «Type») (r : Reached m t c looks) (at : slice_get m.types t ≡ Some x) (stands : TypeOk m t x.inner) where
+  module _ (t c reads : ℕ) (x : «Type») (r : Reached m t c reads) (at : slice_get m.types t ≡ Some x) (stands : TypeOk m t x.inner) where
     types_more : (k : ℕ) (y : «Type») → k < t + 1 → slice_get m.types k ≡ Some y → TypeOk m k y.inner
     types_more k y h there = by_place (cases_lt k t)
       where
@@ -79,12 +79,12 @@ module _ (m : Module) where
             subst (λ (j : ℕ). TypeOk m j y.inner) place (subst (λ (z : «Type»). TypeOk m t z.inner) same stands)
 
     -- a type that asks for no expression was visited
-    pub reached_unsized : (now : ℕ) → now ≡ looks + 1 → size_initialiser (global_lists m) t ≡ None → Reached m (t + 1) c now
+    pub reached_unsized : (now : ℕ) → now ≡ reads + 1 → size_initialiser (global_lists m) t ≡ None → Reached m (t + 1) c now
     reached_unsized now counted none = record {
       inside = r.inside;
       few = r.few;
       top = top_unsized (global_lists m) t none ∙ r.top;
-      looked = omega (arith, r.looked, counted);
+      counted = omega (arith, r.counted, counted);
       seen = λ e h. seen_later t (t + 1) e (omega arith) (r.seen e h);
       types = types_more;
       gates = λ k n e y h begins l there. gates_more k n e y h begins l there (cases_lt k t);
@@ -102,7 +102,7 @@ module _ (m : Module) where
       inside = up.inside;
       few = few;
       top = by_top;
-      looked = counted;
+      counted = counted;
       seen = λ e h. seen_later t (t + 1) e (omega arith) (seen_now e h (cases_lt e c));
       types = types_more;
       gates = λ k n e y h begins l there. gates_more k n e y h begins l there (cases_lt k t);

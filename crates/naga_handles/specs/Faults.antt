@@ -13,7 +13,7 @@ use Rattle.naga_ir.specs.declared.reference.Reference.TheVariants as to
 use Rattle.naga_ir_types.specs.Parts.{size_override}
 use Rattle.naga_ir_types.specs.declared.types.«Type».{«Type»}
 use Rattle.naga_ir_types.specs.declared.types.TypeInner.{TypeInner}
-use Rattle.naga_ir_types.specs.declared.types.TypeInner.TheVariants.{Struct}
+use Rattle.naga_ir_types.specs.declared.types.TypeInner.TheVariants.{Scalar, Vector, Matrix, CooperativeMatrix, Atomic, Pointer, ValuePointer, Array, Struct, Image, Sampler, AccelerationStructure, RayQuery, BindingArray}
 use Rattle.naga_handles.specs.declared.error.InvalidHandleError.{InvalidHandleError}
 use Rattle.naga_handles.specs.declared.error.InvalidHandleError.TheVariants.{BadHandle, ForwardDependency, BadRange}
 use Rattle.naga_handles.specs.declared.error.ValidationFault.{ValidationFault}
@@ -34,7 +34,14 @@ kind_of (to.Emit range) = codes "Expression"
 -- the error on a dangling reference
 abbrev pub missing : Reference → InvalidHandleError
 missing (to.Emit range) = BadRange (record { kind = codes "Expression"; start = range.start; end = range.end })
-missing r = BadHandle (record { kind = kind_of r; index = place_of r })
+missing (to.Type_ t) = BadHandle (record { kind = kind_of (to.Type_ t); index = t })
+missing (to.Constant c) = BadHandle (record { kind = kind_of (to.Constant c); index = c })
+missing (to.Override o) = BadHandle (record { kind = kind_of (to.Override o); index = o })
+missing (to.GlobalVariable v) = BadHandle (record { kind = kind_of (to.GlobalVariable v); index = v })
+missing (to.Expression e) = BadHandle (record { kind = kind_of (to.Expression e); index = e })
+missing (to.LocalVariable v) = BadHandle (record { kind = kind_of (to.LocalVariable v); index = v })
+missing (to.Function f) = BadHandle (record { kind = kind_of (to.Function f); index = f })
+missing (to.DiagnosticFilterNode d) = BadHandle (record { kind = kind_of (to.DiagnosticFilterNode d); index = d })
 
 -- the error on a pair of which the second doesn't precede the first
 abbrev pub forward : Reference → Reference → InvalidHandleError
@@ -60,7 +67,14 @@ plain_references f = references_with named_references f
 -- a reference is to no function
 abbrev pub IsNoFunction : Reference → Type 0
 IsNoFunction (to.Function f) = ⊥
-IsNoFunction _ = Unit {0}
+IsNoFunction (to.Type_ t) = Unit {0}
+IsNoFunction (to.Constant c) = Unit {0}
+IsNoFunction (to.Override o) = Unit {0}
+IsNoFunction (to.GlobalVariable v) = Unit {0}
+IsNoFunction (to.Expression e) = Unit {0}
+IsNoFunction (to.LocalVariable v) = Unit {0}
+IsNoFunction (to.DiagnosticFilterNode d) = Unit {0}
+IsNoFunction (to.Emit range) = Unit {0}
 
 -- the other references that only have to exist, with the counts of items that they can name; the references of a function to functions go back instead
 pub data PlainReference (m : Module) : Counts → Reference → Type 0 where
@@ -80,7 +94,19 @@ pub data IsHandleFault (m : Module) : InvalidHandleError → Type 0 where
 -- what an error says in place of the name of a type without one, if a comment documents a member that the type doesn't have
 abbrev pub text_of_unnamed : TypeInner → List ℕ
 text_of_unnamed (Struct members span) = codes "members length incorrect"
-text_of_unnamed _ = codes "Unknown"
+text_of_unnamed (Scalar scalar) = codes "Unknown"
+text_of_unnamed (Vector n scalar) = codes "Unknown"
+text_of_unnamed (Matrix columns rows scalar) = codes "Unknown"
+text_of_unnamed (CooperativeMatrix columns rows scalar role) = codes "Unknown"
+text_of_unnamed (Atomic scalar) = codes "Unknown"
+text_of_unnamed (Pointer base space) = codes "Unknown"
+text_of_unnamed (ValuePointer n scalar space) = codes "Unknown"
+text_of_unnamed (Array base n stride) = codes "Unknown"
+text_of_unnamed (Image dim arrayed class) = codes "Unknown"
+text_of_unnamed (Sampler comparison) = codes "Unknown"
+text_of_unnamed (AccelerationStructure vertex_return) = codes "Unknown"
+text_of_unnamed (RayQuery vertex_return) = codes "Unknown"
+text_of_unnamed (BindingArray base n) = codes "Unknown"
 
 -- the name of a type as such an error says it
 abbrev pub display_name : «Type» → List ℕ

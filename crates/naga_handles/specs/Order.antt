@@ -10,7 +10,7 @@ use Rattle.naga_ir.specs.declared.reference.Reference.TheVariants as to
 use Rattle.naga_ir_types.specs.declared.types.«Type».{«Type»}
 use Rattle.naga_handles.specs.Faults.{IsOrderFault}
 use Rattle.naga_handles.specs.declared.error.ValidationFault.{ValidationFault}
-use Rattle.naga_handles.specs.declared.error.ValidationFault.TheVariants.{Invalid}
+use Rattle.naga_handles.specs.declared.error.ValidationFault.TheVariants.{Invalid, MissingMember, OutOfMemory}
 use Rattle.naga_handles.specs.declared.order.Item.{Item}
 use Rattle.naga_handles.specs.declared.order.Item.TheVariants as item
 
@@ -25,7 +25,13 @@ pub record CanBeOrdered (m : Module) : Type 0 where
 abbrev pub rank_of : GlobalLists → Reference → ℕ
 rank_of g (to.Type_ t) = rank_of_type g t
 rank_of g (to.Expression e) = rank_of_expression g e
-rank_of g _ = 0
+rank_of g (to.Constant c) = 0
+rank_of g (to.Override o) = 0
+rank_of g (to.GlobalVariable v) = 0
+rank_of g (to.LocalVariable v) = 0
+rank_of g (to.Function f) = 0
+rank_of g (to.DiagnosticFilterNode d) = 0
+rank_of g (to.Emit range) = 0
 
 -- whatever is needed has a lesser rank
 abbrev pub RanksFall : GlobalLists → Type 0
@@ -46,4 +52,5 @@ pub record IsOrder (g : GlobalLists) (order : List Item) : Type 0 where
 -- a fault of types and global expressions
 abbrev pub NamesOrderFault : Module → ValidationFault → Type 0
 NamesOrderFault m (Invalid e) = IsOrderFault m e
-NamesOrderFault m _ = ⊥
+NamesOrderFault m (MissingMember t name) = ⊥
+NamesOrderFault m OutOfMemory = ⊥

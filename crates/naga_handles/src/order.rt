@@ -29,7 +29,7 @@ pub struct Walk {
     /// Each type and each global expression once, after all that it depends on.
     pub order: Vec<Item>,
     /// How many types and global expressions were read from the module.
-    pub looks: u64,
+    pub reads: u64,
 }
 
 /// The types and global expressions of a module in an order in which each follows all that it depends
@@ -37,7 +37,7 @@ pub struct Walk {
 /// the type that it names, and the initialiser of the constant or override that it names.
 ///
 /// Types are in their order, and so are expressions. Each type is preceded by the expressions up to
-/// the initialiser that sizes it; the others are last. `looks` is the number of items: the private
+/// the initialiser that sizes it; the others are last. `reads` is the number of items: the private
 /// reader of the walk counts what it reads. The cost is linear in the module.
 ///
 /// # Errors
@@ -49,7 +49,7 @@ pub fn visit_order(alloc: Global, module: &Module) -> Result<Walk, ValidationFau
         (λ fault. NamesOrderFault «module».now fault × (CanBeOrdered «module».now → ⊥)) }
     ensures order { IfOk result (λ walk. IsOrder (global_lists «module».now) walk.order.items) }
     ensures falls { OnOk result (RanksFall (global_lists «module».now)) }
-    ensures looks { IfOk result (λ walk. walk.looks ≡ length «module».now.types + length «module».now.global_expressions) }
+    ensures reads { IfOk result (λ walk. walk.reads ≡ length «module».now.types + length «module».now.global_expressions) }
 {
     order_of(alloc, module)
 }
@@ -59,7 +59,7 @@ pub fn visit_order(alloc: Global, module: &Module) -> Result<Walk, ValidationFau
 fn order_of(alloc: Global, module: &Module) -> Result<Walk, ValidationFault>
     ensures accepted { OnOk result (CanBeOrdered «module».now) }
     ensures order { IfOk result (λ walk. IsOrder (global_lists «module».now) walk.order.items) }
-    ensures looks { IfOk result (λ walk. walk.looks ≡ length «module».now.types + length «module».now.global_expressions) }
+    ensures reads { IfOk result (λ walk. walk.reads ≡ length «module».now.types + length «module».now.global_expressions) }
     ensures refused { IfErr result (IsNoOrder «module».now) }
 {
     let mut walker = Walker::new();
@@ -72,7 +72,7 @@ fn order_of(alloc: Global, module: &Module) -> Result<Walk, ValidationFault>
     push_expressions(&mut order, before, walker.visited())?;
     Ok(Walk {
         order,
-        looks: walker.looks(),
+        reads: walker.reads(),
     })
 }
 
@@ -113,9 +113,9 @@ fn visit_in_order(
 ) -> Result<(), ValidationFault>
     requires few { handle < largest_u32 }
     requires exists { handle < length «module».now.types }
-    requires reached { Reached «module».now handle walker.old.visited walker.old.reader.looks }
+    requires reached { Reached «module».now handle walker.old.visited walker.old.reader.reads }
     requires placed { Placed (global_lists «module».now) order.old.items handle walker.old.visited }
-    ensures reached { OnOk result (Reached «module».now (handle + 1) walker.new.visited walker.new.reader.looks) }
+    ensures reached { OnOk result (Reached «module».now (handle + 1) walker.new.visited walker.new.reader.reads) }
     ensures placed { OnOk result (Placed (global_lists «module».now) order.new.items (handle + 1) walker.new.visited) }
     ensures refused { IfErr result (IsNoOrder «module».now) }
 {

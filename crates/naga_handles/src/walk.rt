@@ -171,7 +171,7 @@ impl Walker {
     /// Nothing was visited.
     pub(crate) fn new() -> Walker
         ensures visited { result.visited ≡ 0 }
-        ensures looks { result.reader.looks ≡ 0 }
+        ensures reads { result.reader.reads ≡ 0 }
     {
         Walker {
             reader: Reader::new(),
@@ -187,10 +187,10 @@ impl Walker {
     }
 
     /// How many items were read.
-    pub(crate) fn looks(&self) -> u64
-        ensures { result ≡ self.now.reader.looks }
+    pub(crate) fn reads(&self) -> u64
+        ensures { result ≡ self.now.reader.reads }
     {
-        self.reader.looks()
+        self.reader.reads()
     }
 
     /// Visits the global expressions up to the initialiser that sizes a type, from the first that
@@ -205,10 +205,10 @@ impl Walker {
         requires exists { last < length «module».now.global_expressions }
         requires inside { self.old.visited ≤ length «module».now.global_expressions }
         requires sized { size_initialiser (global_lists «module».now) handle ≡ Some last }
-        requires counted { self.old.reader.looks ≡ handle + 1 + self.old.visited }
+        requires counted { self.old.reader.reads ≡ handle + 1 + self.old.visited }
         ensures seen { OnOk result (SeenUpTo «module».now handle self.old.visited self.new.visited last) }
         ensures few { OnOk result (self.new.visited ≤ largest_u32) }
-        ensures counted { OnOk result (self.new.reader.looks ≡ handle + 1 + self.new.visited) }
+        ensures counted { OnOk result (self.new.reader.reads ≡ handle + 1 + self.new.visited) }
         ensures refused { IfErr result (IsOrderFault «module».now) }
     {
         for index in self.visited..last.index() + 1 {
@@ -224,11 +224,11 @@ impl Walker {
     /// Visits the global expressions that no size needs. The types that they name only have to exist.
     pub(crate) fn visit_rest(&mut self, module: &Module) -> Result<(), InvalidHandleError>
         requires few { length «module».now.types ≤ largest_u32 }
-        requires reached { Reached «module».now (length «module».now.types) self.old.visited self.old.reader.looks }
+        requires reached { Reached «module».now (length «module».now.types) self.old.visited self.old.reader.reads }
         ensures accepted { OnOk result (CanBeOrdered «module».now) }
         ensures visited { OnOk result (self.new.visited ≡ length «module».now.global_expressions) }
         ensures few { OnOk result (self.new.visited ≤ largest_u32) }
-        ensures counted { OnOk result (self.new.reader.looks ≡ length «module».now.types + length «module».now.global_expressions) }
+        ensures counted { OnOk result (self.new.reader.reads ≡ length «module».now.types + length «module».now.global_expressions) }
         ensures refused { IfErr result (IsOrderFault «module».now) }
     {
         for index in self.visited..module.global_expressions.len() {
@@ -249,8 +249,8 @@ impl Walker {
     ) -> Result<(), InvalidHandleError>
         requires few { handle < largest_u32 }
         requires exists { handle < length «module».now.types }
-        requires reached { Reached «module».now handle self.old.visited self.old.reader.looks }
-        ensures reached { OnOk result (Reached «module».now (handle + 1) self.new.visited self.new.reader.looks) }
+        requires reached { Reached «module».now handle self.old.visited self.old.reader.reads }
+        ensures reached { OnOk result (Reached «module».now (handle + 1) self.new.visited self.new.reader.reads) }
         ensures refused { IfErr result (IsOrderFault «module».now) }
     {
         let ty = self.reader.type_at(module, handle);

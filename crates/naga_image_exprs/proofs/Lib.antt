@@ -1,6 +1,6 @@
-mod Clamping
-mod Judged
-mod Known
+mod ClampConditions
+mod FirstConditions
+mod KnownOperands
 mod Places
 mod Results
 mod Texts

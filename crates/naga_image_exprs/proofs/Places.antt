@@ -4,7 +4,7 @@ use Rattle.std.specs.List.{flat_map}
 use Rattle.std.proofs.lemmas.List.Elements.{All-contains, Contains-append_left}
 use Rattle.naga_arena.proofs.Elements.{all_at, contains-map}
 use Rattle.naga_ir.proofs.Handles.{global_references_ok}
-use Rattle.naga_ir.proofs.ReferredTo.{item_in, within_all}
+use Rattle.naga_ir.proofs.ReferencesOfItems.{item_in, within_all}
 use Rattle.naga_ir.specs.Handles.{Exists, ExistsGlobally, function_counts, module_counts}
 use Rattle.naga_ir.specs.ItemReferences.{expression_references, global_lists, global_variable_references, named_references, other_references, type_references}
 use Rattle.naga_ir.specs.References.{named_item, operands}

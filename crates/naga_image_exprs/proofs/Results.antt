@@ -3,7 +3,7 @@ use Rattle.std.proofs.Common.{◌≡◌, ◌∙◌, ℕ, Option, ap, inl, inr, r
 use Rattle.std.specs.Prelude.{Bool, Result, Ok, Err, String}
 use Rattle.std.specs.declared.alloc.Global.{Global}
 use Rattle.naga_flags.specs.declared.flags.ShaderStages.{ShaderStages}
-use Rattle.naga_image_exprs.proofs.Judged.{ArePassed, IsPassed, broken_at}
+use Rattle.naga_image_exprs.proofs.FirstConditions.{ArePassed, IsPassed, broken_at}
 use Rattle.naga_image_exprs.specs.Loads.{image_load_rule, load_conditions}
 use Rattle.naga_image_exprs.specs.Resources.{and_then, image_at}
 use Rattle.naga_image_exprs.specs.Samples.{IsImageSampleReturned, bad_clamp, image_sample_rule, level_stages, sample_conditions, sampled}

@@ -30,11 +30,7 @@ is_of_kind count kind inner = is_of count (λ scalar. of_kind.ghosts.eq scalar.k
 abbrev pub are_coordinates : ImageDimension → TypeInner → Truth
 are_coordinates dim inner = is_of_kind (coordinate_count dim) Float inner
 
--- a form is that of integers, of any width
-abbrev pub is_integer_scalar : TypeInner → Truth
-is_integer_scalar inner = is_scalar_that (λ scalar. is_integer scalar.kind) inner
-
--- a form is that of integers of 32 bits
+-- a form is that of one integer of 32 bits
 abbrev pub is_index : TypeInner → Truth
 is_index inner = is_scalar_that (λ scalar. is_integer scalar.kind && scalar.width == width_32) inner
 

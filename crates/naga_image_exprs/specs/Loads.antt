@@ -1,13 +1,14 @@
 -- The rule of loads of texels.
 use Rattle.std.specs.Prelude.{ℕ, Bool as Truth, true, false, List, [], ◌∷◌, Option, Some, None, Result}
 use Rattle.naga_flags.specs.declared.flags.ShaderStages.{ShaderStages}
-use Rattle.naga_image_exprs.specs.Coordinates.{bad_layer, is_index, is_integer_scalar}
+use Rattle.naga_image_exprs.specs.Coordinates.{bad_layer, is_index}
 use Rattle.naga_image_exprs.specs.Resources.{and_then, image_at}
 use Rattle.naga_image_exprs.specs.declared.resource.ImageType.{ImageType}
 use Rattle.naga_ir_types.specs.TypeWords.{is_mipmapped, is_multisampled}
 use Rattle.naga_ir_types.specs.contracts.types.ImageDimensionPartialEq.TheImpl as of_dimension
 use Rattle.naga_ir_types.specs.declared.types.ImageDimension.{ImageDimension}
 use Rattle.naga_operands.specs.Stages.{every_stage}
+use Rattle.naga_operands.specs.Words.{is_integer_scalar}
 use Rattle.naga_operands.specs.Surroundings.{ExpressionSurroundings, form_at}
 use Rattle.naga_operands.specs.declared.error.ExpressionError.{ExpressionError}
 use Rattle.naga_operands.specs.declared.error.ExpressionError.TheVariants as refusal

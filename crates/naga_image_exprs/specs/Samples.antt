@@ -3,7 +3,7 @@ use Rattle.std.specs.Prelude.{◌≡◌, ◌&&◌, ◌||◌, ℕ, Bool as Truth,
 use Rattle.std.specs.Bool.{beq}
 use Rattle.std.specs.declared.alloc.Global.{Global}
 use Rattle.naga_flags.specs.declared.flags.ShaderStages.{ShaderStages}
-use Rattle.naga_image_exprs.specs.Coordinates.{are_coordinates, bad_layer, coordinate_count, is_integer_scalar, is_of_kind}
+use Rattle.naga_image_exprs.specs.Coordinates.{are_coordinates, bad_layer, coordinate_count, is_of_kind}
 use Rattle.naga_image_exprs.specs.Resources.{and_then, image_type, resource_type, sampler_comparison}
 use Rattle.naga_image_exprs.specs.declared.resource.ImageType.{ImageType}
 use Rattle.naga_image_exprs.specs.declared.sample.Sample.{Sample}
@@ -22,10 +22,11 @@ use Rattle.naga_ir_types.specs.declared.types.TypeInner.{TypeInner}
 use Rattle.naga_operands.specs.Results.{IsReturned}
 use Rattle.naga_operands.specs.Stages.{every_stage, fragment_stage}
 use Rattle.naga_operands.specs.Surroundings.{ExpressionSurroundings, form_at}
+use Rattle.naga_operands.specs.Words.{is_integer_scalar}
 use Rattle.naga_operands.specs.declared.error.ExpressionError.{ExpressionError}
 use Rattle.naga_operands.specs.declared.error.ExpressionError.TheVariants as refusal
 use Rattle.naga_types.specs.Judging.{first, judged, unless}
-use Rattle.naga_types.specs.TypeRule.{is_float, is_integer}
+use Rattle.naga_types.specs.TypeRule.{is_external, is_flat, is_float, is_integer}
 use Rattle.naga_typing.specs.Kinds.{is_const}
 
 -- the expression that a sample is
@@ -132,24 +133,10 @@ is_filtered (Depth multi) = false
 is_filtered (Storage format access) = false
 is_filtered External = false
 
--- a class is that of images from outside
-abbrev pub is_external : ImageClass → Truth
-is_external External = true
-is_external (Sampled kind multi) = false
-is_external (Depth multi) = false
-is_external (Storage format access) = false
-
--- an image has two dimensions
-abbrev pub is_plane : ImageDimension → Truth
-is_plane D2 = true
-is_plane D1 = false
-is_plane D3 = false
-is_plane Cube = false
-
 -- coordinates can be clamped in an image of two dimensions, of floating-point numbers or from outside, at the first level, and with nothing beside them: no gather, layer, offset or reference
 abbrev pub can_clamp : ImageType → Sample → Truth
 can_clamp image sample =
-    (is_filtered image.class || is_external image.class) && (is_plane image.dim && (is_first_level sample.level
+    (is_filtered image.class || is_external image.class) && (is_flat image.dim && (is_first_level sample.level
     && (not (is_some sample.gather) && (not (is_some sample.array_index) && (not (is_some sample.offset) && not (is_some sample.depth_ref))))))
 
 -- the refusal to clamp, which carries a text, unless that is not asked for, or can be done

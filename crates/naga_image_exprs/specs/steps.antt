@@ -1,3 +1,3 @@
 -- What private functions alone ask of one another, and promise.
 pub mod Clamps
-pub mod Known
+pub mod KnownResources

@@ -83,7 +83,7 @@ fn text_of(alloc: Global, fault: ClampFault) -> Result<String, OutOfMemory> {
     Ok(format!(in alloc; "{fault}")?)
 }
 
-/// Checks that coordinates are clamped only where that is possible.
+/// Checks that coordinates are clamped only if that is possible.
 pub(crate) fn check_clamp(
     alloc: Global,
     image: ImageType,

@@ -3,6 +3,7 @@
 ghost use Rattle.std.specs.Prelude.{◌≡◌, ◌<◌, IfSome, length};
 ghost use Rattle.naga_image_exprs.specs.Coordinates as rule;
 ghost use Rattle.naga_operands.specs.Surroundings.{AreSound, surroundings};
+ghost use Rattle.naga_operands.specs.Words as words;
 ghost use Rattle.naga_types.specs.Judging.{granted};
 
 use naga_ir::handle::Handle;
@@ -68,7 +69,7 @@ pub(crate) fn check_sampled_layer(
 ) -> Result<(), ExpressionError>
     requires sound { AreSound (surroundings context) }
     requires known { IfSome array_index (λ e. e < length context.info.now.types) }
-    ensures { result ≡ granted (rule.bad_layer (surroundings context.entry) rule.is_integer_scalar arrayed array_index) tt }
+    ensures { result ≡ granted (rule.bad_layer (surroundings context.entry) words.is_integer_scalar arrayed array_index) tt }
 {
     check_layer(arrayed, array_index.is_some())?;
     match array_index {

@@ -2,7 +2,7 @@
 
 ghost use Rattle.std.specs.Prelude.{◌≡◌, ◌<◌, IfOk, length};
 ghost use Rattle.naga_image_exprs.specs.Resources as rule;
-ghost use Rattle.naga_image_exprs.specs.steps.Known.{CanLookUp};
+ghost use Rattle.naga_image_exprs.specs.steps.KnownResources.{CanLookUp};
 ghost use Rattle.naga_operands.specs.Surroundings.{AreSound, surroundings};
 
 use naga_ir::expression::Expression;

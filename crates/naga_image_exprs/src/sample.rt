@@ -2,7 +2,7 @@
 
 ghost use Rattle.std.specs.Prelude.{◌≡◌, ◌<◌, All, IfSome, length};
 ghost use Rattle.naga_image_exprs.specs.Samples as rule;
-ghost use Rattle.naga_image_exprs.specs.steps.Known.{CanLookUp};
+ghost use Rattle.naga_image_exprs.specs.steps.KnownResources.{CanLookUp};
 ghost use Rattle.naga_ir.specs.References.{level_operands};
 ghost use Rattle.naga_operands.specs.Surroundings.{AreSound, IsJudgeable, surroundings};
 ghost use Rattle.naga_operands.specs.Words.{is_scalar_that};
@@ -155,7 +155,7 @@ fn check_offset(
     Ok(())
 }
 
-/// Checks that depths are compared with a number, at the first level.
+/// Checks that depths are compared with a number, at the level `Auto` or `Zero`.
 fn check_depth_reference(
     context: FunctionContext<'_>,
     depth_ref: Option<Handle<ExpressionTag>>,
@@ -333,9 +333,9 @@ fn level_stages(level: SampleLevel) -> ShaderStages
 /// - `InvalidImageArrayIndex` if the image has layers and none is chosen, or the other way round.
 ///   `InvalidImageArrayIndexType` if the index of the layer is no integer.
 /// - `InvalidImageClass` if the image can't be sampled: it is multisampled, or a storage image, or holds
-///   integers, which can only be gathered.
-/// - `ComparisonSamplingMismatch` if the sampler compares and there is no reference or no depth, or the
-///   other way round.
+///   integers, which can only be gathered, or truth values.
+/// - `ComparisonSamplingMismatch` if there is a reference and the sampler doesn't compare, or there is none
+///   and it does, or it compares and the image holds no depths.
 /// - `InvalidImageCoordinateType` if the coordinates are not as many floating-point numbers as the image
 ///   has dimensions, three in a cube.
 /// - `InvalidSampleOffsetExprType` if the offset is not known when the shader is compiled.
@@ -352,7 +352,7 @@ fn level_stages(level: SampleLevel) -> ShaderStages
 /// - `InvalidSampleLevelExactType` if the number of the level is no integer of a depth image, and no
 ///   floating-point number of another.
 /// - `InvalidSampleLevelBiasType` if the bias is no floating-point number. `InvalidImageClass` if the image
-///   with a bias holds no floating-point numbers. `InvalidSampleLevelBiasDimension` if it has one dimension.
+///   with a bias is one of depths or from outside. `InvalidSampleLevelBiasDimension` if it has one dimension.
 /// - `InvalidSampleLevelGradientType` if a derivative is not as many floating-point numbers as the
 ///   coordinates.
 /// - `OutOfMemory` if memory was refused for the text of `InvalidSampleClampCoordinateToEdge`.

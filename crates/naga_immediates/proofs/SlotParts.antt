@@ -13,9 +13,9 @@ use Rattle.naga_immediates.proofs.SlotBits.{in_both, zero_not_one}
 use Rattle.naga_immediates.specs.Slots.{AreExactly, HasPart, HasSlot, SharesByte, UsesSlot, slot_count}
 use Rattle.naga_immediates.specs.Slots.HasPart.{itself, in_member}
 use Rattle.naga_immediates.specs.declared.immediates.ImmediateSlots.{ImmediateSlots}
-use Rattle.naga_immediates.specs.declared.immediates.Walk.{Walk}
+use Rattle.naga_immediates.specs.declared.immediates.SlotWalk.{SlotWalk}
 use Rattle.naga_immediates.specs.steps.SlotWalk.{Gains, KnowsNoted, TypeUses, byte_of, note_count, place_of}
-use Rattle.naga_ir.proofs.ReferredTo.{parts_come_before}
+use Rattle.naga_ir.proofs.ReferencesOfItems.{parts_come_before}
 use Rattle.naga_ir.specs.Handles.{ExistsGlobally, GlobalReferencesOk}
 use Rattle.naga_ir.specs.ItemReferences.{GlobalLists, type_references}
 use Rattle.naga_ir.specs.declared.reference.Reference.TheVariants as to
@@ -194,17 +194,17 @@ pub byte_past : (n : ℕ) (found : Option ℕ) → found ≡ byte_of n → ((byt
 byte_past n found e none = ⊎_elim (λ under. absurd (none n (e ∙ byte_within n under))) (λ past. past) (cases_lt n 256)
 
 -- a walk has found the slots of the first members, and of the types that it has noted
-pub record IsWalking (g : GlobalLists) (members : List StructMember) (at i : ℕ) (old : ImmediateSlots) (walk : Walk) : Type 0 where
+pub record IsWalking (g : GlobalLists) (members : List StructMember) (at i : ℕ) (old : ImmediateSlots) (walk : SlotWalk) : Type 0 where
   pub noted : KnowsNoted g walk
   pub gains : GainsBefore g members at i old walk.slots
 
-module _ (g : GlobalLists) (members : List StructMember) (at at′ i : ℕ) (old : ImmediateSlots) (walk next : Walk) (h : IsWalking g members at i old walk)
+module _ (g : GlobalLists) (members : List StructMember) (at at′ i : ℕ) (old : ImmediateSlots) (walk next : SlotWalk) (h : IsWalking g members at i old walk)
     (m : StructMember) (within : i < length members) (e : m ≡ get_or members i m) (same : at′ ≡ at) where
   is_at : slice_get members i ≡ Some m
   is_at = slice_get_read members (length members) i m refl within e
 
   -- it walks through one more
-  pub walks_on : (byte : ℕ) (walk′ : Walk) → Some byte ≡ byte_of (at′ + m.offset) → KnowsNoted g walk′ → Gains g m.ty byte walk.slots walk′.slots → next ≡ walk′ → IsWalking g members at (i + 1) old next
+  pub walks_on : (byte : ℕ) (walk′ : SlotWalk) → Some byte ≡ byte_of (at′ + m.offset) → KnowsNoted g walk′ → Gains g m.ty byte walk.slots walk′.slots → next ≡ walk′ → IsWalking g members at (i + 1) old next
   walks_on byte walk′ is known gains e′ =
       subst (IsWalking g members at (i + 1) old) (sym e′)
       record { noted = known; gains = added g members at i old walk.slots h.gains m is_at byte walk′.slots (byte_is _ byte is ∙ ap (λ n. n + m.offset) same) gains }
@@ -221,7 +221,7 @@ nothing_noted place t e =
     none-some t (sym (get_or-replicate note_count place None (Some t) within) ∙ get_or_from_slice_get (replicate note_count None) place (Some t) (Some t) e)
 
 -- a walk begins with no slots and nothing noted
-pub starts : (g : GlobalLists) (members : List StructMember) (at : ℕ) (walk : Walk) → walk.slots ≡ record { 0 = 0 } → walk.noted ≡ replicate note_count None → IsWalking g members at 0 (record { 0 = 0 }) walk
+pub starts : (g : GlobalLists) (members : List StructMember) (at : ℕ) (walk : SlotWalk) → walk.slots ≡ record { 0 = 0 } → walk.noted ≡ replicate note_count None → IsWalking g members at 0 (record { 0 = 0 }) walk
 starts g members at walk none nothing =
     record {
       noted = λ byte t k noted within u. absurd (nothing_noted (place_of t byte) t (ap (λ noted. slice_get noted (place_of t byte)) (sym nothing) ∙ noted));
@@ -229,7 +229,7 @@ starts g members at walk none nothing =
     }
 
 -- when all members are walked through, the slots are exactly those that the struct uses
-pub walked : (g : GlobalLists) (inner : TypeInner) (members : List StructMember) (span at i : ℕ) (walk : Walk) → length members ≡ i → inner ≡ Struct members span → IsWalking g members at i (record { 0 = 0 }) walk
+pub walked : (g : GlobalLists) (inner : TypeInner) (members : List StructMember) (span at i : ℕ) (walk : SlotWalk) → length members ≡ i → inner ≡ Struct members span → IsWalking g members at i (record { 0 = 0 }) walk
     → AreExactly (UsesSlot g inner at) walk.slots
 walked g inner members span at i walk end is h k = (there, back)
   where

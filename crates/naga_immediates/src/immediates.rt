@@ -94,7 +94,7 @@ impl ImmediateSlots {
         let TypeInner::Struct { members, .. } = ty else {
             return slots_of_part(ty, offset, gctx);
         };
-        let mut walk = Walk::new();
+        let mut walk = SlotWalk::new();
         for member in members.as_slice() {
             if let Some(byte) = member_byte(offset, member) {
                 walk.add(member.ty, byte, gctx);
@@ -272,20 +272,20 @@ fn accessed_member<'a>(
 
 /// The slots that a walk through the members of a struct has found so far.
 #[derive(Drop)]
-struct Walk {
+struct SlotWalk {
     slots: ImmediateSlots,
     /// For each byte the struct types that were the last to be walked through from there, of those whose
     /// indices leave the same remainder: all slots that they use from there are among `slots`.
     noted: [Option<Handle<TypeTag>>; NOTE_COUNT],
 }
 
-impl Walk {
+impl SlotWalk {
     /// The beginning of a walk.
-    fn new() -> Walk
+    fn new() -> SlotWalk
         ensures slots { result.slots ≡ record { 0 = 0 } }
         ensures noted { result.noted ≡ replicate note_count None }
     {
-        Walk {
+        SlotWalk {
             slots: ImmediateSlots(0),
             noted: [None; NOTE_COUNT],
         }

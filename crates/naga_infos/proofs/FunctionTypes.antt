@@ -4,7 +4,7 @@ use Rattle.std.proofs.lemmas.List.Elements.{All-cons, All-contains, All-nil}
 use Rattle.naga_arena.proofs.Elements.{all_at}
 use Rattle.naga_flags.specs.Bits.{all_stages}
 use Rattle.naga_flags.specs.declared.flags.ShaderStages.{ShaderStages}
-use Rattle.naga_ir.proofs.ReferredTo.{item_in}
+use Rattle.naga_ir.proofs.ReferencesOfItems.{item_in}
 use Rattle.naga_infos.specs.FunctionTypes.{function_resolves, type_of_argument, type_of_local}
 use Rattle.naga_ir.specs.Handles.{Exists, ExistsGlobally, FunctionReferencesOk}
 use Rattle.naga_ir.specs.ItemReferences.{GlobalLists, expression_references, global_lists}

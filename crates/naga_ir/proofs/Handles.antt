@@ -4,7 +4,7 @@ use Rattle.std.specs.List.{flat_map}
 use Rattle.std.proofs.lemmas.List.Elements.{All-contains}
 use Rattle.std.proofs.lemmas.Option.{slice_get-get_or}
 use Rattle.naga_arena.proofs.Elements.{all-left, all-right, all-unmap}
-use Rattle.naga_ir.proofs.ReferredTo.{within_all}
+use Rattle.naga_ir.proofs.ReferencesOfItems.{within_all}
 use Rattle.naga_ir.specs.Handles.{Exists, ExistsGlobally, FunctionReferencesOk, GlobalReferencesOk, HandlesAccepted, among_globals, function_counts, in_function, module_counts}
 use Rattle.naga_ir.specs.ItemReferences.{all_functions, expression_references, function_references, global_lists, local_references, local_variable_references, signature_references}
 use Rattle.naga_ir.specs.declared.ir.Function.{Function}

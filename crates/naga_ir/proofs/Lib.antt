@@ -1,6 +1,6 @@
 pub mod FirstFailure
 pub mod Handles
 pub mod ModuleItems
-pub mod ReferredTo
+pub mod ReferencesOfItems
 pub mod StatementLemmas
 pub mod WorkedModules

@@ -3,7 +3,7 @@ use Rattle.std.proofs.Common.{◌≡◌, ◌<◌, ℕ, List, Some, All, length, 
 use Rattle.std.specs.List.{flat_map}
 use Rattle.std.proofs.lemmas.List.Elements.{All-contains, Contains-append_left}
 use Rattle.naga_arena.proofs.Elements.{all-left, all-right, all-unmap, all_at}
-use Rattle.naga_ir.proofs.ReferredTo.{within_all}
+use Rattle.naga_ir.proofs.ReferencesOfItems.{within_all}
 use Rattle.naga_ir.specs.Handles.{Exists, HandlesAccepted, function_counts, module_counts}
 use Rattle.naga_ir.specs.ItemReferences.{function_references, global_variable_references, other_references, signature_references, special_types}
 use Rattle.naga_ir.specs.declared.ir.EntryPoint.{EntryPoint}

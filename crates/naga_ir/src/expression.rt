@@ -260,6 +260,7 @@ pub enum Expression {
         gather: Option<SwizzleComponent>,
         coordinate: Handle<ExpressionTag>,
         array_index: Option<Handle<ExpressionTag>>,
+        /// From the coordinates to the sample, in texels.
         offset: Option<Handle<ExpressionTag>>,
         level: SampleLevel,
         /// What depths are compared with.

@@ -71,6 +71,7 @@ pub enum RayQueryFunction {
     /// Begins it.
     Initialize {
         acceleration_structure: Handle<ExpressionTag>,
+        /// The ray: where it begins and where it goes.
         descriptor: Handle<ExpressionTag>,
     },
     /// Proceeds to the next candidate.
@@ -94,7 +95,9 @@ pub enum RayPipelineFunction {
     /// Traces a ray.
     TraceRay {
         acceleration_structure: Handle<ExpressionTag>,
+        /// The ray: where it begins and where it goes.
         descriptor: Handle<ExpressionTag>,
+        /// A pointer to what the stages of the trace share.
         payload: Handle<ExpressionTag>,
     },
 }
@@ -190,6 +193,7 @@ pub enum Statement {
         pointer: Handle<ExpressionTag>,
         fun: AtomicFunction,
         value: Handle<ExpressionTag>,
+        /// What was there before, if it is used.
         result: Option<Handle<ExpressionTag>>,
     },
     /// An atomic operation on a texel.
@@ -209,6 +213,7 @@ pub enum Statement {
     Call {
         function: Handle<FunctionTag>,
         arguments: List<Handle<ExpressionTag>>,
+        /// What the function returns, if it returns something.
         result: Option<Handle<ExpressionTag>>,
     },
     /// A step of a ray query.
@@ -221,6 +226,7 @@ pub enum Statement {
     /// Asks all invocations of the subgroup for a truth value.
     SubgroupBallot {
         result: Handle<ExpressionTag>,
+        /// What is asked; without it, each says that it takes part.
         predicate: Option<Handle<ExpressionTag>>,
     },
     /// Takes values of other invocations of the subgroup.
@@ -237,6 +243,7 @@ pub enum Statement {
     },
     /// Writes a cooperative matrix to memory.
     CooperativeStore {
+        /// The matrix.
         target: Handle<ExpressionTag>,
         pointer: Handle<ExpressionTag>,
         /// From the start of a column or row to that of the next, in elements.

@@ -1,4 +1,4 @@
-pub mod Coming
+pub mod NextLeaves
 pub mod Members
 pub mod Order
 pub mod Parts

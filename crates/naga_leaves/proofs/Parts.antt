@@ -5,7 +5,7 @@ use Rattle.std.specs.Option.{option_map}
 use Rattle.std.proofs.lemmas.Option.{cond_some, get_or_from_slice_get, none-some, same_Some, slice_get_within}
 use Rattle.naga_ir.specs.Handles.{GlobalReferencesOk}
 use Rattle.naga_ir.specs.ItemReferences.{GlobalLists}
-use Rattle.naga_ir.proofs.ReferredTo.{parts_come_before}
+use Rattle.naga_ir.proofs.ReferencesOfItems.{parts_come_before}
 use Rattle.naga_ir_types.proofs.PartLemmas.{base_is, members_are}
 use Rattle.naga_ir_types.specs.Parts.{parts}
 use Rattle.naga_ir_types.specs.declared.types.«Type».{«Type»}

@@ -118,39 +118,39 @@ module _ (g : GlobalLists) (elements_of : Elements) where
 
   module _ (whole : ℕ) where
     -- there is a part around for each index
-    pub as_many : (around : List Part) (path : List ℕ) (part : Part) → LeadsTo g elements_of whole around path part → length around ≡ length path
+    pub as_many : (outer : List Part) (path : List ℕ) (part : Part) → LeadsTo g elements_of whole outer path part → length outer ≡ length path
     as_many _ _ _ itself = refl
-    as_many _ _ _ (further around path part i child h is within) =
-        let same : length around ≡ length path = as_many around path part h in
-        let a = length-append around (part ∷ []) in let b = length-append path (i ∷ []) in omega arith
+    as_many _ _ _ (further outer path part i child h is within) =
+        let same : length outer ≡ length path = as_many outer path part h in
+        let a = length-append outer (part ∷ []) in let b = length-append path (i ∷ []) in omega arith
 
     -- the indexes are numbers of 32 bits
-    pub are_indexes : (around : List Part) (path : List ℕ) (part : Part) → LeadsTo g elements_of whole around path part → All (λ i. i ≤ largest_u32) path
+    pub are_indexes : (outer : List Part) (path : List ℕ) (part : Part) → LeadsTo g elements_of whole outer path part → All (λ i. i ≤ largest_u32) path
     are_indexes _ _ _ itself = All-nil (λ i. i ≤ largest_u32)
-    are_indexes _ _ _ (further around path part i child h is within) = All-push (λ i. i ≤ largest_u32) path i (are_indexes around path part h) within
+    are_indexes _ _ _ (further outer path part i child h is within) = All-push (λ i. i ≤ largest_u32) path i (are_indexes outer path part h) within
 
     -- the type of the part exists
-    pub part_there : GlobalReferencesOk g → whole < length g.types → (around : List Part) (path : List ℕ) (part : Part) → LeadsTo g elements_of whole around path part → part.ty < length g.types
+    pub part_there : GlobalReferencesOk g → whole < length g.types → (outer : List Part) (path : List ℕ) (part : Part) → LeadsTo g elements_of whole outer path part → part.ty < length g.types
     part_there ok there _ _ _ itself = there
-    part_there ok there _ _ _ (further around path part i child h is within) =
+    part_there ok there _ _ _ (further outer path part i child h is within) =
         let w : (child.ty < part.ty) × (part.ty < length g.types) = part_precedes ok part.ty i child is in omega arith
 
     -- a leaf of the part is one of the whole, moved
-    pub leaf_in_place : (around : List Part) (path : List ℕ) (part : Part) → LeadsTo g elements_of whole around path part
+    pub leaf_in_place : (outer : List Part) (path : List ℕ) (part : Part) → LeadsTo g elements_of whole outer path part
         → (rest : List ℕ) → leaf_at g elements_of whole (path ++ rest) ≡ option_map (moved part.first) (leaf_at g elements_of part.ty rest)
     leaf_in_place _ _ _ itself rest = sym (moved_by_none (leaf_at g elements_of whole rest))
-    leaf_in_place _ _ _ (further around path part i child h is within) rest =
+    leaf_in_place _ _ _ (further outer path part i child h is within) rest =
         ap (leaf_at g elements_of whole) (append_assoc path (i ∷ []) rest)
-        ∙ leaf_in_place around path part h (i ∷ rest)
+        ∙ leaf_in_place outer path part h (i ∷ rest)
         ∙ ap (option_map (moved part.first)) (leaf_at_part part.ty i rest child is)
         ∙ moved_twice part.first child.first (leaf_at g elements_of child.ty rest)
 
     -- the path without its last index leads to the part around
-    pub back : (around : List Part) (path : List ℕ) (part : Part) → LeadsTo g elements_of whole around path part
-        → (a : List Part) (q : List ℕ) (p : Part) (i : ℕ) → around ≡ a ++ p ∷ [] → path ≡ q ++ i ∷ [] → LeadsTo g elements_of whole a q p × (i ≤ largest_u32)
+    pub back : (outer : List Part) (path : List ℕ) (part : Part) → LeadsTo g elements_of whole outer path part
+        → (a : List Part) (q : List ℕ) (p : Part) (i : ℕ) → outer ≡ a ++ p ∷ [] → path ≡ q ++ i ∷ [] → LeadsTo g elements_of whole a q p × (i ≤ largest_u32)
     back _ _ _ itself a q p i ea ep = absurd (no_end a p ea)
-    back _ _ _ (further around path part j child h is within) a q p i ea ep =
-        let w = same_ends around a part p ea in
+    back _ _ _ (further outer path part j child h is within) a q p i ea ep =
+        let w = same_ends outer a part p ea in
         let v = same_ends path q j i ep in
         let at : LeadsTo g elements_of whole a path part = subst (λ a. LeadsTo g elements_of whole a path part) w.0 h in
         let bt : LeadsTo g elements_of whole a q part = subst (λ q. LeadsTo g elements_of whole a q part) v.0 at in

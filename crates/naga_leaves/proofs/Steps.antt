@@ -10,15 +10,15 @@ use Rattle.naga_ir.specs.ItemReferences.{GlobalLists}
 use Rattle.naga_leaves.proofs.Order.{Extends, Past, extends_or_next, extends_or_past, from_below, from_extension, from_itself, from_lesser, past_next, to_extension}
 use Rattle.naga_leaves.proofs.Path.{moved_begins, moved_twice}
 use Rattle.naga_leaves.proofs.Places.{are_indexes, as_many, back, leaf_at_none, leaf_at_part, leaf_in_place, part_precedes, part_there}
-use Rattle.naga_leaves.proofs.Weights.{around_more, entering, leaving, passing}
-use Rattle.naga_leaves.specs.Coming.{HasLeafFrom, HasNoneFrom, HasSameFrom, IsFirstLeaf}
+use Rattle.naga_leaves.proofs.Weights.{outer_more, entering, leaving, passing}
+use Rattle.naga_leaves.specs.LeavesFrom.{HasLeafFrom, HasNoneFrom, HasSameFrom, IsFirstLeaf}
 use Rattle.naga_leaves.specs.Order.{ComesFrom}
 use Rattle.naga_leaves.specs.declared.cursor.Place.{Place}
 use Rattle.naga_leaves.specs.declared.cursor.Step.{Step}
 use Rattle.naga_leaves.specs.declared.cursor.Step.TheVariants.{Leaf, Other, End}
 use Rattle.naga_leaves.specs.steps.Steps.{Leaves, Steps}
 use Rattle.naga_leaves.specs.declared.leaf.Part.{Part}
-use Rattle.naga_leaves.specs.Places.{IsEntered, IsLeft, IsPlace, IsUnmoved, LeadsTo, around_left, further, part_left, part_of_type, place_left, place_start}
+use Rattle.naga_leaves.specs.Places.{IsEntered, IsLeft, IsPlace, IsUnmoved, LeadsTo, outer_left, further, part_left, part_of_type, place_left, place_start}
 use Rattle.naga_typing.specs.Leaves as spec
 use Rattle.naga_typing.specs.Leaves.{Elements, LeafBytes, leaf_at, moved}
 
@@ -84,51 +84,51 @@ module _ (g : GlobalLists) (elements_of : Elements) (t : ℕ) where
 pub same_start : (p q : List ℕ) (m n : ℕ) → p ≡ q → m ≡ n → p ++ m ∷ [] ≡ q ++ n ∷ []
 same_start p q m n e f = ap (λ p. p ++ m ∷ []) e ∙ ap (λ m. q ++ m ∷ []) f
 
-module _ (g : GlobalLists) (elements_of : Elements) (place : Place) (t : ℕ) (around : List Part) (path : List ℕ) (part : Part) (next : ℕ)
-    (ty_is : place.ty ≡ t) (around_is : place.around.items ≡ around) (path_is : place.path.items ≡ path) (part_is : place.part ≡ part) (next_is : place.next ≡ next) where
+module _ (g : GlobalLists) (elements_of : Elements) (place : Place) (t : ℕ) (outer : List Part) (path : List ℕ) (part : Part) (next : ℕ)
+    (ty_is : place.ty ≡ t) (outer_is : place.outer.items ≡ outer) (path_is : place.path.items ≡ path) (part_is : place.part ≡ part) (next_is : place.next ≡ next) where
   -- a place by its parts
-  pub place_by : t < length g.types → LeadsTo g elements_of t around path part → next ≤ suc largest_u32 → IsPlace g elements_of place
+  pub place_by : t < length g.types → LeadsTo g elements_of t outer path part → next ≤ suc largest_u32 → IsPlace g elements_of place
   place_by there leads within = record {
     exists = subst (λ t. t < length g.types) (sym ty_is) there;
     leads =
-        subst (λ t. LeadsTo g elements_of t place.around.items place.path.items place.part) (sym ty_is)
-        (subst (λ a. LeadsTo g elements_of t a place.path.items place.part) (sym around_is)
-        (subst (λ p. LeadsTo g elements_of t around p place.part) (sym path_is)
-        (subst (λ q. LeadsTo g elements_of t around path q) (sym part_is) leads)));
+        subst (λ t. LeadsTo g elements_of t place.outer.items place.path.items place.part) (sym ty_is)
+        (subst (λ a. LeadsTo g elements_of t a place.path.items place.part) (sym outer_is)
+        (subst (λ p. LeadsTo g elements_of t outer p place.part) (sym path_is)
+        (subst (λ q. LeadsTo g elements_of t outer path q) (sym part_is) leads)));
     next = subst (λ n. n ≤ suc largest_u32) (sym next_is) within;
   }
 
   pub start_by : place_start place ≡ path ++ next ∷ []
   start_by = same_start place.path.items path place.next next path_is next_is
 
-  pub left_by : place_left place ≡ around_left around path + part_left part.ty next
+  pub left_by : place_left place ≡ outer_left outer path + part_left part.ty next
   left_by =
-      ap (λ a. around_left a place.path.items + part_left place.part.ty place.next) around_is
-      ∙ ap (λ p. around_left around p + part_left place.part.ty place.next) path_is
-      ∙ ap (λ (q : Part). around_left around path + part_left q.ty place.next) part_is
-      ∙ ap (λ n. around_left around path + part_left part.ty n) next_is
+      ap (λ a. outer_left a place.path.items + part_left place.part.ty place.next) outer_is
+      ∙ ap (λ p. outer_left outer p + part_left place.part.ty place.next) path_is
+      ∙ ap (λ (q : Part). outer_left outer path + part_left q.ty place.next) part_is
+      ∙ ap (λ n. outer_left outer path + part_left part.ty n) next_is
 
 module _ (g : GlobalLists) (ok : GlobalReferencesOk g) (elements_of : Elements) (before : Place) (is : IsPlace g elements_of before) where
   -- the type of the part exists
   pub type_there : before.part.ty < length g.types
-  type_there = part_there g elements_of before.ty ok is.exists before.around.items before.path.items before.part is.leads
+  type_there = part_there g elements_of before.ty ok is.exists before.outer.items before.path.items before.part is.leads
 
-  pub same_lengths : length before.around.items ≡ length before.path.items
-  same_lengths = as_many g elements_of before.ty before.around.items before.path.items before.part is.leads
+  pub same_lengths : length before.outer.items ≡ length before.path.items
+  same_lengths = as_many g elements_of before.ty before.outer.items before.path.items before.part is.leads
 
   -- the leaf at the place is its part, if that is one
   pub leaf_here : leaf_at g elements_of before.ty before.path.items ≡ option_map (moved before.part.first) (leaf_at g elements_of before.part.ty [])
   leaf_here =
       ap (leaf_at g elements_of before.ty) (sym (append-nil before.path.items))
-      ∙ leaf_in_place g elements_of before.ty before.around.items before.path.items before.part is.leads []
+      ∙ leaf_in_place g elements_of before.ty before.outer.items before.path.items before.part is.leads []
 
   pub indexes_here : All (λ i. i ≤ largest_u32) before.path.items
-  indexes_here = are_indexes g elements_of before.ty before.around.items before.path.items before.part is.leads
+  indexes_here = are_indexes g elements_of before.ty before.outer.items before.path.items before.part is.leads
 
   module _ (none : (m : ℕ) → before.next ≤ m → m ≤ largest_u32 → part_of_type g elements_of before.part.ty m ≡ None) where
     no_leaf : (m : ℕ) (rest : List ℕ) → before.next ≤ m → m ≤ largest_u32 → leaf_at g elements_of before.ty (before.path.items ++ m ∷ rest) ≡ None
     no_leaf m rest from within =
-        leaf_in_place g elements_of before.ty before.around.items before.path.items before.part is.leads (m ∷ rest)
+        leaf_in_place g elements_of before.ty before.outer.items before.path.items before.part is.leads (m ∷ rest)
         ∙ ap (option_map (moved before.part.first)) (leaf_at_none g elements_of before.part.ty m rest (none m from within))
 
     pub at_end : before.path.items ≡ [] → HasNoneFrom g elements_of before.ty (place_start before)
@@ -140,22 +140,22 @@ module _ (g : GlobalLists) (ok : GlobalReferencesOk g) (elements_of : Elements) 
           subst (HasSameFrom g elements_of before.ty (place_start before)) (sym (same_start now.path.items now.path.items now.next (i + 1) refl left.next))
           (past_part g elements_of before.ty before.path.items before.next no_leaf now.path.items i left.path)
 
-      before_around : LeadsTo g elements_of before.ty now.around.items now.path.items now.part × (i ≤ largest_u32)
-      before_around = back g elements_of before.ty before.around.items before.path.items before.part is.leads now.around.items now.path.items now.part i left.around left.path
+      before_outer : LeadsTo g elements_of before.ty now.outer.items now.path.items now.part × (i ≤ largest_u32)
+      before_outer = back g elements_of before.ty before.outer.items before.path.items before.part is.leads now.outer.items now.path.items now.part i left.outer left.path
 
       pub left_place : IsPlace g elements_of now
       left_place =
-          place_by g elements_of now before.ty now.around.items now.path.items now.part (i + 1) left.ty refl refl refl left.next is.exists before_around.0
-          (let within : i ≤ largest_u32 = before_around.1 in omega arith)
+          place_by g elements_of now before.ty now.outer.items now.path.items now.part (i + 1) left.ty refl refl refl left.next is.exists before_outer.0
+          (let within : i ≤ largest_u32 = before_outer.1 in omega arith)
 
       pub left_fewer : place_left now < place_left before
       left_fewer =
-          let many : length now.around.items ≡ length now.path.items = as_many g elements_of before.ty now.around.items now.path.items now.part before_around.0 in
-          let more : around_left (now.around.items ++ now.part ∷ []) (now.path.items ++ i ∷ []) ≡ around_left now.around.items now.path.items + part_left now.part.ty (i + 1) = around_more now.around.items now.path.items now.part i many in
-          let old : place_left before ≡ around_left (now.around.items ++ now.part ∷ []) (now.path.items ++ i ∷ []) + part_left before.part.ty before.next =
-          left_by g elements_of before before.ty (now.around.items ++ now.part ∷ []) (now.path.items ++ i ∷ []) before.part before.next refl left.around left.path refl refl in
-          let new : place_left now ≡ around_left now.around.items now.path.items + part_left now.part.ty (i + 1) =
-          left_by g elements_of now before.ty now.around.items now.path.items now.part (i + 1) left.ty refl refl refl left.next in
+          let many : length now.outer.items ≡ length now.path.items = as_many g elements_of before.ty now.outer.items now.path.items now.part before_outer.0 in
+          let more : outer_left (now.outer.items ++ now.part ∷ []) (now.path.items ++ i ∷ []) ≡ outer_left now.outer.items now.path.items + part_left now.part.ty (i + 1) = outer_more now.outer.items now.path.items now.part i many in
+          let old : place_left before ≡ outer_left (now.outer.items ++ now.part ∷ []) (now.path.items ++ i ∷ []) + part_left before.part.ty before.next =
+          left_by g elements_of before before.ty (now.outer.items ++ now.part ∷ []) (now.path.items ++ i ∷ []) before.part before.next refl left.outer left.path refl refl in
+          let new : place_left now ≡ outer_left now.outer.items now.path.items + part_left now.part.ty (i + 1) =
+          left_by g elements_of now before.ty now.outer.items now.path.items now.part (i + 1) left.ty refl refl refl left.next in
           sums (place_left before) (place_left now) _ _ _ old new more (leaving before.part.ty before.next is.next)
         where
           sums : (old new outer all inner : ℕ) → old ≡ outer + inner → new ≡ all → outer ≡ all → 0 < inner → new < old
@@ -167,7 +167,7 @@ module _ (g : GlobalLists) (ok : GlobalReferencesOk g) (elements_of : Elements) 
 
     in_child : (rest : List ℕ) → leaf_at g elements_of before.ty (before.path.items ++ n ∷ rest) ≡ leaf_of_child rest
     in_child rest =
-        leaf_in_place g elements_of before.ty before.around.items before.path.items before.part is.leads (n ∷ rest)
+        leaf_in_place g elements_of before.ty before.outer.items before.path.items before.part is.leads (n ∷ rest)
         ∙ ap (option_map (moved before.part.first)) (leaf_at_part g elements_of before.part.ty n rest child at)
         ∙ moved_twice before.part.first child.first (leaf_at g elements_of child.ty rest)
 
@@ -179,41 +179,41 @@ module _ (g : GlobalLists) (ok : GlobalReferencesOk g) (elements_of : Elements) 
           (subst (HasSameFrom g elements_of before.ty (before.path.items ++ n ∷ [])) (sym (same_start now.path.items before.path.items now.next (n + 1) path_is (new_is ∙ ap (λ k. k + 1) (sym next_is))))
           (past_far g elements_of before.ty before.path.items n (λ rest. subst (λ (o : Option LeafBytes). IfSome o (λ leaf. largest_u64 < leaf.first)) (sym (in_child rest)) (moved_begins (before.part.first + child.first) (leaf_at g elements_of child.ty rest) far))))
 
-      module _ (ty_is : now.ty ≡ before.ty) (around_is : now.around.items ≡ before.around.items) (part_is : now.part ≡ before.part) where
+      module _ (ty_is : now.ty ≡ before.ty) (outer_is : now.outer.items ≡ before.outer.items) (part_is : now.part ≡ before.part) where
         pub passed_place : IsPlace g elements_of now
         passed_place =
-            place_by g elements_of now before.ty before.around.items before.path.items before.part (before.next + 1) ty_is around_is path_is part_is new_is is.exists is.leads (omega arith)
+            place_by g elements_of now before.ty before.outer.items before.path.items before.part (before.next + 1) ty_is outer_is path_is part_is new_is is.exists is.leads (omega arith)
 
         pub passed_fewer : place_left now < place_left before
         passed_fewer =
-            let new : place_left now ≡ around_left before.around.items before.path.items + part_left before.part.ty (before.next + 1) =
-            left_by g elements_of now before.ty before.around.items before.path.items before.part (before.next + 1) ty_is around_is path_is part_is new_is in
+            let new : place_left now ≡ outer_left before.outer.items before.path.items + part_left before.part.ty (before.next + 1) =
+            left_by g elements_of now before.ty before.outer.items before.path.items before.part (before.next + 1) ty_is outer_is path_is part_is new_is in
             sums (place_left now) _ _ (part_left before.part.ty before.next) new (passing before.part.ty before.next (omega arith))
           where
             sums : (new outer a b : ℕ) → new ≡ outer + a → a < b → new < outer + b
             sums new outer a b e h = omega arith
 
     module _ (now : Place) (part : Part) (entered : IsEntered before now n part) (part_is : part ≡ record { ty = child.ty; first = before.part.first + child.first }) where
-      leads_on : LeadsTo g elements_of before.ty (before.around.items ++ before.part ∷ []) (before.path.items ++ n ∷ []) (record { ty = child.ty; first = before.part.first + child.first })
-      leads_on = further before.around.items before.path.items before.part n child is.leads at within
+      leads_on : LeadsTo g elements_of before.ty (before.outer.items ++ before.part ∷ []) (before.path.items ++ n ∷ []) (record { ty = child.ty; first = before.part.first + child.first })
+      leads_on = further before.outer.items before.path.items before.part n child is.leads at within
 
       pub entered_place : IsPlace g elements_of now
       entered_place =
-          place_by g elements_of now before.ty (before.around.items ++ before.part ∷ []) (before.path.items ++ n ∷ []) (record { ty = child.ty; first = before.part.first + child.first }) 0
-          entered.ty entered.around entered.path (entered.part_is ∙ part_is) entered.next is.exists leads_on (omega arith)
+          place_by g elements_of now before.ty (before.outer.items ++ before.part ∷ []) (before.path.items ++ n ∷ []) (record { ty = child.ty; first = before.part.first + child.first }) 0
+          entered.ty entered.outer entered.path (entered.part_is ∙ part_is) entered.next is.exists leads_on (omega arith)
 
       pub entered_fewer : place_left now < place_left before
       entered_fewer =
-          let new : place_left now ≡ around_left (before.around.items ++ before.part ∷ []) (before.path.items ++ n ∷ []) + part_left child.ty 0 =
-          left_by g elements_of now before.ty (before.around.items ++ before.part ∷ []) (before.path.items ++ n ∷ []) (record { ty = child.ty; first = before.part.first + child.first }) 0
-          entered.ty entered.around entered.path (entered.part_is ∙ part_is) entered.next in
-          let more : around_left (before.around.items ++ before.part ∷ []) (before.path.items ++ n ∷ []) ≡ around_left before.around.items before.path.items + part_left before.part.ty (n + 1) =
-          around_more before.around.items before.path.items before.part n same_lengths in
+          let new : place_left now ≡ outer_left (before.outer.items ++ before.part ∷ []) (before.path.items ++ n ∷ []) + part_left child.ty 0 =
+          left_by g elements_of now before.ty (before.outer.items ++ before.part ∷ []) (before.path.items ++ n ∷ []) (record { ty = child.ty; first = before.part.first + child.first }) 0
+          entered.ty entered.outer entered.path (entered.part_is ∙ part_is) entered.next in
+          let more : outer_left (before.outer.items ++ before.part ∷ []) (before.path.items ++ n ∷ []) ≡ outer_left before.outer.items before.path.items + part_left before.part.ty (n + 1) =
+          outer_more before.outer.items before.path.items before.part n same_lengths in
           let less : part_left child.ty 0 + part_left before.part.ty (n + 1) < part_left before.part.ty n = entering before.part.ty n within child.ty (part_precedes g elements_of ok before.part.ty n child at).0 in
           sums (place_left now) _ _ _ _ _ _ new more less (ap (λ k. part_left before.part.ty k) next_is)
         where
-          sums : (new outer around inner a b c : ℕ) → new ≡ outer + inner → outer ≡ around + a → inner + a < b → b ≡ c → new < around + c
-          sums new outer around inner a b c e f h k = omega arith
+          sums : (new larger outer inner a b c : ℕ) → new ≡ larger + inner → larger ≡ outer + a → inner + a < b → b ≡ c → new < outer + c
+          sums new larger outer inner a b c e f h k = omega arith
 
       starts_before : place_start before ≡ now.path.items
       starts_before = same_start before.path.items before.path.items before.next n refl (sym next_is) ∙ sym entered.path
@@ -223,7 +223,7 @@ module _ (g : GlobalLists) (ok : GlobalReferencesOk g) (elements_of : Elements) 
 
       leaf_now : leaf_at g elements_of before.ty now.path.items ≡ option_map (moved now.part.first) (leaf_at g elements_of now.part.ty [])
       leaf_now = ap (λ t. leaf_at g elements_of t now.path.items) (sym entered.ty)
-          ∙ (ap (leaf_at g elements_of now.ty) (sym (append-nil now.path.items)) ∙ leaf_in_place g elements_of now.ty now.around.items now.path.items now.part entered_place.leads [])
+          ∙ (ap (leaf_at g elements_of now.ty) (sym (append-nil now.path.items)) ∙ leaf_in_place g elements_of now.ty now.outer.items now.path.items now.part entered_place.leads [])
 
       -- at a part that is no leaf no leaf is passed
       pub entered_same : option_map (moved now.part.first) (leaf_at g elements_of now.part.ty []) ≡ None → HasSameFrom g elements_of before.ty (place_start before) (place_start now)
@@ -238,13 +238,13 @@ module _ (g : GlobalLists) (ok : GlobalReferencesOk g) (elements_of : Elements) 
           subst (λ b. IsFirstLeaf g elements_of before.ty b now.path.items (place_start now) l) (sym starts_before)
           (subst (λ r. IsFirstLeaf g elements_of before.ty now.path.items now.path.items r l) (sym starts_now)
           (first_is g elements_of before.ty now.path.items l (leaf_now ∙ some) begins
-          (are_indexes g elements_of now.ty now.around.items now.path.items now.part entered_place.leads)))
+          (are_indexes g elements_of now.ty now.outer.items now.path.items now.part entered_place.leads)))
 
 module _ (g : GlobalLists) (elements_of : Elements) (before now : Place) (same : IsUnmoved before now) where
   -- a place that did not move is one still
   pub unmoved_place : IsPlace g elements_of before → IsPlace g elements_of now
   unmoved_place is =
-      place_by g elements_of now before.ty before.around.items before.path.items before.part before.next same.ty same.around same.path same.part same.next is.exists is.leads is.next
+      place_by g elements_of now before.ty before.outer.items before.path.items before.part before.next same.ty same.outer same.path same.part same.next is.exists is.leads is.next
 
   pub unmoved_start : place_start now ≡ place_start before
   unmoved_start = same_start now.path.items before.path.items now.next before.next same.path same.next

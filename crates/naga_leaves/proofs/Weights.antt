@@ -3,7 +3,7 @@ use Rattle.std.proofs.Common.{◌≡◌, ◌+◌, ◌-◌, ◌*◌, ◌<◌, ◌
 use Rattle.std.proofs.lemmas.Bool.{cases_order}
 use Rattle.naga_arena.specs.Numbers.{largest_u32}
 use Rattle.naga_leaves.specs.declared.leaf.Part.{Part}
-use Rattle.naga_leaves.specs.Places.{around_left, part_left, weight}
+use Rattle.naga_leaves.specs.Places.{outer_left, part_left, weight}
 
 abbrev times : ℕ
 times = suc (suc (suc largest_u32))
@@ -49,16 +49,16 @@ leaving t n within =
     subst (λ k. 0 < k * weight t) (sym more) (omega (arith, first))
 
 -- one more part around
-pub around_more : (around : List Part) (path : List ℕ) (part : Part) (i : ℕ) → length around ≡ length path
-    → around_left (around ++ part ∷ []) (path ++ i ∷ []) ≡ around_left around path + part_left part.ty (i + 1)
-unfolding around_left
-around_more [] [] part i e = omega arith
-around_more [] (j ∷ path) part i e = absurd (omega arith)
-around_more (p ∷ around) [] part i e = absurd (omega arith)
-around_more (p ∷ around) (j ∷ path) part i e =
-    let same : length around ≡ length path = omega arith in
-    let rest : around_left (around ++ part ∷ []) (path ++ i ∷ []) ≡ around_left around path + part_left part.ty (i + 1) = around_more around path part i same in
-    ap (λ n. part_left p.ty (j + 1) + n) rest ∙ sym (add_assoc (part_left p.ty (j + 1)) (around_left around path) (part_left part.ty (i + 1)))
+pub outer_more : (outer : List Part) (path : List ℕ) (part : Part) (i : ℕ) → length outer ≡ length path
+    → outer_left (outer ++ part ∷ []) (path ++ i ∷ []) ≡ outer_left outer path + part_left part.ty (i + 1)
+unfolding outer_left
+outer_more [] [] part i e = omega arith
+outer_more [] (j ∷ path) part i e = absurd (omega arith)
+outer_more (p ∷ outer) [] part i e = absurd (omega arith)
+outer_more (p ∷ outer) (j ∷ path) part i e =
+    let same : length outer ≡ length path = omega arith in
+    let rest : outer_left (outer ++ part ∷ []) (path ++ i ∷ []) ≡ outer_left outer path + part_left part.ty (i + 1) = outer_more outer path part i same in
+    ap (λ n. part_left p.ty (j + 1) + n) rest ∙ sym (add_assoc (part_left p.ty (j + 1)) (outer_left outer path) (part_left part.ty (i + 1)))
   where
     add_assoc : (a b c : ℕ) → (a + b) + c ≡ a + (b + c)
     add_assoc a b c = omega arith

@@ -2,7 +2,7 @@
 use Rattle.std.specs.Prelude.{◌≡◌, ◌<◌, ℕ, suc, false, List, [], if◌then◌else◌}
 use Rattle.naga_ir.specs.Handles.{GlobalReferencesOk}
 use Rattle.naga_ir.specs.ItemReferences.{GlobalLists}
-use Rattle.naga_leaves.specs.Coming.{HasLeaf, HasLeafFrom, HasNoneFrom, HasSameFrom, IsFirstLeaf}
+use Rattle.naga_leaves.specs.LeavesFrom.{HasLeaf, HasLeafFrom, HasNoneFrom, HasSameFrom, IsFirstLeaf}
 use Rattle.naga_leaves.specs.declared.cursor.Leaves.{Leaves}
 use Rattle.naga_leaves.specs.Places.{IsPlace, place_left, place_start}
 use Rattle.naga_typing.specs.Context.{lists_of}

@@ -14,14 +14,14 @@ part_of_type g elements_of t i = option_and_then (λ inner. spec.part_at element
 -- from a type a path leads through parts to a part, each with its first byte from the start of the whole
 pub data LeadsTo (g : GlobalLists) (elements_of : Elements) (whole : ℕ) : List Part → List ℕ → Part → Type 0 where
   itself : LeadsTo g elements_of whole [] [] (record { ty = whole; first = 0 })
-  further : (around : List Part) (path : List ℕ) (part : Part) (i : ℕ) (child : spec.Part)
-      → LeadsTo g elements_of whole around path part → part_of_type g elements_of part.ty i ≡ Some child → i ≤ largest_u32
-      → LeadsTo g elements_of whole (around ++ part ∷ []) (path ++ i ∷ []) (record { ty = child.ty; first = part.first + child.first })
+  further : (outer : List Part) (path : List ℕ) (part : Part) (i : ℕ) (child : spec.Part)
+      → LeadsTo g elements_of whole outer path part → part_of_type g elements_of part.ty i ≡ Some child → i ≤ largest_u32
+      → LeadsTo g elements_of whole (outer ++ part ∷ []) (path ++ i ∷ []) (record { ty = child.ty; first = part.first + child.first })
 
 -- the path of a place leads to its part, and the next index is at most one above the greatest of a path
 pub record IsPlace (g : GlobalLists) (elements_of : Elements) (place : Place) : Type 0 where
   pub exists : place.ty < length g.types
-  pub leads : LeadsTo g elements_of place.ty place.around.items place.path.items place.part
+  pub leads : LeadsTo g elements_of place.ty place.outer.items place.path.items place.part
   pub next : place.next ≤ suc largest_u32
 
 -- the first path that a place has still to come to
@@ -38,21 +38,21 @@ abbrev pub part_left : ℕ → ℕ → ℕ
 part_left t next = (suc (suc largest_u32) - next) * weight t
 
 -- the steps that are left in the parts around, each from the index after that of the path
-unfoldable pub around_left : List Part → List ℕ → ℕ
-around_left [] path = 0
-around_left (part ∷ around) [] = 0
-around_left (part ∷ around) (i ∷ path) = part_left part.ty (i + 1) + around_left around path
+unfoldable pub outer_left : List Part → List ℕ → ℕ
+outer_left [] path = 0
+outer_left (part ∷ outer) [] = 0
+outer_left (part ∷ outer) (i ∷ path) = part_left part.ty (i + 1) + outer_left outer path
 
 -- the steps that are left to a place at most
 abbrev pub place_left : Place → ℕ
-place_left place = around_left place.around.items place.path.items + part_left place.part.ty place.next
+place_left place = outer_left place.outer.items place.path.items + part_left place.part.ty place.next
 
 -- a place went on to a part of its part
 pub record IsEntered (before now : Place) (index : ℕ) (part : Part) : Type 0 where
   pub ty : now.ty ≡ before.ty
   pub part_is : now.part ≡ part
   pub next : now.next ≡ 0
-  pub around : now.around.items ≡ before.around.items ++ before.part ∷ []
+  pub outer : now.outer.items ≡ before.outer.items ++ before.part ∷ []
   pub path : now.path.items ≡ before.path.items ++ index ∷ []
 
 -- a place did not move
@@ -60,12 +60,12 @@ pub record IsUnmoved (before now : Place) : Type 0 where
   pub ty : now.ty ≡ before.ty
   pub part : now.part ≡ before.part
   pub next : now.next ≡ before.next
-  pub around : now.around.items ≡ before.around.items
+  pub outer : now.outer.items ≡ before.outer.items
   pub path : now.path.items ≡ before.path.items
 
 -- a place went back to the part around its part, to the index after that of its path
 pub record IsLeft (before now : Place) (index : ℕ) : Type 0 where
   pub ty : now.ty ≡ before.ty
   pub next : now.next ≡ index + 1
-  pub around : before.around.items ≡ now.around.items ++ now.part ∷ []
+  pub outer : before.outer.items ≡ now.outer.items ++ now.part ∷ []
   pub path : before.path.items ≡ now.path.items ++ index ∷ []

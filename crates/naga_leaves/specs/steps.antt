@@ -1,4 +1,4 @@
 -- What private functions alone promise one another.
-pub mod Coming
+pub mod NextLeaf
 pub mod Parts
 pub mod Steps

@@ -6,7 +6,7 @@ ghost use Rattle.naga_ir.specs.Handles.{GlobalReferencesOk};
 ghost use Rattle.naga_ir.specs.ItemReferences.{global_lists};
 ghost use Rattle.naga_leaves.specs.Leaf.{bytes_of};
 ghost use Rattle.naga_leaves.specs.Cursor.{ComesToAll, ComesToSame, IsAtEnd, IsCursor, IsNext, path_of};
-ghost use Rattle.naga_leaves.specs.steps.Coming.{ComesOn};
+ghost use Rattle.naga_leaves.specs.steps.NextLeaf.{ComesOn};
 ghost use Rattle.naga_leaves.specs.steps.Parts.{part_of};
 ghost use Rattle.naga_leaves.specs.Places.{IsEntered, IsPlace, IsUnmoved, part_of_type};
 ghost use Rattle.naga_leaves.specs.steps.Steps.{Leaves as LeavesPart, Steps};
@@ -42,7 +42,7 @@ struct Place {
     /// The index of the element or member of that part to visit next.
     next: u64,
     /// The parts around it, from the whole value on.
-    around: Vec<Part>,
+    outer: Vec<Part>,
     /// The indexes that lead from each of these to the next, and from the last to the part.
     path: Vec<u32>,
 }
@@ -79,9 +79,9 @@ impl Place {
         ensures ok { OnOk result (IsEntered self.old self.new index part) }
         ensures err { OnErr result (IsUnmoved self.old self.new) }
     {
-        self.around.push(self.part)?;
+        self.outer.push(self.part)?;
         if self.path.push(index).is_err() {
-            self.around.pop();
+            self.outer.pop();
             return Err(OutOfMemory);
         }
         self.part = part;
@@ -91,10 +91,10 @@ impl Place {
 
     /// Goes back to the part around the part, and to what follows there.
     fn leave(&mut self) -> Step
-        requires { length_of self.old.around.items ≡ length_of self.old.path.items }
+        requires { length_of self.old.outer.items ≡ length_of self.old.path.items }
         ensures { LeavesPart self.old self.new result }
     {
-        let Some(part) = self.around.pop() else {
+        let Some(part) = self.outer.pop() else {
             return Step::End;
         };
         if let Some(index) = self.path.pop() {
@@ -170,7 +170,7 @@ pub fn leaves_of<'a>(
             ty,
             part: Part { ty, first: 0 },
             next: 0,
-            around: Vec::new(alloc),
+            outer: Vec::new(alloc),
             path: Vec::new(alloc),
         },
     }

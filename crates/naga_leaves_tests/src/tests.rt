@@ -1,4 +1,4 @@
-//! The tests of `naga_leaves`: rows of texts where a text can describe the module.
+//! The tests of `naga_leaves`: rows of texts if a text can describe the module.
 
 ghost use Rattle.std.specs.Prelude.{◌<◌, length};
 ghost use Rattle.naga_ir.specs.Handles.{GlobalReferencesOk};

@@ -15,7 +15,7 @@ use Rattle.naga_operands.specs.declared.error.ExpressionError.TheVariants as ref
 use Rattle.naga_types.specs.Judging.{first, judged, only_if, unless}
 use Rattle.naga_typing.specs.Math.{arguments, has_no_gap}
 
--- what a typing says of mathematical functions: whether one takes arguments of some types, which may be the first of several, and how many it takes at least that begin so
+-- what a typing says of mathematical functions: whether one takes arguments that begin with some types; and if they do, how many arguments it takes at least
 pub record MathTyping : Type 0 where
   pub accepts : MathFunction → List TypeInner → Truth
   pub least_arguments : MathFunction → List TypeInner → ℕ
@@ -28,7 +28,7 @@ keeps_float16 fun = list_any (of_function.ghosts.eq fun) (QuantizeToF16 ∷ Pack
 abbrev pub lacks_float16 : ℕ → MathFunction → Option ExpressionError
 lacks_float16 capabilities fun = only_if (keeps_float16 fun) (unless (has capabilities SHADER_FLOAT16_IN_FLOAT32) (refusal.MissingCapabilities (record { 0 = SHADER_FLOAT16_IN_FLOAT32 })))
 
--- the refusal of an argument, here after its index, unless the function takes the types up to its own
+-- the refusal of an argument, given as its index and its operand, unless the function takes the types up to its own
 abbrev pub wrong : MathTyping → MathFunction → List TypeInner → ℕ × ℕ → Option ExpressionError
 wrong typing fun types argument = unless (typing.accepts fun (take (argument.0 + 1) types)) (refusal.InvalidArgumentType fun argument.0 argument.1)
 

@@ -37,6 +37,10 @@ is_of count is inner = has_components count is (vector_size_and_scalar inner)
 abbrev pub is_scalar_that : (ScalarType → Truth) → TypeInner → Truth
 is_scalar_that is inner = is_of 1 is inner
 
+-- a form is that of one integer, of any width
+abbrev pub is_integer_scalar : TypeInner → Truth
+is_integer_scalar inner = is_scalar_that (λ scalar. is_integer scalar.kind) inner
+
 -- a kind is that of truth values
 abbrev pub is_bool : ScalarKind → Truth
 is_bool Bool = true

@@ -33,7 +33,8 @@ pub enum ExpressionError {
     IndexOutOfBounds(Handle<ExpressionTag>, u32),
     /// The function has no argument of this index.
     FunctionArgumentDoesntExist(u32),
-    /// A value is loaded through something that is no pointer to data of a fixed size.
+    /// A value is loaded through something that is no pointer to data of a fixed size, or a cooperative
+    /// matrix through no pointer to scalars or vectors.
     InvalidPointerType(Handle<ExpressionTag>),
     /// The length is asked of something that is no pointer to a runtime-sized array.
     InvalidArrayType(Handle<ExpressionTag>),
@@ -80,7 +81,8 @@ pub enum ExpressionError {
     InvalidBooleanVector(Handle<ExpressionTag>),
     /// The argument of `IsNan` or `IsInf` is no floating-point number or vector of such.
     InvalidFloatArgument(Handle<ExpressionTag>),
-    /// Never returned: types of operands are resolved before.
+    /// An expression has no type. The rules of single forms never return it, since the types of operands are
+    /// resolved before; the validation of a whole function does.
     Type_(ResolveError),
     /// An image or a sampler is no variable of the module, no argument, and no element of such a
     /// variable.
@@ -112,13 +114,15 @@ pub enum ExpressionError {
     InvalidImageLevelSelector,
     /// No level is chosen of an image with levels.
     MissingImageLevelSelector,
-    /// The index of a layer is no integer.
+    /// The index of a layer is no integer, or that of a load no integer of 32 bits; or the level of a load
+    /// is no integer.
     InvalidImageArrayIndexType(Handle<ExpressionTag>),
     /// The index of a sample or a level is no integer of 32 bits.
     InvalidImageOtherIndexType(Handle<ExpressionTag>),
     /// The coordinates are not those of an image of this dimension.
     InvalidImageCoordinateType(ImageDimension, Handle<ExpressionTag>),
-    /// Depths are compared with a sampler that doesn't compare, or without a reference.
+    /// A reference is given to a sampler that doesn't compare, or none to one that does; or a sampler
+    /// compares, and the image holds no depths.
     ComparisonSamplingMismatch {
         /// The class of the image.
         image: ImageClass,
@@ -151,7 +155,8 @@ pub enum ExpressionError {
     InvalidSampleLevelGradientType(ImageDimension, Handle<ExpressionTag>),
     /// Coordinates can't be clamped to the edges together with this.
     InvalidSampleClampCoordinateToEdge(String),
-    /// The operand of a conversion has no scalars, or there are no such scalars to convert to.
+    /// The operand of a conversion is no scalar, vector or matrix, or there are no such scalars to convert
+    /// to.
     InvalidCastArgument,
     /// A math function has too few arguments, or a gap between them.
     WrongArgumentCount(MathFunction),

@@ -41,7 +41,7 @@ pub fn is_number(kind: ScalarKind) -> bool
 
 /// Whether a type is that of one integer, of any width.
 pub fn is_integer_scalar(inner: &TypeInner) -> bool
-    ensures { result ≡ words.is_scalar_that (λ scalar. rule.is_integer scalar.kind) inner.now }
+    ensures { result ≡ words.is_integer_scalar inner.now }
 {
     match inner.vector_size_and_scalar() {
         Some((size, scalar)) => component_count(size) == 1 && is_integer(scalar.kind),

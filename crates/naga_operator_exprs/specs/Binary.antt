@@ -98,7 +98,7 @@ operands_fit ShiftRight x y = can_shift (vector_size_and_scalar x) (vector_size_
 abbrev pub bits_per_byte : ℕ
 bits_per_byte = 8
 
--- by how much a form is not shifted: an integer by as many bits as it has, or more
+-- what an integer must not be shifted by: as many bits as it has, or more
 abbrev pub forbidden_shift : Option (Option VectorSize × ScalarType) → Option Forbidden
 forbidden_shift (Some x) = only_if (is_integer x.1.kind) (Some (AtLeast (bits_per_byte * x.1.width)))
 forbidden_shift None = None
@@ -134,12 +134,12 @@ abbrev pub HoldsForbidden : ExpressionSurroundings → BinaryOperator → ℕ �
 HoldsForbidden s op left right forbidden = (forbidden_on_right op (form_at s left) ≡ Some forbidden) × HasForbidden s forbidden (InFunction right)
 
 -- what is meant by the rule of an operator: the operands don't fit; or they do, and a constant on the right is forbidden; or they do, and none is
-pub data IsBinaryResult (s : ExpressionSurroundings) (op : BinaryOperator) (left right : ℕ) : Result ShaderStages ExpressionError → Type 0 where
-  misfit : operands_fit op (form_at s left) (form_at s right) ≡ false → IsBinaryResult s op left right (Err (InvalidBinaryOperandTypes op left (form_at s left) right (form_at s right)))
+pub data IsBinaryMeant (s : ExpressionSurroundings) (op : BinaryOperator) (left right : ℕ) : Result ShaderStages ExpressionError → Type 0 where
+  misfit : operands_fit op (form_at s left) (form_at s right) ≡ false → IsBinaryMeant s op left right (Err (InvalidBinaryOperandTypes op left (form_at s left) right (form_at s right)))
   forbidden_constant : (forbidden : Forbidden) → operands_fit op (form_at s left) (form_at s right) ≡ true → HoldsForbidden s op left right forbidden
-      → IsBinaryResult s op left right (Err (refusal_of forbidden (form_at s left) right))
-  accepted : operands_fit op (form_at s left) (form_at s right) ≡ true → ((forbidden : Forbidden) → HoldsForbidden s op left right forbidden → ⊥) → IsBinaryResult s op left right (Ok every_stage)
+      → IsBinaryMeant s op left right (Err (refusal_of forbidden (form_at s left) right))
+  accepted : operands_fit op (form_at s left) (form_at s right) ≡ true → ((forbidden : Forbidden) → HoldsForbidden s op left right forbidden → ⊥) → IsBinaryMeant s op left right (Ok every_stage)
 
 -- a call returns what is meant by the rule of an operator, out of memory aside
 abbrev pub IsBinaryReturned : ExpressionSurroundings → BinaryOperator → ℕ → ℕ → Result ShaderStages ExpressionError → Type 0
-IsBinaryReturned s op left right result = (meant : Result ShaderStages ExpressionError) × IsBinaryResult s op left right meant × IsReturned meant result
+IsBinaryReturned s op left right result = (meant : Result ShaderStages ExpressionError) × IsBinaryMeant s op left right meant × IsReturned meant result

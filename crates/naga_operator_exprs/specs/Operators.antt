@@ -47,7 +47,7 @@ chooses_size None size = true
 chooses_size (Some n) (Some m) = of_size.ghosts.eq n m
 chooses_size (Some n) None = false
 
--- a condition chooses between values of a form: it is a truth value, or a vector of such
+-- a condition chooses between values of a form, scalars or vectors: it is a truth value, or a vector of as many as these have components
 abbrev pub chooses : Option (Option VectorSize × ScalarType) → Option (Option VectorSize × ScalarType) → Truth
 chooses (Some condition) (Some value) = is_bool condition.1.kind && chooses_size condition.0 value.0
 chooses (Some condition) None = false

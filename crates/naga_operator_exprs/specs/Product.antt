@@ -133,6 +133,6 @@ are_numbers_of_one_width None _ = false
 abbrev pub forms_multiply : TypeInner → TypeInner → Truth
 forms_multiply x y = multiply_by_dimensions x y || multiply_by_components x y || scales x y || scales y x
 
--- two types multiply: they consist of numbers of one width, and their forms multiply
+-- two types multiply: their scalars have one width, those of the first are numbers, and their forms multiply
 abbrev pub can_multiply : TypeInner → TypeInner → Truth
 can_multiply x y = are_numbers_of_one_width (scalar_of x) (scalar_of y) && forms_multiply x y

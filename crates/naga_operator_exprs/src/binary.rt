@@ -87,7 +87,7 @@ fn can_shift(left: &TypeInner, right: &TypeInner) -> bool
     }
 }
 
-/// Whether an operator takes two values of these types (WGSL "Operator Expressions").
+/// Whether an operator takes two values of these types.
 fn operands_fit(op: BinaryOperator, left: &TypeInner, right: &TypeInner) -> bool
     ensures { result ≡ rule.operands_fit op left.now right.now }
 {
@@ -180,7 +180,8 @@ fn refuse_constant(
     }
 }
 
-/// The stages that may use an operator on two values.
+/// The stages that may use an operator on two values (WGSL "Logical Expressions", "Arithmetic
+/// Expressions", "Comparison Expressions" and "Bit Expressions").
 ///
 /// # Errors
 ///

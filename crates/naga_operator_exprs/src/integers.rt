@@ -63,17 +63,14 @@ fn only_source<'a>(context: FunctionContext<'a>, place: &Place) -> Option<Place>
     ensures none { IfNone result (HasNoSourceAt (surroundings context.entry) place.now) }
 {
     match expression_at(context, place) {
-        Expression::Constant(constant) => {
-            Some(Place::InModule(context.module.constants[*constant].init))
+        Expression::Constant(handle) => {
+            Some(Place::InModule(context.module.constants[*handle].init))
         }
         Expression::Splat { value, .. } => Some(place.beside(*value)),
-        Expression::Compose { components, .. } => {
-            let components = components.as_slice();
-            if components.len() != 1 {
-                return None;
-            }
-            Some(place.beside(components[0]))
-        }
+        Expression::Compose { components, .. } => match components.as_slice() {
+            [component] => Some(place.beside(*component)),
+            _ => None,
+        },
         Expression::Literal(_)
         | Expression::Override(_)
         | Expression::ZeroValue(_)

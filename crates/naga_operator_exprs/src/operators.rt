@@ -26,7 +26,8 @@ fn takes(op: UnaryOperator, kind: ScalarKind) -> bool
     }
 }
 
-/// The stages that may use an operator on one value.
+/// The stages that may use an operator on one value (WGSL "Logical Expressions", "Arithmetic Expressions"
+/// and "Bit Expressions").
 ///
 /// # Errors
 ///
@@ -154,7 +155,8 @@ fn check_argument(
     }
 }
 
-/// The stages that may use a query of a value.
+/// The stages that may use a query of a value (WGSL "Logical Built-in Functions"; `IsNan` and `IsInf` are
+/// naga's).
 ///
 /// # Errors
 ///
@@ -197,7 +199,7 @@ fn cast_scalar(inner: &TypeInner) -> Option<Scalar>
 }
 
 /// The stages that may use a conversion of scalars, vectors or matrices to another scalar: to this kind,
-/// and to this width in bytes or else the same.
+/// and to this width in bytes or else the same (WGSL "Value Constructor Built-in Functions" and "bitcast").
 ///
 /// # Errors
 ///

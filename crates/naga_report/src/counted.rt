@@ -1,8 +1,9 @@
 //! Readers and writers whose failed calls are counted.
 
+ghost use Rattle.naga_arena.specs.Numbers.{largest_u64};
 ghost use Rattle.std.specs.Io.KnownBytes.{Appends, Keeps, ReadConsumes};
 ghost use Rattle.std.specs.Io.{ReadsAtMost};
-ghost use Rattle.std.specs.Prelude.{◌≡◌, ◌+◌, ◌-◌, ◌^◌, ◌<◌, ◌≤◌, ◌↔◌, length, take, IfSome, IsTrue, OnErr, OnOk, OnSome, IfNone, MatchOption, MatchBool};
+ghost use Rattle.std.specs.Prelude.{◌≡◌, ◌+◌, ◌<◌, ◌≤◌, ◌↔◌, length, take, IfSome, IsTrue, OnErr, OnOk, OnSome, IfNone, MatchOption, MatchBool};
 
 use std::io;
 use std::io::{Read, Write};
@@ -50,7 +51,7 @@ impl<R: Read> Counted<R> {
     ///
     /// The error of the call, which is counted.
     pub fn read(&mut self, buf: &mut [u8]) -> io::Result<usize>
-        requires { self.old.failed < 2 ^ 64 - 1 }
+        requires { self.old.failed < largest_u64 }
         ensures bound { ReadsAtMost result buf.new }
         ensures bytes { ReadConsumes (R.remaining self.old.inner) (R.remaining self.new.inner) result buf.new }
         ensures ok { OnOk result (self.new.failed ≡ self.old.failed) }
@@ -69,7 +70,7 @@ impl<W: Write> Counted<W> {
     /// it failed or took none, which is counted.
     pub fn write(&mut self, buf: &[u8]) -> Option<usize>
         requires some { 0 < length buf.now }
-        requires count { self.old.failed < 2 ^ 64 - 1 }
+        requires count { self.old.failed < largest_u64 }
         ensures bound { IfSome result (λ n. (0 < n) × (n ≤ length buf.now)) }
         ensures bytes { MatchOption result (Keeps (W.contents self.old.inner) (W.contents self.new.inner)) (λ n. Appends (W.contents self.old.inner) (W.contents self.new.inner) (take n buf.now)) }
         ensures count { OnSome result (self.new.failed ≡ self.old.failed) }
@@ -86,7 +87,7 @@ impl<W: Write> Counted<W> {
 
     /// One call of `flush`. Returns whether it succeeded; a failure is counted.
     pub fn flush(&mut self) -> bool
-        requires { self.old.failed < 2 ^ 64 - 1 }
+        requires { self.old.failed < largest_u64 }
         ensures bytes { Keeps (W.contents self.old.inner) (W.contents self.new.inner) }
         ensures count { MatchBool result (self.new.failed ≡ self.old.failed) (self.new.failed ≡ self.old.failed + 1) }
     {

@@ -1,8 +1,9 @@
 //! From the bytes of a reader to the bytes of a writer.
 
+ghost use Rattle.naga_arena.specs.Numbers.{largest_u64};
 ghost use Rattle.naga_report.specs.Run.{AppendsFront, BeginsReport, Reports, status_of};
 ghost use Rattle.std.specs.Io.KnownBytes.{Appends, IsAtEnd, Keeps};
-ghost use Rattle.std.specs.Prelude.{◌≡◌, ◌+◌, ◌-◌, ◌^◌, ◌<◌, ◌⊎◌, ℕ, List, ◌++◌, IfErr, IfOk, IfSome, OnOk, IsErrOf};
+ghost use Rattle.std.specs.Prelude.{◌≡◌, ◌+◌, ◌<◌, ◌⊎◌, ℕ, List, ◌++◌, IfErr, IfOk, IfSome, OnOk, IsErrOf};
 
 use crate::counted::Counted;
 use crate::report::{Outcome, make_report};
@@ -25,7 +26,8 @@ pub enum RunFault {
 
 impl fmt::Display for RunFault {
     ghost use Rattle.std.specs.Prelude.{Some};
-    ghost use Rattle.naga_report.specs.Run.{fault_text};
+    ghost use Rattle.naga_arena.specs.Numbers.{largest_u64};
+ghost use Rattle.naga_report.specs.Run.{fault_text};
 
     ghost output = { λ fault. Some (fault_text fault) };
 
@@ -40,7 +42,7 @@ impl fmt::Display for RunFault {
 
 /// Reads all bytes that a reader has.
 fn read_all<R: Read>(alloc: Global, reader: &mut Counted<R>) -> Result<Vec<u8>, RunFault>
-    requires { reader.old.failed < 2 ^ 64 - 1 }
+    requires { reader.old.failed < largest_u64 }
     ensures bytes { IfOk result (λ v. IfSome (R.remaining reader.old.inner) (λ input. v.items ≡ input)) }
     ensures end { OnOk result (IsAtEnd (R.remaining reader.new.inner)) }
     ensures count { OnOk result (reader.new.failed ≡ reader.old.failed) }
@@ -63,7 +65,7 @@ fn read_all<R: Read>(alloc: Global, reader: &mut Counted<R>) -> Result<Vec<u8>, 
 
 /// Writes all bytes of a text, and flushes.
 fn write_all<W: Write>(writer: &mut Counted<W>, text: &[u8]) -> Result<(), RunFault>
-    requires { writer.old.failed < 2 ^ 64 - 1 }
+    requires { writer.old.failed < largest_u64 }
     ensures ok { OnOk result (Appends (W.contents writer.old.inner) (W.contents writer.new.inner) text.now) }
     ensures count { OnOk result (writer.new.failed ≡ writer.old.failed) }
     ensures err { IfErr result (λ e. (e ≡ RunFault.Write) × (writer.new.failed ≡ writer.old.failed + 1)) }
@@ -100,8 +102,8 @@ pub fn run<R: Read, W: Write>(
     reader: &mut Counted<R>,
     writer: &mut Counted<W>,
 ) -> Result<Outcome, RunFault>
-    requires reads { reader.old.failed < 2 ^ 64 - 1 }
-    requires writes { writer.old.failed < 2 ^ 64 - 1 }
+    requires reads { reader.old.failed < largest_u64 }
+    requires writes { writer.old.failed < largest_u64 }
     // What was written is a report on what was read, and the outcome is its kind.
     ensures report { IfOk result (λ outcome. IfSome (R.remaining reader.old.inner) (λ input.
         Reports input outcome (W.contents writer.old.inner) (W.contents writer.new.inner))) }

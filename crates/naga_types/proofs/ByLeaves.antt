@@ -12,7 +12,7 @@ use Rattle.naga_types.specs.HostLayouts.{IsStorageAligned, IsUniformAligned, OfL
 use Rattle.naga_types.specs.Layouts.{Layout, rounded_up}
 use Rattle.naga_types.specs.Surroundings.{info_in}
 use Rattle.naga_types.specs.declared.info.TypeInfo.{TypeInfo}
-use Rattle.naga_typing.proofs.Inside.{AllInside}
+use Rattle.naga_typing.proofs.TypesInside.{AllInside}
 use Rattle.naga_typing.proofs.LeafAlignments.{leaf-alignment_once}
 use Rattle.naga_typing.specs.Leaves.{IsLeafAlignment, inner_at, is_leaf}
 

@@ -13,7 +13,7 @@ use Rattle.naga_flags.specs.Bits.{SIZED}
 use Rattle.naga_flags.specs.Flags.{has}
 use Rattle.naga_flags.specs.declared.flags.Capabilities.{Capabilities}
 use Rattle.naga_ir.proofs.Handles.{global_references_ok}
-use Rattle.naga_ir.proofs.ReferredTo.{parts_come_before}
+use Rattle.naga_ir.proofs.ReferencesOfItems.{parts_come_before}
 use Rattle.naga_ir.specs.Handles.{GlobalReferencesOk}
 use Rattle.naga_ir.specs.ItemReferences.{GlobalLists, global_lists}
 use Rattle.naga_ir.specs.declared.ir.Module.{Module}

@@ -1,6 +1,6 @@
 -- The types that a type names stand before it.
 use Rattle.std.proofs.Common.{◌≡◌, ◌<◌, ℕ, Some, Contains, slice_get, refl, subst, sym, arith}
-use Rattle.naga_ir.proofs.ReferredTo.{parts_come_before}
+use Rattle.naga_ir.proofs.ReferencesOfItems.{parts_come_before}
 use Rattle.naga_ir.specs.Handles.{GlobalReferencesOk}
 use Rattle.naga_ir.specs.ItemReferences.{GlobalLists}
 use Rattle.naga_ir_types.proofs.PartLemmas.{parts_of_binding_array, parts_of_pointer}

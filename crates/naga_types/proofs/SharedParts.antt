@@ -36,7 +36,7 @@ use Rattle.naga_types.specs.StructRule.{struct_rule}
 use Rattle.naga_types.specs.Surroundings.{Surroundings, info_at, size_at}
 use Rattle.naga_types.specs.TypeRule.{type_rule}
 use Rattle.naga_types.specs.declared.info.TypeInfo.{TypeInfo}
-use Rattle.naga_typing.proofs.Inside.{AllInside, all-further_inside}
+use Rattle.naga_typing.proofs.TypesInside.{AllInside, all-further_inside}
 use Rattle.naga_typing.specs.Layout.{alignment_of, element_count, size_of}
 use Rattle.naga_typing.specs.Leaves.{EndsInArray, HasNoShortStride, IsInside, IsLeafAlignment, Part, array, element, elements, inner_at, is_leaf, itself, last_member, member, part_at, size_at_index}
 use Rattle.naga_typing.specs.declared.layouter.TypeLayout.{TypeLayout}

@@ -23,7 +23,7 @@ use Rattle.naga_types.specs.Layouts.{Layout, greatest_alignment, in_uniform, min
 use Rattle.naga_types.specs.Surroundings.{Surroundings, flags_at, info_at, info_in}
 use Rattle.naga_types.specs.TypeRule.{array_info}
 use Rattle.naga_types.specs.declared.info.TypeInfo.{TypeInfo}
-use Rattle.naga_typing.proofs.Inside.{AllInside, all-further_inside, all-in_array, all-in_leaf, all-in_struct}
+use Rattle.naga_typing.proofs.TypesInside.{AllInside, all-further_inside, all-in_array, all-in_leaf, all-in_struct}
 use Rattle.naga_typing.proofs.LeafAlignments.{place-in}
 use Rattle.naga_typing.specs.Layout.{alignment_at, alignment_of, greatest}
 use Rattle.naga_typing.specs.Leaves.{IsLeafAlignment, inner_at, is_leaf, element, itself, member}

@@ -1,4 +1,4 @@
-//! The tests of `naga_flags`, `naga_text`, `naga_typing` and `naga_types`: rows of texts where a text can
+//! The tests of `naga_flags`, `naga_text`, `naga_typing` and `naga_types`: rows of texts if a text can
 //! describe the module, else modules built by hand.
 
 ghost use Rattle.naga_ir.specs.Handles.{GlobalReferencesOk};
@@ -193,7 +193,7 @@ pub(crate) fn judged_with(
     Ok(Ok(infos.get(Handle::new(last as u32))))
 }
 
-/// The same, where overrides need no values.
+/// The same, if overrides need no values.
 pub(crate) fn judged(
     rt: &impl Abort,
     alloc: Global,

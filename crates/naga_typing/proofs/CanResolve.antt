@@ -5,7 +5,7 @@ use Rattle.std.proofs.lemmas.List.Elements.{All-append, All-contains, All-cons, 
 use Rattle.std.specs.Option.{option_and_then}
 use Rattle.naga_arena.proofs.Elements.{all-left, all-of, all-right, all-unmap, all_at}
 use Rattle.naga_ir.proofs.Handles.{global_references_ok}
-use Rattle.naga_ir.proofs.ReferredTo.{item_in, within_all}
+use Rattle.naga_ir.proofs.ReferencesOfItems.{item_in, within_all}
 use Rattle.naga_ir.specs.Handles.{Exists, FunctionReferencesOk, HandlesAccepted, among_globals, module_counts, operand, own_operand}
 use Rattle.naga_ir.specs.ItemReferences.{constant_references, expression_references, global_lists, named_references, override_references, type_references}
 use Rattle.naga_ir.specs.References.{named_item, named_type, operands}

@@ -2,7 +2,7 @@
 use Rattle.std.proofs.Common.{◌≡◌, ◌<◌, ◌⊎◌, ⊎_elim, ℕ, List, [], ◌∷◌, Option, Some, None, Contains, IfSome, length, slice_get, map, refl, sym, ap, subst, ◌∙◌, arith, option_to_list}
 use Rattle.std.specs.List.{flat_map}
 use Rattle.std.proofs.lemmas.List.Elements.{All-contains, All-contains_itself, Contains-append_right}
-use Rattle.naga_ir.proofs.ReferredTo.{all_of_expressions, item_in, of_constant, of_expression, of_override, of_type, only, type_in, within_all}
+use Rattle.naga_ir.proofs.ReferencesOfItems.{all_of_expressions, item_in, of_constant, of_expression, of_override, of_type, only, type_in, within_all}
 use Rattle.naga_ir.specs.Handles.{ExistsGlobally, GlobalReferencesOk}
 use Rattle.naga_ir.specs.ItemReferences.{GlobalLists, expression_references, type_references}
 use Rattle.naga_ir.specs.References.{named_item, named_type}

@@ -7,7 +7,7 @@ use Rattle.std.proofs.lemmas.Option.{slice_get-map, slice_get_within}
 use Rattle.naga_arena.proofs.Elements.{all_at}
 use Rattle.naga_arena.proofs.InOrder.{accepted_once, found_at, get_before, get_stays}
 use Rattle.naga_ir.specs.Handles.{GlobalReferencesOk}
-use Rattle.naga_ir.proofs.ReferredTo.{parts_come_before}
+use Rattle.naga_ir.proofs.ReferencesOfItems.{parts_come_before}
 use Rattle.naga_ir.specs.ItemReferences.{GlobalLists}
 use Rattle.naga_ir_types.specs.declared.types.«Type».{«Type»}
 use Rattle.naga_ir_types.specs.declared.types.StructMember.{StructMember}

@@ -4,7 +4,7 @@ pub mod ExpressionTypes
 pub mod FormOperands
 pub mod GreatestAlignment
 pub mod InOrder
-pub mod Inside
+pub mod TypesInside
 pub mod Iteration
 pub mod ExpressionKinds
 pub mod LayoutPass

@@ -11,7 +11,7 @@ use Rattle.naga_ir_types.specs.declared.types.«Type».{«Type»}
 use Rattle.naga_ir_types.specs.declared.types.AddressSpace.{AddressSpace}
 use Rattle.naga_ir_types.specs.declared.types.TypeInner.{TypeInner}
 use Rattle.naga_ir_types.specs.declared.types.TypeInner.TheVariants.{Pointer}
-use Rattle.naga_ir.proofs.ReferredTo.{parts_come_before}
+use Rattle.naga_ir.proofs.ReferencesOfItems.{parts_come_before}
 use Rattle.naga_typing.proofs.Existence.{references_exist}
 use Rattle.naga_typing.specs.Context.{ReferencesExist}
 use Rattle.naga_typing.specs.Index.{IsNoPointer, PointsTo, itself, pointed_to}

@@ -201,7 +201,7 @@ query_of NumLevels inner = Ok (Value (Scalar u32_scalar))
 query_of NumLayers inner = Ok (Value (Scalar u32_scalar))
 query_of NumSamples inner = Ok (Value (Scalar u32_scalar))
 
--- the type of an expression; where operands alone decide, the one that `PlainTyping` resolves
+-- the type of an expression; if operands alone decide, the one that `PlainTyping` resolves
 unfoldable pub full_resolves : Module → Expression → List TypeResolution → ResolveResult
 full_resolves m (form.Literal value) earlier = plain_resolves m (form.Literal value) earlier
 full_resolves m (form.Constant c) earlier = plain_resolves m (form.Constant c) earlier

@@ -1,5 +1,5 @@
 -- Sizes and alignments of types, in bytes.
-use Rattle.std.specs.Prelude.{ℕ, ◌*◌, ◌≤◌, List, [], ◌∷◌, Option, Some, None, Result, Ok, Err, map, max, leb, All, IsOk, slice_get, unwrap_or, ⊤, if◌then◌else◌}
+use Rattle.std.specs.Prelude.{ℕ, ◌-◌, ◌*◌, ◌^◌, ◌≤◌, List, [], ◌∷◌, Option, Some, None, Result, Ok, Err, map, max, leb, All, IsOk, slice_get, unwrap_or, ⊤, if◌then◌else◌}
 use Rattle.std.specs.Int.{is_power_of_two}
 use Rattle.naga_arena.specs.InOrder.{AllAcceptedInOrder, RuleInOrder}
 use Rattle.naga_arena.specs.Numbers.{largest_u32}
@@ -18,7 +18,7 @@ use Rattle.naga_typing.specs.declared.layouter.LayoutErrorInner.TheVariants.{Too
 
 -- the greatest size of an array that has a layout
 abbrev pub max_type_size : ℕ
-max_type_size = 2147483647
+max_type_size = 2 ^ 31 - 1
 
 -- how many elements the size of an array counts: one if the array is runtime-sized, and none if an override that gives no count sizes it
 abbrev pub element_count : GlobalLists → ArraySize → ℕ

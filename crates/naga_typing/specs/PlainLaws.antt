@@ -6,7 +6,7 @@ use Rattle.std.proofs.lemmas.Option.{same_Some, slice_get-get_or}
 use Rattle.std.proofs.lemmas.List.Elements.{All-contains, All-nil}
 use Rattle.naga_arena.proofs.Elements.{all-left, all-unmap, all_at}
 use Rattle.naga_ir.proofs.Handles.{global_references_ok}
-use Rattle.naga_ir.proofs.ReferredTo.{of_constant, of_override, parts_come_before, type_in}
+use Rattle.naga_ir.proofs.ReferencesOfItems.{of_constant, of_override, parts_come_before, type_in}
 use Rattle.naga_ir.specs.ItemReferences.{GlobalLists, expression_references, global_lists}
 use Rattle.naga_ir.specs.Handles.{Exists, ExistsGlobally, GlobalReferencesOk}
 use Rattle.naga_ir.specs.References.{named_type}

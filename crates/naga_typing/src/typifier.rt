@@ -101,8 +101,8 @@ impl From<OutOfMemory> for ResolveError {
 }
 
 /// Whether two types are the same, by the rule of naga's `compare_types`: structs if they have the same
-/// handle, and other types if their forms are equal, where a pointer to a scalar or a vector equals the
-/// value pointer to it.
+/// handle, and other types if their forms are equal; a pointer to a scalar or a vector equals the value
+/// pointer to it.
 pub fn compare_types(lhs: &TypeResolution, rhs: &TypeResolution, types: &UniqueArena) -> bool
     requires lhs_exists { TypesExist types.now lhs.now }
     requires rhs_exists { TypesExist types.now rhs.now }

@@ -6,7 +6,7 @@ use Rattle.std.proofs.lemmas.List.Elements.{All-contains, Contains-append_left, 
 use Rattle.naga_arena.proofs.Elements.{contains-map}
 use Rattle.naga_flags.specs.declared.flags.TypeFlags.{TypeFlags}
 use Rattle.naga_ir.proofs.Handles.{function_references_ok}
-use Rattle.naga_ir.proofs.ReferredTo.{item_in, within_all}
+use Rattle.naga_ir.proofs.ReferencesOfItems.{item_in, within_all}
 use Rattle.naga_ir.specs.Handles.{Exists, HandlesAccepted, calls_function, function_counts}
 use Rattle.naga_ir.specs.ItemReferences.{all_functions, expression_references, function_references, local_references, signature_references}
 use Rattle.naga_ir.specs.References.{named_item}

@@ -11,12 +11,12 @@ use Rattle.naga_arena.proofs.Elements.{all-of}
 use Rattle.naga_arena.proofs.InOrder.{accepted_once, found_at, get_before, get_stays, refused_not_accepted}
 use Rattle.naga_arena.proofs.Progress.{slice_get-seam}
 use Rattle.naga_arena.specs.InOrder.{FollowInOrder, IsFirstRefusalInOrder, given_at}
-use Rattle.naga_exprs.specs.ExpressionRule.{IsExpressionResult, IsMeant}
+use Rattle.naga_exprs.specs.ExpressionRule.{IsExpressionReturned, IsMeant}
 use Rattle.naga_flags.specs.Bits.{all_stages}
 use Rattle.naga_flags.specs.declared.flags.ShaderStages.{ShaderStages}
 use Rattle.naga_infos.specs.FunctionTypes.{AreFunctionTypes, AreTypesBefore, IsUntyped, function_resolves, type_in_order, type_of_argument}
 use Rattle.naga_infos.specs.declared.module_info.FunctionInfo.{FunctionInfo}
-use Rattle.naga_ir.proofs.ReferredTo.{within_all}
+use Rattle.naga_ir.proofs.ReferencesOfItems.{within_all}
 use Rattle.naga_ir.specs.Handles.{Exists, function_counts, own_operand}
 use Rattle.naga_ir.specs.ItemReferences.{expression_references}
 use Rattle.naga_ir.specs.References.{operands}
@@ -83,7 +83,7 @@ module _ (s : FunctionSurroundings) where
       let earlier : (o : ℕ) → Contains (operands x) o → o < place = λ o names. can.in_function.back _ _ (own_operand place o x at names) in
       let within = slice_get_within f.expressions place x at in
       record {
-        sound = record { handles = can.handles; in_function = can.in_function; types_exist = can.exist; flags = can.flags };
+        sound = record { handles = can.handles; in_function = record { arguments = can.in_function.arguments; expressions = can.in_function.expressions; back = can.in_function.back }; types_exist = can.exist; flags = can.flags };
         references = all-of (Exists (function_counts m f)) (expression_references x) (λ r names. All-contains (Exists (function_counts m f)) _ r can.in_function.expressions (within_all expression_references f.expressions place x r at names));
         before = all-of (λ o. o < place) (operands x) earlier;
         typed = all-of (λ o. o < length types) (operands x) (λ o names. omega (arith, earlier o names, typed));
@@ -174,10 +174,10 @@ module _ (s : FunctionSurroundings) where
     at_place meant is = (x, kinds, at, are, is)
 
     -- a call says what the rule of the expression at a place says
-    pub allowed_at : (allowed : ShaderStages) → IsExpressionResult s.math (judged_with s types kinds) x (allows allowed) → IsMeantAt s types place (allows allowed)
+    pub allowed_at : (allowed : ShaderStages) → IsExpressionReturned s.math (judged_with s types kinds) x (allows allowed) → IsMeantAt s types place (allows allowed)
     allowed_at allowed h = subst (IsMeantAt s types place) (meant_allowed h.0 allowed h.2) (at_place h.0 h.1)
 
-    pub refused_at : (source : ExpressionError) → (source ≡ refusal.OutOfMemory → ⊥) → IsExpressionResult s.math (judged_with s types kinds) x (refuses source) → IsMeantAt s types place (refuses source)
+    pub refused_at : (source : ExpressionError) → (source ≡ refusal.OutOfMemory → ⊥) → IsExpressionReturned s.math (judged_with s types kinds) x (refuses source) → IsMeantAt s types place (refuses source)
     refused_at source other h = subst (IsMeantAt s types place) (meant_refused h.0 source other h.2) (at_place h.0 h.1)
 
   -- a place has one meaning at most: the rule there doesn't both allow and refuse

@@ -2,11 +2,11 @@ mod FirstErrors
 mod FunctionLaws
 mod FunctionRules
 mod Ids
-mod Judging
+mod ItemsInOrder
 mod Meanings
 mod ModuleLaws
 mod OverrideValues
-mod Referred
+mod ReferencedItems
 mod Refusals
 mod RuleResults
 mod SlotLaws

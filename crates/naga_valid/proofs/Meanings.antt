@@ -2,7 +2,7 @@
 use Rattle.std.proofs.Common.{◌≡◌, ◌∙◌, ◌++◌, Bool, true, false, List, [], ◌∷◌, Option, Some, None, Result, Ok, Err, String, ℕ, refl, sym, ap}
 use Rattle.std.specs.Option.{option_or}
 use Rattle.std.specs.declared.alloc.Global.{Global}
-use Rattle.naga_access_exprs.specs.Accesses.{IsAccessResult, access_conditions, lengths}
+use Rattle.naga_access_exprs.specs.Accesses.{IsAccessMeant, access_conditions, lengths}
 use Rattle.naga_exprs.specs.ExpressionRule.{IsMeant}
 use Rattle.naga_flags.specs.declared.flags.ShaderStages.{ShaderStages}
 use Rattle.naga_image_exprs.specs.Coordinates.{bad_layer, is_integer_scalar}
@@ -19,7 +19,7 @@ use Rattle.naga_operands.specs.Stages.{every_stage}
 use Rattle.naga_operands.specs.Surroundings.{ExpressionSurroundings, form_at}
 use Rattle.naga_operands.specs.declared.error.ExpressionError.{ExpressionError}
 use Rattle.naga_operands.specs.declared.error.ExpressionError.TheVariants as refusal
-use Rattle.naga_operator_exprs.specs.Binary.{IsBinaryResult, accepted, forbidden_constant, misfit}
+use Rattle.naga_operator_exprs.specs.Binary.{IsBinaryMeant, accepted, forbidden_constant, misfit}
 use Rattle.naga_types.specs.Judging.{first, granted, judged, unless}
 use Rattle.naga_typing.proofs.Lengths.{length_once}
 
@@ -64,13 +64,13 @@ module _ (allowed : ShaderStages) (source : ExpressionError) where
   not_refused (Some e) stages none h = cc none
 
   module _ (s : ExpressionSurroundings) where
-    no_access : (base index : ℕ) → IsAccessResult s base index (allows allowed) → IsAccessResult s base index (refuses source) → ⊥
+    no_access : (base index : ℕ) → IsAccessMeant s base index (allows allowed) → IsAccessMeant s base index (refuses source) → ⊥
     no_access base index a b =
         let g = global_lists s.«module» in
         let same = length_once g (lengths s.resolved g) (form_at s base) a.0 b.0 a.1 b.1 in
         differ (judged (access_conditions s base index a.0) every_stage) a.2 (b.2 ∙ ap (λ l. judged (access_conditions s base index l) every_stage) (sym same))
 
-    no_binary : (op : BinaryOperator) (left right : ℕ) (r q : Meant) → r ≡ allows allowed → q ≡ refuses source → IsBinaryResult s op left right r → IsBinaryResult s op left right q → ⊥
+    no_binary : (op : BinaryOperator) (left right : ℕ) (r q : Meant) → r ≡ allows allowed → q ≡ refuses source → IsBinaryMeant s op left right r → IsBinaryMeant s op left right q → ⊥
     no_binary op left right _ _ er eq (misfit h) other = cc er
     no_binary op left right _ _ er eq (forbidden_constant forbidden fits holds) other = cc er
     no_binary op left right _ _ er eq (accepted fits none) (misfit h) = cc (fits, h)

@@ -23,7 +23,7 @@ use Rattle.naga_valid.specs.State.{Facts, Settings}
 use Rattle.naga_valid.specs.Values.{AreValueResults, value_results}
 use Rattle.naga_valid.specs.declared.error.ValidationError.{ValidationError}
 use Rattle.naga_valid.specs.declared.error.ValidationError.TheVariants.{Layouter, Type_}
-use Rattle.naga_valid.specs.steps.Judged.{IsFirstError, IsFirstUnresolved}
+use Rattle.naga_valid.specs.steps.JudgedValues.{IsFirstError, IsFirstUnresolved}
 
 module _ (resolves : Resolves) (m : Module) (settings : Settings) where
   -- a fault of the handles

@@ -14,7 +14,7 @@ pub record Facts : Type 0 where
   pub infos : List TypeInfo
   pub resolutions : List TypeResolution
 
--- what modules are judged by: the parts that are looked at, what may be used, and whether overrides have to have their values
+-- what modules are judged by: the parts that are validated, what may be used, and whether overrides have to have their values
 pub record Settings : Type 0 where
   pub flags : ValidationFlags
   pub capabilities : Capabilities

@@ -4,7 +4,7 @@ ghost use Rattle.std.specs.Prelude.{◌≡◌, ◌<◌, ◌≤◌, ◌⊎◌, �
 ghost use Rattle.naga_arena.specs.Memory.{UnlessOutOfMemory};
 ghost use Rattle.naga_arena.specs.Span.{inner_of};
 ghost use Rattle.naga_const_exprs.specs.ConstExpression.{literal_rule};
-ghost use Rattle.naga_exprs.specs.ExpressionRule.{IsExpressionResult};
+ghost use Rattle.naga_exprs.specs.ExpressionRule.{IsExpressionReturned};
 ghost use Rattle.naga_flags.specs.Width.{width_rule};
 ghost use Rattle.naga_ir.specs.Handles.{HandlesAccepted};
 ghost use Rattle.naga_ir.specs.ItemReferences.{global_lists};
@@ -18,7 +18,7 @@ ghost use Rattle.naga_typing.specs.Typings.{AreResolved, Resolves};
 ghost use Rattle.naga_valid.specs.Accepted.{Accepts, AreValidTypes, Refuses, lists_of};
 ghost use Rattle.naga_valid.specs.State.{settings_of};
 ghost use Rattle.naga_valid.specs.State as state;
-ghost use Rattle.naga_valid.specs.steps.Judged.{IsFirstUnresolved};
+ghost use Rattle.naga_valid.specs.steps.JudgedValues.{IsFirstUnresolved};
 
 use crate::error::ValidationError;
 use crate::override_ids::OverrideIds;
@@ -254,6 +254,7 @@ impl<T: Typing> Validator<T> {
         self.validate_impl(module, true)
     }
 
+    /// What both calls do: validates, and resets after a refusal.
     fn validate_impl(
         &mut self,
         module: &Module,
@@ -362,7 +363,7 @@ impl<T: Typing> Validator<T> {
           infos = mod_info.now.lists;
           kinds = kinds.now;
         }) root expression.now }
-        ensures { IsExpressionResult (record { accepts = T.accepts_types self.now.typing; least_arguments = T.least_arguments self.now.typing }) (record {
+        ensures { IsExpressionReturned (record { accepts = T.accepts_types self.now.typing; least_arguments = T.least_arguments self.now.typing }) (record {
           capabilities = self.now.capabilities.0;
           resolved = overrides_resolved;
           subgroup_stages = self.now.subgroup_stages;

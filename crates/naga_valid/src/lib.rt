@@ -1,7 +1,8 @@
 //! A validator of shader modules: it accepts exactly the modules that keep the rules, and reports what
 //! is wrong with any other.
 //!
-//! The public names of the crates below are re-exported here, so that a user needs this crate alone.
+//! What a user needs of the crates below is re-exported here: all of their public names but the rules of
+//! single forms of expressions with what they take, `ABSTRACT_WIDTH`, `override_count` and `HandleVec`.
 #![tactic(auto)]
 
 pub mod driver;

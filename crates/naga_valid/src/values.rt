@@ -8,7 +8,7 @@ ghost use Rattle.naga_valid.specs.Values as rule;
 ghost use Rattle.naga_valid.specs.Values.{AreValueResults};
 ghost use Rattle.naga_valid.specs.declared.error.ValidationError as error;
 ghost use Rattle.naga_valid.specs.steps.Ids.{IsChecked, id_count};
-ghost use Rattle.naga_valid.specs.steps.Judged.{AreFilled, AreJudged, IsFirstError};
+ghost use Rattle.naga_valid.specs.steps.JudgedValues.{AreFilled, AreJudged, IsFirstError};
 
 use crate::error::{ConstantError, OverrideError, ValidationError};
 use crate::override_ids::OverrideIds;

@@ -30,7 +30,7 @@ composition_rule s ty components = granted (refused_inside refusal.Compose (comp
 abbrev pub splat_rule : ExpressionSurroundings → ℕ → Result ShaderStages ExpressionError
 splat_rule s value = granted (unless (is_scalar_that (λ scalar. true) (form_at s value)) (refusal.InvalidSplatType value)) every_stage
 
--- the rule of an argument: the function has so many
+-- the rule of an argument: the function has one of this index
 abbrev pub argument_rule : ExpressionSurroundings → ℕ → Result ShaderStages ExpressionError
 argument_rule s index = granted (unless (ltb index (length s.function.arguments)) (refusal.FunctionArgumentDoesntExist index)) every_stage
 

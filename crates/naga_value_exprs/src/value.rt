@@ -16,7 +16,7 @@ use naga_operands::error::ExpressionError;
 use naga_types::compose::validate_compose_at;
 use naga_typing::context::to_ctx;
 
-/// The stages that may use a literal.
+/// The stages that may use a literal (WGSL "Literals").
 ///
 /// # Errors
 ///
@@ -54,7 +54,7 @@ pub fn validate_zero_value(
 ///
 /// # Errors
 ///
-/// `Compose` if the components don't fit.
+/// `Compose` if values of the type aren't composed, or the components don't fit.
 pub fn validate_composition(
     context: FunctionContext<'_>,
     ty: Handle<TypeTag>,
@@ -74,7 +74,7 @@ pub fn validate_composition(
     Ok(every_stage())
 }
 
-/// The stages that may use a splat.
+/// The stages that may use a splat (WGSL "Value Constructor Built-in Functions").
 ///
 /// # Errors
 ///
@@ -93,7 +93,7 @@ pub fn validate_splat(
     }
 }
 
-/// The stages that may use an argument.
+/// The stages that may use an argument (WGSL "Formal Parameter Expression").
 ///
 /// # Errors
 ///
@@ -110,7 +110,8 @@ pub fn validate_function_argument(
     Ok(every_stage())
 }
 
-/// The stages that may use the result of a call: those that may use the function.
+/// The stages that may use the result of a call (WGSL "Function Call Expression"): those that may use the
+/// function.
 pub fn validate_call_result(
     context: FunctionContext<'_>,
     function: Handle<FunctionTag>,

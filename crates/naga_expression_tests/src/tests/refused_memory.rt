@@ -1,6 +1,6 @@
 //! What is returned if memory is refused.
 //!
-//! A row is right if its result is, or says that memory was refused where a refusal of the expression
+//! A row is right if its result is, or says that memory was refused if a refusal of the expression
 //! copies a struct or carries a text. Two tests go over the rows, and the second asks that nothing was
 //! refused. `scripts/refused-memory` runs both with one request after another refused, until the second
 //! passes too.

@@ -79,11 +79,11 @@ pub record SeenUpTo (m : Module) (t from to last : ℕ) : Type 0 where
   pub tight : to ≤ max from (last + 1)
 
 -- the types before t and the expressions before c were visited, each once
-pub record Reached (m : Module) (t c looks : ℕ) : Type 0 where
+pub record Reached (m : Module) (t c reads : ℕ) : Type 0 where
   pub inside : c ≤ length m.global_expressions
   pub few : c ≤ largest_u32
   pub top : top_before (global_lists m) t ≡ c
-  pub looked : looks ≡ t + c
+  pub counted : reads ≡ t + c
   pub seen : (e : ℕ) → e < c → Seen m t e
   pub types : (k : ℕ) (x : «Type») → k < t → slice_get m.types k ≡ Some x → TypeOk m k x.inner
   pub gates : (k n e : ℕ) (x : Expression) → k < t → size_initialiser (global_lists m) k ≡ Some n → e ≤ n → slice_get m.global_expressions e ≡ Some x → NamesBefore k x

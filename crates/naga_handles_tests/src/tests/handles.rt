@@ -38,8 +38,8 @@ fn pair(rt: &(impl AllocGlobal + Abort)) -> TypeInner {
     TypeInner::Struct { members, span: 8 }
 }
 
-/// Checks that a comment on a member of a type is refused as on no member of a type of this name, where
-/// type 0 is a scalar and type 1 a struct of two members.
+/// Checks that a comment on a member of a type is refused as on no member of a type of this name: type 0
+/// is a scalar, and type 1 a struct of two members.
 fn assert_member_missing(
     rt: &(impl AllocGlobal + Abort),
     name: Option<Text>,

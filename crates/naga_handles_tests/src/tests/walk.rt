@@ -67,17 +67,17 @@ fn items_come_after_what_they_depend_on(rt: HostRuntime) {
     assert_order(
         &rt,
         sized(&rt, zero(0), 0),
-        "Ok(Walk { order: [Type_([0]), Expression([0]), Type_([1])], looks: 3 })",
+        "Ok(Walk { order: [Type_([0]), Expression([0]), Type_([1])], reads: 3 })",
     );
     assert_order(
         &rt,
         sized_by_one_of_two(&rt, (zero(0), zero(1)), 0, 0),
-        "Ok(Walk { order: [Type_([0]), Expression([0]), Type_([1]), Expression([1])], looks: 4 })",
+        "Ok(Walk { order: [Type_([0]), Expression([0]), Type_([1]), Expression([1])], reads: 4 })",
     );
     assert_order(
         &rt,
         sized_by_one_of_two(&rt, (zero(0), constant()), 1, 1),
-        "Ok(Walk { order: [Type_([0]), Expression([0]), Expression([1]), Type_([1])], looks: 4 })",
+        "Ok(Walk { order: [Type_([0]), Expression([0]), Expression([1]), Type_([1])], reads: 4 })",
     );
 }
 

@@ -2,7 +2,7 @@
 use Rattle.std.specs.Prelude.{◌≡◌, ◌+◌, ◌*◌, ◌%◌, ◌<◌, ◌⊎◌, ℕ, Option, Some, None, ltb, slice_get, if◌then◌else◌}
 use Rattle.naga_immediates.specs.Slots.{HasSlot, UsesSlot, byte_count, slot_count}
 use Rattle.naga_immediates.specs.declared.immediates.ImmediateSlots.{ImmediateSlots}
-use Rattle.naga_immediates.specs.declared.immediates.Walk.{Walk}
+use Rattle.naga_immediates.specs.declared.immediates.SlotWalk.{SlotWalk}
 use Rattle.naga_ir.specs.ItemReferences.{GlobalLists}
 use Rattle.naga_ir_types.specs.declared.types.TypeInner.{TypeInner}
 use Rattle.naga_typing.specs.Leaves.{inner_at}
@@ -36,5 +36,5 @@ pub record Gains (g : GlobalLists) (t at : ℕ) (old new : ImmediateSlots) : Typ
   pub only : (k : ℕ) → HasSlot new k → HasSlot old k ⊎ ((k < slot_count) × TypeUses g t at k)
 
 -- a walk has found all slots of the types that it has noted
-abbrev pub KnowsNoted : GlobalLists → Walk → Type 0
+abbrev pub KnowsNoted : GlobalLists → SlotWalk → Type 0
 KnowsNoted g walk = (byte t k : ℕ) → slice_get walk.noted (place_of t byte) ≡ Some (Some t) → k < slot_count → TypeUses g t byte k → HasSlot walk.slots k

@@ -6,7 +6,7 @@ use Rattle.naga_leaves.specs.declared.cursor.Place.{Place}
 use Rattle.naga_leaves.specs.declared.cursor.Step.{Step}
 use Rattle.naga_leaves.specs.declared.cursor.Step.TheVariants.{Leaf, Other, End}
 use Rattle.naga_leaves.specs.Places.{IsLeft, IsUnmoved, place_left, place_start}
-use Rattle.naga_leaves.specs.Coming.{HasNoneFrom, HasSameFrom, IsFirstLeaf}
+use Rattle.naga_leaves.specs.LeavesFrom.{HasNoneFrom, HasSameFrom, IsFirstLeaf}
 use Rattle.naga_typing.specs.Leaves.{Elements}
 
 -- a part was left, or the whole has ended

@@ -2,6 +2,7 @@
 //! struct, and a word.
 
 use super::assert_same;
+use super::run::assert_reported;
 use naga_report::report::{Outcome, make_report};
 use std::alloc::{AllocError, Global};
 use std::test::Fail;
@@ -56,4 +57,9 @@ fn a_large_text_is_accepted(rt: HostRuntime) {
     assert_same(&rt, &report.outcome, &Outcome::Accepted);
     let lines = report.text.as_str().lines().count();
     assert_same(&rt, &lines, &1_002);
+    assert_reported(
+        &rt,
+        rt.alloc(),
+        &[(text.as_str(), report.text.as_str(), 0)],
+    );
 }

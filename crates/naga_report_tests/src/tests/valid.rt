@@ -476,8 +476,8 @@ fn set_both(validator: &mut Validator, stages: ShaderStages, operations: Subgrou
 /// Validates a module after settings were given, and resets the validator: the settings stay. Nothing
 /// shows them but the contract, so this is proved and not run.
 fn settings_outlast(validator: &mut Validator, module: &Module)
-    ensures stages { validator.new.subgroup_stages ≡ record { 0 = 8 } }
-    ensures operations { validator.new.subgroup_operations ≡ record { 0 = 2 } }
+    ensures stages { validator.new.subgroup_stages ≡ record { 0 = MESH } }
+    ensures operations { validator.new.subgroup_operations ≡ record { 0 = VOTE } }
     ensures capabilities { validator.new.capabilities ≡ validator.old.capabilities }
     ensures flags { validator.new.flags ≡ validator.old.flags }
 {

@@ -57,7 +57,7 @@ fn add_array(
     Ok(add_type(rt, module, array)?)
 }
 
-/// Adds an array that an override sizes, whose value is this literal where there is one.
+/// Adds an array that an override sizes, whose value is this literal, if there is one.
 fn add_pending(
     rt: &impl Abort,
     module: &mut Module,

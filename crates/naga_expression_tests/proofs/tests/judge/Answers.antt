@@ -1,5 +1,5 @@
 use Rattle.std.proofs.Common.{◌≡◌, ◌<◌, ◌≤◌, ℕ, All, List, Some, length, slice_get, arith, sym, subst, rules}
-use Rattle.naga_expression_tests.proofs.Judged.{can_judge, function_ok}
+use Rattle.naga_expression_tests.proofs.JudgeableExpressions.{can_judge, function_ok}
 use Rattle.naga_expression_tests.proofs.tests.judge.Goals as goal
 use Rattle.naga_ir.specs.ItemReferences.{global_lists}
 use Rattle.naga_operands.specs.Surroundings.{ArgumentsExist, ExpressionSurroundings, ResultIsKnown}

@@ -1,11 +1,11 @@
 use Rattle.std.proofs.Common.{◌≡◌, ◌<◌, ◌⊎◌, All, Bool, List, Ok, Result, ap, inl, inr, length, refl, subst, sym, ℕ}
 use Rattle.naga_flags.specs.declared.flags.ShaderStages.{ShaderStages}
 use Rattle.naga_ir.specs.declared.expression.Expression.{Expression}
-use Rattle.naga_exprs.specs.ExpressionRule.{IsExpressionResult, IsMeant}
+use Rattle.naga_exprs.specs.ExpressionRule.{IsExpressionReturned, IsMeant}
 use Rattle.naga_operands.specs.declared.error.ExpressionError.{ExpressionError}
 use Rattle.naga_image_exprs.specs.Samples.{IsImageSampleReturned, expression_of}
 use Rattle.naga_image_exprs.specs.declared.sample.Sample.{Sample}
-use Rattle.naga_exprs.proofs.Known.{components_typed, composed_type, condition_of_select, index_of_access, left_of_multiply_add, of_array_length, of_cooperative_load, of_intersection, of_load, of_vertices, reject_of_select, right_of_multiply_add, summand_of_multiply_add, there, typed, workgroup_load_type, zero_type}
+use Rattle.naga_exprs.proofs.KnownOperands.{components_typed, composed_type, condition_of_select, index_of_access, left_of_multiply_add, of_array_length, of_cooperative_load, of_intersection, of_load, of_vertices, reject_of_select, right_of_multiply_add, summand_of_multiply_add, there, typed, workgroup_load_type, zero_type}
 use Rattle.naga_exprs.proofs.expression.validate_form.Goals as goal
 use Rattle.naga_ir.specs.declared.expression.Expression.TheVariants as form
 use Rattle.naga_math_exprs.specs.Math.{MathTyping}
@@ -96,7 +96,7 @@ validate_cooperative_multiply_add-requires-clause-summand g c = typed (surroundi
 
 module _ (t : MathTyping) (s : ExpressionSurroundings) (x : Expression) (result : Result ShaderStages ExpressionError) where
   -- what is meant is returned as it is
-  as_meant : IsMeant t s x result → IsExpressionResult t s x result
+  as_meant : IsMeant t s x result → IsExpressionReturned t s x result
   as_meant h = (result, h, inl refl)
 
   -- what is meant of a form is meant of an expression of that form
@@ -114,7 +114,7 @@ module _ (t : MathTyping) (s : ExpressionSurroundings) (x : Expression) (result 
   every_stage_meant (inr (inr (inr (inr (inr e))))) h = of_form _ e h
 
   -- what is returned for a sample is returned for its expression
-  as_sampled : (sample : Sample) → x ≡ expression_of sample → IsImageSampleReturned s sample result → IsExpressionResult t s x result
+  as_sampled : (sample : Sample) → x ≡ expression_of sample → IsImageSampleReturned s sample result → IsExpressionReturned t s x result
   as_sampled sample is (meant, means, returned) = (meant, subst (λ x. IsMeant t s x meant) (sym is) means, returned)
 
   -- the stages that may use subgroups may use the results of their operations

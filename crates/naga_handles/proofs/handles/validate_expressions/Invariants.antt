@@ -6,5 +6,5 @@ use Rattle.naga_handles.proofs.handles.validate_expressions.Given as goal
 -- the expressions so far are right
 abbrev pub invariant-loop-handle : goal.invariant-loop-handle
 invariant-loop-handle l =
-    let looks = expression_checks l.scope.counts l.scope.caller in
-    Passed IsResult (flat_map looks (enumerate_from 0 l.function.expressions)) (flat_map looks l.handle-iterator)
+    let reads = expression_checks l.scope.counts l.scope.caller in
+    Passed IsResult (flat_map reads (enumerate_from 0 l.function.expressions)) (flat_map reads l.handle-iterator)

@@ -7,5 +7,5 @@ use Rattle.naga_handles.proofs.handles.validate_filter_parents.Given as goal
 -- the filters so far follow their parents
 abbrev pub invariant-loop-handle : goal.invariant-loop-handle
 invariant-loop-handle l =
-    let looks = filter_checks (module_counts l.«module») in
-    Passed IsResult (flat_map looks (enumerate_from 0 l.«module».diagnostic_filters)) (flat_map looks l.handle-iterator)
+    let reads = filter_checks (module_counts l.«module») in
+    Passed IsResult (flat_map reads (enumerate_from 0 l.«module».diagnostic_filters)) (flat_map reads l.handle-iterator)

@@ -1,5 +1,5 @@
 use Rattle.std.proofs.Common.{◌≡◌, ◌∙◌, ap, false, inl, rules, sym, true}
-use Rattle.naga_image_exprs.proofs.Clamping.{allowed, refused, unasked}
+use Rattle.naga_image_exprs.proofs.ClampConditions.{allowed, refused, unasked}
 use Rattle.naga_image_exprs.proofs.Texts.{empty_text}
 use Rattle.naga_image_exprs.proofs.clamp.check_clamp.Goals as goal
 use Rattle.naga_image_exprs.specs.Samples.{can_clamp}

@@ -1,6 +1,6 @@
 use Rattle.std.proofs.Common.{Contains, length, ◌<◌}
 use Rattle.std.proofs.lemmas.List.Elements.{All-contains_itself}
-use Rattle.naga_image_exprs.proofs.Known.{known_of_query, looked_up}
+use Rattle.naga_image_exprs.proofs.KnownOperands.{known_of_query, looked_up}
 use Rattle.naga_image_exprs.proofs.query.validate_image_query.Goals as goal
 use Rattle.naga_ir.specs.References.{operands}
 use Rattle.naga_ir.specs.declared.expression.Expression.{Expression}

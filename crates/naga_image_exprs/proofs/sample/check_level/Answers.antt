@@ -1,6 +1,6 @@
 use Rattle.std.proofs.Common.{◌≡◌, ◌∙◌, [], ◌∷◌, List, Option, ap, rules, sym}
 use Rattle.std.specs.Prelude.{Err}
-use Rattle.naga_image_exprs.proofs.Judged.{broken_at, second_decides}
+use Rattle.naga_image_exprs.proofs.FirstConditions.{broken_at, second_decides}
 use Rattle.naga_image_exprs.proofs.sample.check_level.Goals as goal
 use Rattle.naga_image_exprs.specs.Samples.{bad_derivative, bad_level}
 use Rattle.naga_ir.specs.declared.expression.SampleLevel.{SampleLevel}

@@ -1,8 +1,8 @@
 use Rattle.std.proofs.Common.{◌≡◌, ◌∙◌, ◌<◌, Contains, ap, length, rules, sym}
 use Rattle.std.proofs.lemmas.List.Elements.{All-contains_itself}
 use Rattle.std.specs.Prelude.{Err, Ok}
-use Rattle.naga_image_exprs.proofs.Judged.{broken_at, none_broken}
-use Rattle.naga_image_exprs.proofs.Known.{known_of_sample, looked_up}
+use Rattle.naga_image_exprs.proofs.FirstConditions.{broken_at, none_broken}
+use Rattle.naga_image_exprs.proofs.KnownOperands.{known_of_sample, looked_up}
 use Rattle.naga_image_exprs.proofs.Results.{clamp_result, sample_result, text_passed, unfound_result}
 use Rattle.naga_image_exprs.proofs.Texts.{empty_text}
 use Rattle.naga_image_exprs.proofs.sample.validate_image_sample.Goals as goal

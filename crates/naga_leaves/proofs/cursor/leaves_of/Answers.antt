@@ -10,7 +10,7 @@ use Rattle.naga_leaves.proofs.cursor.leaves_of.Goals as goal
 
 pub returns-clause-cursor : goal.returns-clause-cursor
 returns-clause-cursor c =
-    let place : Place = record { ty = c.args.ty; part = record { ty = c.args.ty; first = 0 }; next = 0; around = c.new.result; path = c.new-2.result } in
+    let place : Place = record { ty = c.args.ty; part = record { ty = c.args.ty; first = 0 }; next = 0; outer = c.new.result; path = c.new-2.result } in
     let lists = sym c.to_ctx.ensures.lists in
     record {
       references = subst GlobalReferencesOk lists c.requires.references;

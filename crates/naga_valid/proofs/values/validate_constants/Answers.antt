@@ -2,8 +2,8 @@ use Rattle.std.proofs.Common.{◌≡◌, ◌+◌, ◌∙◌, Err, inr, ap, sym, 
 use Rattle.std.proofs.lemmas.Option.{slice_get_within}
 use Rattle.naga_arena.specs.Results.{IsFirstRefusal}
 use Rattle.naga_arena.specs.Span.{inner_of}
-use Rattle.naga_valid.proofs.Judging.{accepted_unless, all_accepted, begin, first_refused, next_item, one_more}
-use Rattle.naga_valid.proofs.Referred.{constant-initialiser, constant-type}
+use Rattle.naga_valid.proofs.ItemsInOrder.{accepted_unless, all_accepted, begin, first_refused, next_item, one_more}
+use Rattle.naga_valid.proofs.ReferencedItems.{constant-initialiser, constant-type}
 use Rattle.naga_valid.specs.Values.{constant_result, reported, results_of, shown_name}
 use Rattle.naga_valid.specs.declared.error.ValidationError.{ValidationError}
 use Rattle.naga_valid.specs.declared.error.ValidationError.TheVariants.{Constant}

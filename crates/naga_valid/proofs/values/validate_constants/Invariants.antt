@@ -1,5 +1,5 @@
 use Rattle.std.proofs.Common.{ℕ}
-use Rattle.naga_valid.proofs.Judging.{Judging}
+use Rattle.naga_valid.proofs.ItemsInOrder.{Judging}
 use Rattle.naga_valid.specs.Values.{constant_result}
 use Rattle.naga_valid.proofs.values.validate_constants.Given as goal
 

@@ -10,7 +10,7 @@ use Rattle.naga_ir.specs.declared.expression.Expression.{Expression}
 use Rattle.naga_ir_types.specs.declared.types.«Type».{«Type»}
 use Rattle.naga_typing.specs.declared.expression_kind.ExpressionKind.{ExpressionKind}
 use Rattle.naga_typing.specs.declared.typifier.TypeResolution.{TypeResolution}
-use Rattle.naga_valid.proofs.Judging.{accepted_unless, all_accepted, begin, first_refused, next_item, one_more}
+use Rattle.naga_valid.proofs.ItemsInOrder.{accepted_unless, all_accepted, begin, first_refused, next_item, one_more}
 use Rattle.naga_valid.specs.Values.{const_surroundings, expression_result, reported, results_of}
 use Rattle.naga_valid.specs.declared.error.ValidationError.{ValidationError}
 use Rattle.naga_valid.specs.declared.error.ValidationError.TheVariants.{ConstExpression}

@@ -3,8 +3,8 @@ use Rattle.std.proofs.lemmas.Option.{slice_get_within}
 use Rattle.naga_arena.specs.Results.{IsFirstRefusal}
 use Rattle.naga_arena.specs.Span.{inner_of}
 use Rattle.naga_valid.proofs.Ids.{none_noted, one_checked}
-use Rattle.naga_valid.proofs.Judging.{accepted_unless, all_accepted, begin, first_refused, next_index, next_item, one_more}
-use Rattle.naga_valid.proofs.Referred.{override-initialiser, override-type}
+use Rattle.naga_valid.proofs.ItemsInOrder.{accepted_unless, all_accepted, begin, first_refused, next_index, next_item, one_more}
+use Rattle.naga_valid.proofs.ReferencedItems.{override-initialiser, override-type}
 use Rattle.naga_valid.specs.Values.{is_taken, override_result, override_rule, reported, results_of, shown_name}
 use Rattle.naga_valid.specs.declared.error.ValidationError.{ValidationError}
 use Rattle.naga_valid.specs.declared.error.ValidationError.TheVariants.{Override}

@@ -1,6 +1,6 @@
 use Rattle.std.proofs.Common.{ℕ}
 use Rattle.naga_valid.proofs.Ids.{AreNoted}
-use Rattle.naga_valid.proofs.Judging.{Judging}
+use Rattle.naga_valid.proofs.ItemsInOrder.{Judging}
 use Rattle.naga_valid.specs.Values.{override_result}
 use Rattle.naga_valid.proofs.values.validate_overrides.Given as goal
 

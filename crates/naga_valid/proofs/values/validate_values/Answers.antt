@@ -8,7 +8,7 @@ use Rattle.naga_ir.specs.declared.ir.Module.{Module}
 use Rattle.naga_ir.specs.declared.reference.Reference.{Reference}
 use Rattle.naga_valid.specs.Values.{constant_result, override_result, results_of, value_results}
 use Rattle.naga_valid.specs.declared.error.ValidationError.TheVariants.{OutOfMemory}
-use Rattle.naga_valid.specs.steps.Judged.{IsFirstError}
+use Rattle.naga_valid.specs.steps.JudgedValues.{IsFirstError}
 use Rattle.naga_valid.proofs.FirstErrors.{error-in-first, error-in-second}
 use Rattle.naga_valid.proofs.values.validate_values.Goals as goal
 

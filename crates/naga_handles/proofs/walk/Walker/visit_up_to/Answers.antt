@@ -4,10 +4,10 @@ use Rattle.naga_handles.proofs.VisitLemmas.{late_gate, seen_more, seen_one}
 use Rattle.naga_handles.proofs.walk.Walker.visit_up_to.Goals as goal
 
 pub loop-index-init : goal.loop-index-init
-loop-index-init c = record { at = refl; looked = c.requires.counted; seen = λ k a b. absurd (omega (arith, a, b)); tight = omega arith }
+loop-index-init c = record { at = refl; counted = c.requires.counted; seen = λ k a b. absurd (omega (arith, a, b)); tight = omega arith }
 
 pub expression_at-expression-requires-clause-few : goal.expression_at-expression-requires-clause-few
-expression_at-expression-requires-clause-few c = omega (arith, c.loop-index.invariant.looked, c.requires.few.0, c.loop-index-test.true, c.index-index-end.ensures.bound)
+expression_at-expression-requires-clause-few c = omega (arith, c.loop-index.invariant.counted, c.requires.few.0, c.loop-index-test.true, c.index-index-end.ensures.bound)
 
 pub returns-in_err-check_gate-clause-refused : goal.returns-in_err-check_gate-clause-refused
 returns-in_err-check_gate-clause-refused c =
@@ -22,7 +22,7 @@ loop-index-preserved c =
     let stands = subst (λ (n : ℕ). ExpressionOk c.args.module.now n c.expression_at-expression.result.now) c.new-place.ensures c.in_ok-check_expression.ensures.right in
     record {
       at = refl;
-      looked = omega (arith, c.expression_at-expression.ensures.counted, c.loop-index.invariant.looked);
+      counted = omega (arith, c.expression_at-expression.ensures.counted, c.loop-index.invariant.counted);
       seen = seen_more c.args.module.now c.args.handle c.args.self.now.visited c.loop-index.index c.loop-index.invariant.seen
           (seen_one c.args.module.now c.args.handle c.loop-index.index c.expression_at-expression.result.now at stands c.in_ok-check_gate.ensures.before);
       tight = omega (arith, c.loop-index-test.true, c.index-index-end.ensures.value);
@@ -38,7 +38,7 @@ returns-clause-seen c = record {
 }
 
 pub returns-clause-counted : goal.returns-clause-counted
-returns-clause-counted c = omega (arith, c.loop-index.invariant.at, c.loop-index.invariant.looked)
+returns-clause-counted c = omega (arith, c.loop-index.invariant.at, c.loop-index.invariant.counted)
 
 pub returns-clause-few : goal.returns-clause-few
 returns-clause-few c = omega (arith, c.loop-index.invariant.at, c.loop-index.invariant.tight, c.requires.few.1, c.index-index-end.ensures.bound, c.index-index-end.ensures.value)

@@ -5,7 +5,7 @@ use Rattle.naga_handles.proofs.walk.Walker.visit_up_to.Given as goal
 abbrev pub invariant-loop-index : goal.invariant-loop-index
 invariant-loop-index l = record {
   at : l.self.visited ≡ l.index;
-  looked : l.self.reader.looks ≡ l.handle + 1 + l.index;
+  counted : l.self.reader.reads ≡ l.handle + 1 + l.index;
   seen : (k : ℕ) → l.fn.self.visited ≤ k → k < l.index → Seen l.module l.handle k;
   tight : l.index ≤ max l.fn.self.visited (l.fn.last + 1);
 }

@@ -10,7 +10,7 @@ use Rattle.std.proofs.lemmas.Option.{get_or_from_slice_get, slice_get-map, slice
 use Rattle.naga_immediates.proofs.SlotParts.{inner_is}
 use Rattle.naga_immediates.specs.Slots.{immediate_size, is_immediate}
 use Rattle.naga_ir.proofs.Handles.{global_references_ok}
-use Rattle.naga_ir.proofs.ReferredTo.{within_all}
+use Rattle.naga_ir.proofs.ReferencesOfItems.{within_all}
 use Rattle.naga_ir.specs.Handles.{Exists, GlobalReferencesOk, HandlesAccepted, module_counts}
 use Rattle.naga_ir.specs.ItemReferences.{GlobalLists, global_lists, global_variable_references, other_references}
 use Rattle.naga_ir.specs.declared.ir.GlobalVariable.{GlobalVariable as Variable}

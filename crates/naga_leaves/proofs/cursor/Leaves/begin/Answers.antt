@@ -1,4 +1,4 @@
-use Rattle.naga_leaves.proofs.Coming.{begins}
+use Rattle.naga_leaves.proofs.NextLeaves.{begins}
 use Rattle.naga_leaves.specs.Cursor.{elements_for}
 use Rattle.naga_leaves.proofs.cursor.Leaves.begin.Goals as goal
 

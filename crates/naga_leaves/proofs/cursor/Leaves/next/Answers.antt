@@ -1,5 +1,5 @@
 use Rattle.std.proofs.Common.{◌≡◌, Bool, true, false, OnErr, Result, Ok, Err, subst}
-use Rattle.naga_leaves.proofs.Coming.{comes_nowhere, comes_on, comes_to_end, comes_to_next, fewer_left}
+use Rattle.naga_leaves.proofs.NextLeaves.{comes_nowhere, comes_on, comes_to_end, comes_to_next, fewer_left}
 use Rattle.naga_leaves.specs.Cursor.{elements_for, lists_under}
 use Rattle.naga_leaves.specs.steps.Steps.{Steps}
 use Rattle.naga_leaves.proofs.cursor.Leaves.next.Goals as goal

@@ -1,7 +1,7 @@
 use Rattle.std.proofs.Common.{◌≡◌, true}
 use Rattle.naga_leaves.proofs.cursor.Leaves.next.Given as goal
 use Rattle.naga_leaves.specs.Cursor.{IsCursor}
-use Rattle.naga_leaves.specs.steps.Coming.{ComesOn}
+use Rattle.naga_leaves.specs.steps.NextLeaf.{ComesOn}
 use Rattle.naga_leaves.specs.Places.{place_left}
 
 -- no leaf was passed so far

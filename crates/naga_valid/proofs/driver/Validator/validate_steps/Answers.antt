@@ -8,7 +8,7 @@ use Rattle.naga_valid.specs.State.{Facts, Settings, settings_of}
 use Rattle.naga_valid.specs.Values.{AreValueResults}
 use Rattle.naga_valid.specs.declared.error.ValidationError.{ValidationError}
 use Rattle.naga_valid.specs.declared.error.ValidationError.TheVariants.{OutOfMemory}
-use Rattle.naga_valid.specs.steps.Judged.{IsFirstError, IsFirstUnresolved}
+use Rattle.naga_valid.specs.steps.JudgedValues.{IsFirstError, IsFirstUnresolved}
 use Rattle.naga_valid.proofs.driver.Validator.validate_steps.Goals as goal
 use Rattle.naga_valid.proofs.driver.Validator.validate_steps.Goals.{then-contains+in_ok-validate_values, else-contains}
 

@@ -6,14 +6,14 @@ use Rattle.naga_arena.specs.Numbers.{largest_u32}
 use Rattle.naga_ir.specs.ItemReferences.{GlobalLists}
 use Rattle.naga_leaves.proofs.Places.{no_end}
 use Rattle.naga_leaves.proofs.Steps.{first_is, leaf_here, past_none, same_start, unmoved_start}
-use Rattle.naga_leaves.specs.Coming.{HasNoneFrom, HasSameFrom, IsFirstLeaf}
+use Rattle.naga_leaves.specs.LeavesFrom.{HasNoneFrom, HasSameFrom, IsFirstLeaf}
 use Rattle.naga_leaves.specs.Cursor.{ComesToSame, IsAtEnd, IsCursor, IsNext, IsOverSame, elements_for, left_of, lists_under, start_of}
 use Rattle.naga_leaves.specs.Leaf.{bytes_of}
 use Rattle.naga_leaves.specs.declared.cursor.Leaves.{Leaves}
 use Rattle.naga_leaves.specs.declared.cursor.Place.{Place}
 use Rattle.naga_leaves.specs.declared.leaf.Leaf.{Leaf}
 use Rattle.naga_leaves.specs.declared.leaf.Part.{Part}
-use Rattle.naga_leaves.specs.steps.Coming.{ComesOn}
+use Rattle.naga_leaves.specs.steps.NextLeaf.{ComesOn}
 use Rattle.naga_leaves.specs.Places.{IsUnmoved, LeadsTo, further, itself, place_left, place_start}
 use Rattle.naga_typing.specs.Leaves.{Elements, LeafBytes, elements, leaf_at, moved}
 
@@ -122,9 +122,9 @@ module _ (a b : Leaves) (come : ComesToSame a b) (begun : b.is_begun ≡ true) (
       }
 
 -- the part of an empty path is the whole
-whole_begins : (g : GlobalLists) (elements_of : Elements) (t : ℕ) (around : List Part) (path : List ℕ) (part : Part) → LeadsTo g elements_of t around path part → path ≡ [] → part.first ≡ 0
+whole_begins : (g : GlobalLists) (elements_of : Elements) (t : ℕ) (outer : List Part) (path : List ℕ) (part : Part) → LeadsTo g elements_of t outer path part → path ≡ [] → part.first ≡ 0
 whole_begins g elements_of t _ _ _ itself e = refl
-whole_begins g elements_of t _ _ _ (further around path part i child h at within) e = absurd (no_end path i (sym e))
+whole_begins g elements_of t _ _ _ (further outer path part i child h at within) e = absurd (no_end path i (sym e))
 
 module _ (a : Leaves) (is : IsCursor a) (fresh : a.is_begun ≡ false) where
   abbrev Begun : Leaves
@@ -151,7 +151,7 @@ module _ (a : Leaves) (is : IsCursor a) (fresh : a.is_begun ≡ false) where
   -- a whole that is a leaf is the first
   begins_with : (leaf : Leaf) → Some (bytes_of leaf) ≡ whole_part → leaf.first ≡ a.place.part.first → IsNext a Begun (bytes_of leaf)
   begins_with leaf there begins =
-      let none : a.place.part.first ≡ 0 = whole_begins (lists_under a) (elements_for a) a.place.ty a.place.around.items a.place.path.items a.place.part is.place.leads at_nothing in
+      let none : a.place.part.first ≡ 0 = whole_begins (lists_under a) (elements_for a) a.place.ty a.place.outer.items a.place.path.items a.place.part is.place.leads at_nothing in
       let first : IsFirstLeaf (lists_under a) (elements_for a) a.place.ty [] [] ([] ++ 0 ∷ []) (bytes_of leaf) =
       first_is (lists_under a) (elements_for a) a.place.ty [] (bytes_of leaf) (leaf_of_whole ∙ sym there) (omega (arith, none, begins)) (All-nil (λ i. i ≤ largest_u32)) in
       record {

@@ -1,6 +1,6 @@
 use Rattle.naga_immediates.proofs.SlotParts.{IsWalking}
 use Rattle.naga_typing.specs.Context.{lists_of}
-use Rattle.naga_immediates.proofs.immediates.Walk.+add.Given as goal
+use Rattle.naga_immediates.proofs.immediates.SlotWalk.+add.Given as goal
 
 abbrev pub decreases-add : goal.decreases-add
 decreases-add l = l.ty

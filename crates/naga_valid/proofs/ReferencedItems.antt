@@ -1,7 +1,7 @@
 -- The types and initialisers of constants and overrides exist.
 use Rattle.std.proofs.Common.{◌≡◌, ◌<◌, ℕ, Option, Some, None, IfSome, length, slice_get, refl, arith}
 use Rattle.naga_ir.proofs.Handles.{global_references_ok}
-use Rattle.naga_ir.proofs.ReferredTo.{of_constant, of_override}
+use Rattle.naga_ir.proofs.ReferencesOfItems.{of_constant, of_override}
 use Rattle.naga_ir.specs.Handles.{HandlesAccepted}
 use Rattle.naga_ir.specs.ItemReferences.{global_lists}
 use Rattle.naga_ir.specs.declared.ir.Constant.{Constant}

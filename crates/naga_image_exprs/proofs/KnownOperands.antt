@@ -4,7 +4,7 @@ use Rattle.std.proofs.lemmas.List.Elements.{All-contains, Contains-append_left}
 use Rattle.naga_arena.proofs.Elements.{all-left, all-right, contains-map}
 use Rattle.naga_image_exprs.specs.Samples.{expression_of}
 use Rattle.naga_image_exprs.specs.declared.sample.Sample.{Sample}
-use Rattle.naga_image_exprs.specs.steps.Known.{CanLookUp}
+use Rattle.naga_image_exprs.specs.steps.KnownResources.{CanLookUp}
 use Rattle.naga_ir.specs.Handles.{Exists, function_counts}
 use Rattle.naga_ir.specs.ItemReferences.{expression_references, named_references}
 use Rattle.naga_ir.specs.References.{level_operands, operands, query_operands}

@@ -7,15 +7,15 @@ use Rattle.std.proofs.lemmas.Option.{get_or_from_slice_get, same_Some, slice_get
 use Rattle.naga_immediates.proofs.SlotParts.{all_added, begin, inner_is, member_before, other_added, passes_on, plain, walks_on}
 use Rattle.naga_immediates.specs.Slots.{AreExactly, HasSlot, SharesByte, slot_count}
 use Rattle.naga_immediates.specs.declared.immediates.ImmediateSlots.{ImmediateSlots}
-use Rattle.naga_immediates.specs.declared.immediates.Walk.{Walk}
+use Rattle.naga_immediates.specs.declared.immediates.SlotWalk.{SlotWalk}
 use Rattle.naga_immediates.specs.steps.SlotWalk.{Gains, KnowsNoted, TypeUses, place_of}
 use Rattle.naga_ir.specs.ItemReferences.{GlobalLists}
 use Rattle.naga_ir_types.specs.declared.types.TypeInner.TheVariants.{Struct}
 use Rattle.naga_typing.proofs.Existence.{references_exist}
 use Rattle.naga_typing.specs.Context.{lists_of}
 use Rattle.naga_typing.specs.Layout.{size_of}
-use Rattle.naga_immediates.proofs.immediates.Walk.+add.Goals as goal
-use Rattle.naga_immediates.proofs.immediates.Walk.+add.Goals.{in-Some, in_default-member_byte}
+use Rattle.naga_immediates.proofs.immediates.SlotWalk.+add.Goals as goal
+use Rattle.naga_immediates.proofs.immediates.SlotWalk.+add.Goals.{in-Some, in_default-member_byte}
 
 -- what is noted stays found if slots are added
 still_known : (g : GlobalLists) (slots slots′ : ImmediateSlots) (noted : List (Option ℕ)) → ((k : ℕ) → HasSlot slots k → HasSlot slots′ k)
@@ -23,7 +23,7 @@ still_known : (g : GlobalLists) (slots slots′ : ImmediateSlots) (noted : List 
 still_known g slots slots′ noted kept known byte t k at within u = kept k (known byte t k at within u)
 
 -- what is noted is gained already
-noted_gains : (g : GlobalLists) (walk : Walk) (t byte : ℕ) → KnowsNoted g walk → slice_get walk.noted (place_of t byte) ≡ Some (Some t) → Gains g t byte walk.slots walk.slots
+noted_gains : (g : GlobalLists) (walk : SlotWalk) (t byte : ℕ) → KnowsNoted g walk → slice_get walk.noted (place_of t byte) ≡ Some (Some t) → Gains g t byte walk.slots walk.slots
 noted_gains g walk t byte known at = record { kept = λ k h. h; gained = λ k within u. known byte t k at within u; only = λ k h. inl h }
 
 -- what is read after a write is what was written, or what was there
@@ -47,7 +47,7 @@ same_byte : (t t′ byte byte′ : ℕ) → t ≡ t′ → place_of t′ byte′
 same_byte t t′ byte byte′ e same = omega arith
 
 -- a type whose slots are found may be noted
-noted_more : (g : GlobalLists) (walk : Walk) (t byte place : ℕ) → KnowsNoted g walk → place ≡ place_of t byte → ((k : ℕ) → k < slot_count → TypeUses g t byte k → HasSlot walk.slots k)
+noted_more : (g : GlobalLists) (walk : SlotWalk) (t byte place : ℕ) → KnowsNoted g walk → place ≡ place_of t byte → ((k : ℕ) → k < slot_count → TypeUses g t byte k → HasSlot walk.slots k)
     → KnowsNoted g record { slots = walk.slots; noted = slice_set walk.noted place (Some t) }
 noted_more g walk t byte place known same found byte′ t′ k at within u =
     ⊎_elim

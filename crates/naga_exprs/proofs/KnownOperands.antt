@@ -2,7 +2,7 @@
 use Rattle.std.proofs.Common.{◌≡◌, ◌<◌, ℕ, All, Bool, Contains, List, [], ◌∷◌, Some, length, map, refl, sym, ap, subst, arith, ◌∙◌}
 use Rattle.std.proofs.lemmas.List.Elements.{All-contains, Contains-append_left}
 use Rattle.naga_arena.proofs.Elements.{contains-map}
-use Rattle.naga_ir.proofs.ReferredTo.{type_in}
+use Rattle.naga_ir.proofs.ReferencesOfItems.{type_in}
 use Rattle.naga_ir.specs.Handles.{Exists, function_counts}
 use Rattle.naga_ir.specs.ItemReferences.{expression_references, named_references}
 use Rattle.naga_ir.specs.References.{named_type, operands}

@@ -4,7 +4,7 @@ use Rattle.std.specs.List.{flat_map}
 use Rattle.std.proofs.lemmas.List.Elements.{All-contains, Contains-append_left}
 use Rattle.naga_arena.proofs.Elements.{all-of}
 use Rattle.naga_ir.proofs.Handles.{function_references_ok}
-use Rattle.naga_ir.proofs.ReferredTo.{within_all}
+use Rattle.naga_ir.proofs.ReferencesOfItems.{within_all}
 use Rattle.naga_ir.specs.Handles.{Exists, FunctionReferencesOk, HandlesAccepted, function_counts, own_operand}
 use Rattle.naga_ir.specs.ItemReferences.{all_functions, expression_references, global_lists}
 use Rattle.naga_ir.specs.References.{operands}
@@ -38,7 +38,7 @@ can_judge s root x handles ok at types flags typed kinds arguments called =
     let P : Reference → Type 0 = Exists (function_counts s.«module» s.function) in
     let before : (o : ℕ) → Contains (operands x) o → o < root = λ o names. ok.back _ _ (own_operand root o x at names) in
     record {
-      sound = record { handles = handles; in_function = ok; types_exist = types; flags = flags };
+      sound = record { handles = handles; in_function = record { arguments = ok.arguments; expressions = ok.expressions; back = ok.back }; types_exist = types; flags = flags };
       references = all-of P (expression_references x) (λ r names. All-contains P (flat_map expression_references s.function.expressions) r ok.expressions (within_all expression_references s.function.expressions root x r at names));
       before = all-of (λ (o : ℕ). o < root) (operands x) before;
       typed = all-of (λ (o : ℕ). o < length s.types) (operands x) (λ o names. let b = before o names in omega (arith, b, typed));
