@@ -1,15 +1,16 @@
 //! Modules read from texts, or built by hand, and how they are validated.
 
+ghost use Rattle.naga_flags.specs.Bits.{MESH, VOTE};
 ghost use Rattle.std.specs.Prelude.{◌≡◌};
 
 use super::{assert_same, assert_same_for, assert_shown};
 use naga_text::text::read_text;
 use naga_valid::{
-    Alignment, BadHandle, BadRangeError, Capabilities, FunctionTag, FwdDepError, Handle,
-    ImmediateError, InvalidHandleError, LayoutError, LayoutErrorInner, List, Module, OutOfMemory,
-    Scalar, ShaderStages, Span, StaticText, SubgroupOperationSet, Text, Type, TypeError, TypeFlags,
-    TypeInfo, TypeInner, TypeTag, ValidationError, ValidationFlags, Validator, WidthError,
-    WithSpan,
+    Alignment, BadHandle, BadRangeError, Capabilities, Disalignment, FunctionTag, FwdDepError,
+    Handle, ImmediateError, InvalidHandleError, LayoutError, LayoutErrorInner, List, Module,
+    OutOfMemory, Scalar, ShaderStages, Span, StaticText, SubgroupOperationSet, Text, Type,
+    TypeError, TypeFlags, TypeInfo, TypeInner, TypeTag, ValidationError, ValidationFlags,
+    Validator, WidthError, WithSpan,
 };
 use std::alloc::Global;
 use std::process::Abort;
@@ -142,15 +143,20 @@ fn types_of_f32_are_accepted(rt: HostRuntime) -> Result<(), Fail> {
     })
 }
 
-/// Makes sure that a scalar, a vector and a matrix are accepted, and what is known of them then.
-fn are_accepted_as_f32(rt: &impl Abort, alloc: Global, module: &Module) -> Result<(), Fail> {
-    let matrix_flags = TypeFlags::DATA
+/// All that a type may be used for, but to pass values from stage to stage.
+fn flags_within_a_stage() -> TypeFlags {
+    TypeFlags::DATA
         | TypeFlags::SIZED
         | TypeFlags::COPY
         | TypeFlags::HOST_SHAREABLE
         | TypeFlags::CREATION_RESOLVED
         | TypeFlags::ARGUMENT
-        | TypeFlags::CONSTRUCTIBLE;
+        | TypeFlags::CONSTRUCTIBLE
+}
+
+/// Makes sure that a scalar, a vector and a matrix are accepted, and what is known of them then.
+fn are_accepted_as_f32(rt: &impl Abort, alloc: Global, module: &Module) -> Result<(), Fail> {
+    let matrix_flags = flags_within_a_stage();
     let number_flags = matrix_flags | TypeFlags::IO_SHAREABLE;
     let mut validator = validator_under(alloc, Capabilities::default());
     let info = validator.validate(module)?;
@@ -169,6 +175,34 @@ fn are_accepted_as_f32(rt: &impl Abort, alloc: Global, module: &Module) -> Resul
         );
         assert_same(rt, &info[handle], &flags);
     }
+    Ok(())
+}
+
+#[test]
+fn the_reason_why_a_type_has_no_layout_is_known(rt: HostRuntime) -> Result<(), Fail> {
+    let text = "type scalar uint 4\ntype struct 8 0:0 0:4\ntype struct 12 1:0 0:8";
+    with_text(&rt, rt.alloc(), text, |module| {
+        has_storage_layout_alone(&rt, rt.alloc(), module)
+    })
+}
+
+/// Makes sure that the third type has no uniform layout, since its second member follows a struct too soon.
+fn has_storage_layout_alone(rt: &impl Abort, alloc: Global, module: &Module) -> Result<(), Fail> {
+    let mut validator = validator_under(alloc, Capabilities::default());
+    validator.validate(module)?;
+    let handle = Handle::new(2);
+    assert!(rt; handle.index() < validator.type_count());
+    let alignment = Alignment::new(4).expect(rt, "a power of two");
+    let reason = Disalignment::MemberOffsetAfterStruct {
+        index: 1,
+        offset: 8,
+        expected: 16,
+    };
+    let want = TypeInfo {
+        uniform_layout: Err((handle, reason)),
+        ..TypeInfo::new(flags_within_a_stage(), alignment)
+    };
+    assert_same(rt, &validator.type_info(handle), &want);
     Ok(())
 }
 
