@@ -26,7 +26,6 @@ pub enum RunFault {
 
 impl fmt::Display for RunFault {
     ghost use Rattle.std.specs.Prelude.{Some};
-    ghost use Rattle.naga_arena.specs.Numbers.{largest_u64};
     ghost use Rattle.naga_report.specs.Run.{fault_text};
 
     ghost output = { λ fault. Some (fault_text fault) };

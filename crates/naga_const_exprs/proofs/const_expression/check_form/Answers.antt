@@ -14,8 +14,8 @@ pub validate_compose_at-requires-clause-components :
 validate_compose_at-requires-clause-components g c =
     let n = length c.args.mod_info.now.lists.const_expression_types in
     let before = components_before (lists_of c.args.gctx) c.requires.references c.args.handle n c.args.expression.now c.requires.there c.requires.typed c.in-Compose.ty c.in-Compose.components c.in-Compose.is in
-    subst (λ (os : List ℕ). All (λ o. o < length c.const_expression_types.result.now) os) (sym c.as_slice.ensures)
-    (subst (λ (m : ℕ). All (λ o. o < m) c.in-Compose.components) (sym (ap length c.const_expression_types.ensures)) before)
+    subst (λ (os : List ℕ). All (λ o. o < length c.const_expression_types-types.result.now) os) (sym c.as_slice.ensures)
+    (subst (λ (m : ℕ). All (λ o. o < m) c.in-Compose.components) (sym (ap length c.const_expression_types-types.ensures)) before)
 
 pub index-requires : goal.index-requires
 index-requires g c =

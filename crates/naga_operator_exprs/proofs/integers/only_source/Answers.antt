@@ -6,11 +6,11 @@ use Rattle.naga_operator_exprs.proofs.integers.only_source.Goals as goal
 use Rattle.naga_operator_exprs.specs.steps.Places.{IsSource}
 
 pub index-requires : goal.index-requires
-index-requires c = constant_exists (surroundings c.args.context) c.requires.sound c.args.place.now c.in-Constant.constant (c.expression_at.ensures ∙ ap Some c.in-Constant.is)
+index-requires c = constant_exists (surroundings c.args.context) c.requires.sound c.args.place.now c.in-Constant.handle (c.expression_at.ensures ∙ ap Some c.in-Constant.is)
 
 pub returns-in-Constant-clause-source : goal.returns-in-Constant-clause-source
 returns-in-Constant-clause-source c =
-    constant_source (surroundings c.args.context) c.requires.sound c.args.place.now c.requires.exists c.in-Constant.constant c.index.result.now (c.expression_at.ensures ∙ ap Some c.in-Constant.is) c.index.ensures
+    constant_source (surroundings c.args.context) c.requires.sound c.args.place.now c.requires.exists c.in-Constant.handle c.index.result.now (c.expression_at.ensures ∙ ap Some c.in-Constant.is) c.index.ensures
 
 pub returns-in-Splat-clause-source : goal.returns-in-Splat-clause-source
 returns-in-Splat-clause-source c =
@@ -29,11 +29,12 @@ only_one (x ∷ []) o d one is = ((0, omega arith, sym is), λ y within. sole y 
         sym same ∙ sym is
 only_one (x ∷ y ∷ rest) o d one is = cc one
 
-pub returns-else-components-ne1-clause-source : goal.returns-else-components-ne1-clause-source
-returns-else-components-ne1-clause-source c =
+pub returns-in-len1-clause-source : goal.returns-in-len1-clause-source
+returns-in-len1-clause-source c =
     let s = surroundings c.args.context in
     let components = c.in-Compose.components in
-    let o = c.index-components-0.result in
-    let alone = only_one components o o (ap length (sym c.as_slice-components.ensures) ∙ c.if-components-ne1.false) (c.index-components-0.is ∙ ap (λ (os : List ℕ). get_or os 0 o) c.as_slice-components.ensures) in
-    subst (IsSource s c.args.place.now) (sym c.beside-in-Compose.ensures)
+    let o = c.component-item.result in
+    let one : length c.as_slice.result.now ≡ 1 = omega (arith, c.in-len1.len_at_least, c.in-len1.len_below) in
+    let alone = only_one components o o (ap length (sym c.as_slice.ensures) ∙ one) (c.component-item.is ∙ ap (λ (os : List ℕ). get_or os 0 o) c.as_slice.ensures) in
+    subst (IsSource s c.args.place.now) (sym c.beside-in-len1.ensures)
     (component_source s c.requires.sound c.args.place.now c.requires.exists c.in-Compose.ty components o (c.expression_at.ensures ∙ ap Some c.in-Compose.is) alone.0 alone.1)
