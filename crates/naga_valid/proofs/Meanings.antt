@@ -5,7 +5,8 @@ use Rattle.std.specs.declared.alloc.Global.{Global}
 use Rattle.naga_access_exprs.specs.Accesses.{IsAccessMeant, access_conditions, lengths}
 use Rattle.naga_exprs.specs.ExpressionRule.{IsMeant}
 use Rattle.naga_flags.specs.declared.flags.ShaderStages.{ShaderStages}
-use Rattle.naga_image_exprs.specs.Coordinates.{bad_layer, is_integer_scalar}
+use Rattle.naga_image_exprs.specs.Coordinates.{bad_layer}
+use Rattle.naga_operands.specs.Words.{is_integer_scalar}
 use Rattle.naga_image_exprs.specs.Resources.{and_then}
 use Rattle.naga_image_exprs.specs.Samples.{IsImageSampleMeant, bad_clamp, bad_class, bad_comparison, bad_coordinate, bad_depth_reference, bad_external, bad_gather, bad_level, bad_offset, level_stages, sample_conditions, sampled}
 use Rattle.naga_image_exprs.specs.declared.resource.ImageType.{ImageType}
