@@ -143,9 +143,9 @@ fn validate_form<T: Typing>(
 /// The pipeline stages that may use an expression of a function (naga's `Validator::validate_expression`).
 ///
 /// The handles of the module are right, and those of the function but for the types of its variables.
-/// `mod_info` says of each type what it may be used for. All that the expression refers to exists. Its operands come before `root`, and `info` and
-/// `kinds` know them; what the types in `info` refer to exists. Each `FunctionArgument` before `root` names
-/// an argument. If the expression is the result of a call, `mod_info` knows the function. What
+/// `mod_info` says of each type what it may be used for. All that the expression refers to exists. Its
+/// operands come before `root`, and `info` and `kinds` know them; what the types in `info` refer to exists.
+/// Each `FunctionArgument` before `root` names an argument. If the expression is the result of a call, `mod_info` knows the function. What
 /// mathematical functions take is what the typing accepts.
 ///
 /// Accepting takes no memory. The cost is linear in the expression's own components, in the members of
