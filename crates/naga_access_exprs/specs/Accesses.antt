@@ -72,9 +72,9 @@ access_conditions s base index length =
 
 -- what is meant by the rule of an access, by the length of its base
 abbrev pub IsAccessMeant : ExpressionSurroundings → ℕ → ℕ → Result ShaderStages ExpressionError → Type 0
-IsAccessMeant s base index result =
+IsAccessMeant s base index meant =
     let g = global_lists s.«module» in
-    (length : Result IndexableLength IndexableLengthError) × IsLength g (lengths s.resolved g) (form_at s base) length × (result ≡ judged (access_conditions s base index length) every_stage)
+    (length : Result IndexableLength IndexableLengthError) × IsLength g (lengths s.resolved g) (form_at s base) length × (meant ≡ judged (access_conditions s base index length) every_stage)
 
 -- the limit of the indexes into an array: its count if that is written, and else the greatest that there is
 abbrev pub count_limit : ArraySize → ℕ

@@ -1,7 +1,7 @@
 //! The tests of `naga_exprs::expression`: each expression is the last of a function of a small module.
 
 ghost use Rattle.std.specs.Prelude.{◌≡◌, ◌<◌, ◌≤◌, ℕ, All, IfOk, IsTrue, Some, length, slice_get};
-ghost use Rattle.naga_ir.specs.Handles.{FunctionReferencesOk, HandlesAccepted};
+ghost use Rattle.naga_ir.specs.Handles.{ExpressionReferencesOk, HandlesAccepted};
 ghost use Rattle.naga_ir.specs.ItemReferences.{global_lists};
 ghost use Rattle.naga_ir.specs.declared.expression.Expression.TheVariants as form;
 ghost use Rattle.naga_typing.specs.Resolutions.{ResolutionExists};
@@ -143,7 +143,7 @@ fn kinds_of(
     module: &Module,
     function: &Function,
 ) -> Result<ExpressionKindTracker, OutOfMemory>
-    requires { FunctionReferencesOk «module».now function.now }
+    requires { ExpressionReferencesOk «module».now function.now }
     ensures { IfOk result (λ kinds. length kinds ≡ length function.now.expressions) }
 {
     ExpressionKindTracker::from_arena(alloc, &function.expressions)

@@ -6,7 +6,7 @@ use Rattle.naga_flags.specs.Bits.{all_stages}
 use Rattle.naga_flags.specs.declared.flags.ShaderStages.{ShaderStages}
 use Rattle.naga_ir.proofs.ReferencesOfItems.{item_in}
 use Rattle.naga_infos.specs.FunctionTypes.{function_resolves, type_of_argument, type_of_local}
-use Rattle.naga_ir.specs.Handles.{Exists, ExistsGlobally, FunctionReferencesOk}
+use Rattle.naga_ir.specs.Handles.{Exists, ExistsGlobally, ExpressionReferencesOk, FunctionReferencesOk}
 use Rattle.naga_ir.specs.ItemReferences.{GlobalLists, expression_references, global_lists}
 use Rattle.naga_ir.specs.References.{named_item}
 use Rattle.naga_ir.specs.declared.expression.Expression.{Expression}
@@ -35,7 +35,7 @@ unfolding named_item
 variable_named x v e = ap named_item e
 
 -- the variable that an expression names exists
-pub local_variable_exists : (m : Module) (f : Function) → FunctionReferencesOk m f → (n : ℕ) (x : Expression) → slice_get f.expressions n ≡ Some x → (v : ℕ) → x ≡ form.LocalVariable v → v < length f.local_variables
+pub local_variable_exists : (m : Module) (f : Function) → ExpressionReferencesOk m f → (n : ℕ) (x : Expression) → slice_get f.expressions n ≡ Some x → (v : ℕ) → x ≡ form.LocalVariable v → v < length f.local_variables
 local_variable_exists m f ok n x at v e =
     All-contains (Exists (counts_in_sight m n (length f.local_variables))) (expression_references x) (to.LocalVariable v) (function_expression_in_sight m f ok n x at) (item_in x (to.LocalVariable v) (variable_named x v e))
 
@@ -48,7 +48,7 @@ module _ (m : Module) (f : Function) (ok : FunctionReferencesOk m f) where
     where
       by_argument : (found : Option FunctionArgument) → slice_get f.arguments i ≡ found → IsLawfulResult g (type_of_argument found)
       by_argument None at = tt
-      by_argument (Some a) at = (all_at (λ (a : FunctionArgument). a.ty < length m.types) f.arguments i a ok.arguments at, tt)
+      by_argument (Some a) at = (all_at (λ (a : FunctionArgument). a.ty < length m.types) f.arguments i a ok.in_expressions.arguments at, tt)
 
   of_pointer : (base : ℕ) → base < length m.types → IsLawfulResult g (Ok (Value (Pointer base space.Function)))
   unfolding parts size_override

@@ -48,8 +48,10 @@ function_references_ok m f among h =
     let all = All-contains (λ (f : Function). All (Exists (function_counts m f)) (function_references f)) (all_functions m) f h.exist.in_functions among in
     let after_signature = all-right In (signature_references f) _ all in
     record {
-      arguments = all-unmap In (λ (a : FunctionArgument). to.Type_ a.ty) f.arguments (all-left In arguments _ (all-left In (signature_references f) _ all));
+      in_expressions = record {
+        arguments = all-unmap In (λ (a : FunctionArgument). to.Type_ a.ty) f.arguments (all-left In arguments _ (all-left In (signature_references f) _ all));
+        expressions = all-left In (flat_map expression_references f.expressions) _ (all-right In (local_references f) _ after_signature);
+        back = λ s t pair. h.back s t (in_function f s t among pair);
+      };
       local_variables = variable_types m f (all-left In (flat_map local_variable_references f.local_variables) _ (all-left In (local_references f) _ after_signature));
-      expressions = all-left In (flat_map expression_references f.expressions) _ (all-right In (local_references f) _ after_signature);
-      back = λ s t pair. h.back s t (in_function f s t among pair);
     }

@@ -159,9 +159,13 @@ pub record GlobalReferencesOk (g : GlobalLists) : Type 0 where
   pub exist : All (ExistsGlobally g) (global_references g)
   pub back : GoBack (OrderedReference g)
 
--- the types of a function's arguments and variables exist, and so does what its expressions refer to, whose operands go back
-pub record FunctionReferencesOk (m : Module) (f : Function) : Type 0 where
+-- the types of a function's arguments exist, and so does what its expressions refer to, whose operands go back
+pub record ExpressionReferencesOk (m : Module) (f : Function) : Type 0 where
   pub arguments : All (λ (a : FunctionArgument). a.ty < length m.types) f.arguments
-  pub local_variables : All (λ (v : LocalVariable). v.ty < length m.types) f.local_variables
   pub expressions : All (Exists (function_counts m f)) (flat_map expression_references f.expressions)
   pub back : GoBack (OrderedOperands f.expressions)
+
+-- the references of a function's arguments and expressions are right, and the types of its variables exist
+pub record FunctionReferencesOk (m : Module) (f : Function) : Type 0 where
+  pub in_expressions : ExpressionReferencesOk m f
+  pub local_variables : All (λ (v : LocalVariable). v.ty < length m.types) f.local_variables

@@ -7,7 +7,8 @@
 -- Handles.SizeGatesHold: no expression that sizes a type names that type or a later one, and none before it does
 -- Handles.HandlesAccepted: these three
 -- Handles.GlobalReferencesOk: the same of types and global expressions
--- Handles.FunctionReferencesOk: the same of the arguments, variables and expressions of a function
+-- Handles.ExpressionReferencesOk: the same of the arguments and expressions of a function
+-- Handles.FunctionReferencesOk: and of its variables
 -- Ranks.rank_of_type, rank_of_expression: the index of each in the order of visits
 pub mod FirstFailure
 pub mod Handles

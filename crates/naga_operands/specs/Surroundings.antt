@@ -1,16 +1,14 @@
 -- What an expression of a function is judged by, beside its form.
 use Rattle.std.specs.Prelude.{◌≡◌, ◌<◌, ◌≤◌, ℕ, Bool as Truth, false, List, Option, Some, None, All, length, slice_get}
-use Rattle.std.specs.List.{flat_map}
 use Rattle.naga_flags.specs.declared.flags.ShaderStages.{ShaderStages}
 use Rattle.naga_flags.specs.declared.flags.TypeFlags.{TypeFlags}
 use Rattle.naga_infos.specs.ModuleInfo.{ModuleInfoLists}
-use Rattle.naga_ir.specs.Handles.{Exists, GoBack, HandlesAccepted, OrderedOperands, function_counts}
+use Rattle.naga_ir.specs.Handles.{Exists, ExpressionReferencesOk, HandlesAccepted, function_counts}
 use Rattle.naga_ir.specs.ItemReferences.{expression_references, global_lists}
 use Rattle.naga_ir.specs.References.{operands}
 use Rattle.naga_ir.specs.declared.expression.Expression.{Expression}
 use Rattle.naga_ir.specs.declared.expression.Expression.TheVariants as form
 use Rattle.naga_ir.specs.declared.ir.Function.{Function}
-use Rattle.naga_ir.specs.declared.ir.FunctionArgument.{FunctionArgument}
 use Rattle.naga_ir.specs.declared.ir.Module.{Module}
 use Rattle.naga_ir_types.specs.declared.types.TypeInner.{TypeInner}
 use Rattle.naga_ir_types.specs.declared.types.TypeInner.TheVariants.{Sampler}
@@ -60,12 +58,6 @@ bits_in None = 0
 -- what the type at a place may be used for
 abbrev pub flags_at : ExpressionSurroundings → ℕ → ℕ
 flags_at s t = bits_in (slice_get s.infos.type_flags t)
-
--- the types of a function's arguments exist, and so does what its expressions refer to, whose operands go back
-pub record ExpressionReferencesOk (m : Module) (f : Function) : Type 0 where
-  pub arguments : All (λ (a : FunctionArgument). a.ty < length m.types) f.arguments
-  pub expressions : All (Exists (function_counts m f)) (flat_map expression_references f.expressions)
-  pub back : GoBack (OrderedOperands f.expressions)
 
 -- the handles of the module are right, and so are those of the function and of the types of its expressions; and it is known what each type may be used for
 pub record AreSound (s : ExpressionSurroundings) : Type 0 where

@@ -6,7 +6,7 @@ use Rattle.std.specs.Option.{option_and_then}
 use Rattle.naga_arena.proofs.Elements.{all-left, all-of, all-right, all-unmap, all_at}
 use Rattle.naga_ir.proofs.Handles.{global_references_ok}
 use Rattle.naga_ir.proofs.ReferencesOfItems.{item_in, within_all}
-use Rattle.naga_ir.specs.Handles.{Exists, FunctionReferencesOk, HandlesAccepted, among_globals, module_counts, operand, own_operand}
+use Rattle.naga_ir.specs.Handles.{Exists, ExpressionReferencesOk, HandlesAccepted, among_globals, module_counts, operand, own_operand}
 use Rattle.naga_ir.specs.ItemReferences.{constant_references, expression_references, global_lists, named_references, override_references, type_references}
 use Rattle.naga_ir.specs.References.{named_item, named_type, operands}
 use Rattle.naga_ir.specs.declared.expression.Expression.{Expression}
@@ -134,7 +134,7 @@ global_expression_in_sight m handles n x at =
     (λ o names. handles.back _ _ (among_globals _ _ (operand n o x at names)))
 
 -- and so with an expression of a function
-pub function_expression_in_sight : (m : Module) (f : Function) → FunctionReferencesOk m f → (n : ℕ) (x : Expression) → slice_get f.expressions n ≡ Some x
+pub function_expression_in_sight : (m : Module) (f : Function) → ExpressionReferencesOk m f → (n : ℕ) (x : Expression) → slice_get f.expressions n ≡ Some x
     → All (Exists (counts_in_sight m n (length f.local_variables))) (expression_references x)
 function_expression_in_sight m f ok n x at =
     let P = Exists (counts_in_sight m (length f.expressions) (length f.local_variables)) in

@@ -2,7 +2,7 @@
 use Rattle.std.proofs.Common.{◌≡◌, ℕ, List, [], ◌∷◌, ◌++◌, Some, Ok, All, length, slice_get, refl, sym, subst, ap, ◌∙◌, length-append}
 use Rattle.std.specs.List.{enumerate_from}
 use Rattle.std.proofs.lemmas.List.Elements.{All-append, All-cons, All-nil}
-use Rattle.naga_ir.specs.Handles.{FunctionReferencesOk, HandlesAccepted}
+use Rattle.naga_ir.specs.Handles.{ExpressionReferencesOk, HandlesAccepted}
 use Rattle.naga_ir.specs.ItemReferences.{global_lists}
 use Rattle.naga_ir.specs.declared.expression.Expression.{Expression}
 use Rattle.naga_ir.specs.declared.ir.Function.{Function}
@@ -87,7 +87,7 @@ module _ (m : Module) where
         one_typed m m.global_expressions earlier left n x more r e found now (laws.exist m x earlier found can_resolve_next is) (laws.proper m x earlier found can_resolve_next is) same
 
   -- the next expression of a function can be resolved
-  pub can_resolve_in_function : (f : Function) → HandlesAccepted m → FunctionReferencesOk m f
+  pub can_resolve_in_function : (f : Function) → HandlesAccepted m → ExpressionReferencesOk m f
       → (earlier : List TypeResolution) (left : List (ℕ × Expression)) (n : ℕ) (x : Expression) (more : List (ℕ × Expression))
       → Typed m f.expressions earlier left → left ≡ (n, x) ∷ more → CanResolve m x earlier
   can_resolve_in_function f handles ok earlier left n x more r e = record {

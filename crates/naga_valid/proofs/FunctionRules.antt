@@ -83,7 +83,7 @@ module _ (s : FunctionSurroundings) where
       let earlier : (o : ℕ) → Contains (operands x) o → o < place = λ o names. can.in_function.back _ _ (own_operand place o x at names) in
       let within = slice_get_within f.expressions place x at in
       record {
-        sound = record { handles = can.handles; in_function = record { arguments = can.in_function.arguments; expressions = can.in_function.expressions; back = can.in_function.back }; types_exist = can.exist; flags = can.flags };
+        sound = record { handles = can.handles; in_function = can.in_function; types_exist = can.exist; flags = can.flags };
         references = all-of (Exists (function_counts m f)) (expression_references x) (λ r names. All-contains (Exists (function_counts m f)) _ r can.in_function.expressions (within_all expression_references f.expressions place x r at names));
         before = all-of (λ o. o < place) (operands x) earlier;
         typed = all-of (λ o. o < length types) (operands x) (λ o names. omega (arith, earlier o names, typed));

@@ -1,7 +1,7 @@
 -- What is known when the rules of a function's expressions are asked.
 use Rattle.std.specs.Prelude.{◌≡◌, ◌⊎◌, ◌<◌, ◌≤◌, ℕ, List, All, Err, length}
 use Rattle.naga_flags.specs.declared.flags.ShaderStages.{ShaderStages}
-use Rattle.naga_ir.specs.Handles.{FunctionReferencesOk, HandlesAccepted}
+use Rattle.naga_ir.specs.Handles.{ExpressionReferencesOk, HandlesAccepted}
 use Rattle.naga_ir.specs.ItemReferences.{global_lists}
 use Rattle.naga_operands.specs.declared.error.ExpressionError.{ExpressionError}
 use Rattle.naga_typing.specs.Resolutions.{ResolutionExists}
@@ -13,7 +13,7 @@ use Rattle.naga_valid.specs.declared.function.FunctionError.TheVariants.{Express
 -- the rules of a function's expressions can be asked, by these types
 pub record CanAskRules (s : FunctionSurroundings) (types : List TypeResolution) : Type 0 where
   pub handles : HandlesAccepted s.«module»
-  pub in_function : FunctionReferencesOk s.«module» s.function
+  pub in_function : ExpressionReferencesOk s.«module» s.function
   pub flags : length s.«module».types ≤ length s.infos.type_flags
   pub calls : CallsBefore s.function (length s.infos.functions)
   pub reached : AreTypesReached s types

@@ -34,13 +34,13 @@ loop-handle-init g c =
 
 pub push_type_of-requires-clause-can_resolve : goal.push_type_of-requires-clause-can_resolve
 push_type_of-requires-clause-can_resolve g c =
-    can_resolve_in_function c.args.module.now c.args.function.now c.requires.handles c.requires.in_function _ _ _ _ _ c.loop-handle.invariant.typed c.in-Some.ensures.steps
+    can_resolve_in_function c.args.module.now c.args.function.now c.requires.handles c.requires.in_function.in_expressions _ _ _ _ _ c.loop-handle.invariant.typed c.in-Some.ensures.steps
 
 pub push_type_of-requires-clause-variable_exists : goal.push_type_of-requires-clause-variable_exists
 push_type_of-requires-clause-variable_exists g c =
     let m = c.args.module.now in
     let f = c.args.function.now in
-    local_variable_exists m f c.requires.in_function _ _ (next_there m f.expressions _ _ _ _ _ c.loop-handle.invariant.typed c.in-Some.ensures.steps)
+    local_variable_exists m f c.requires.in_function.in_expressions _ _ (next_there m f.expressions _ _ _ _ _ c.loop-handle.invariant.typed c.in-Some.ensures.steps)
 
 pub loop-handle-preserved : goal.loop-handle-preserved
 loop-handle-preserved g c =
@@ -54,7 +54,7 @@ loop-handle-preserved g c =
     let h = c.in_default.ensures.result in
     let types = ap types_of h.2 in
     let at : slice_get f.expressions (length earlier) ≡ Some x = next_there m f.expressions _ _ _ x _ typed c.in-Some.ensures.steps in
-    let can = can_resolve_in_function m f c.requires.handles c.requires.in_function _ _ _ x _ typed c.in-Some.ensures.steps in
+    let can = can_resolve_in_function m f c.requires.handles c.requires.in_function.in_expressions _ _ _ x _ typed c.in-Some.ensures.steps in
     let good = function_type_lawful m f c.requires.in_function resolves (g.met.T.Typing.lawful c.args.typing.now) x earlier h.0 can h.1 in
     let given : given_at rule f.expressions earlier (length earlier) ≡ Some (Ok h.0) = rw (at) (ap Some h.1) in
     record {
