@@ -4,7 +4,7 @@ use Rattle.std.proofs.lemmas.List.{drop-map, drop_more}
 use Rattle.std.proofs.lemmas.Option.{option_and_then_some, same_Some}
 use Rattle.std.specs.Option.{option_and_then, option_map}
 use Rattle.naga_text.specs.Forms.{Fill, Part}
-use Rattle.naga_text.specs.steps.WordForms.{read_each}
+use Rattle.naga_text.specs.WordForms.{read_each}
 
 module _ {A : Type 0} (reader : List ℕ → Option A) where
   -- values are read of words that write them one by one, and of all such words

@@ -6,7 +6,7 @@ use Rattle.naga_ir_types.specs.declared.types.Binding.TheVariants.{BuiltIn, Loca
 use Rattle.naga_ir_types.specs.declared.types.StructMember.{StructMember}
 use Rattle.naga_text.specs.Words.{handle_of, number_of, pieces_of}
 use Rattle.naga_text.specs.Forms.{Fill, binding_parts, handle, member_part, of_32_bits}
-use Rattle.naga_text.specs.steps.WordForms.{binding_of, member_in, member_of}
+use Rattle.naga_text.specs.WordForms.{binding_of, member_in, member_of}
 use Rattle.naga_text.proofs.PartLaws.{by_parts}
 
 -- a binding is read of pieces that write it, and of each such list of pieces

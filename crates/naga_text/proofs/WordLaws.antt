@@ -21,7 +21,7 @@ use Rattle.naga_ir_types.specs.declared.types.VectorSize.TheVariants.{Bi, Tri, Q
 use Rattle.naga_text.specs.Bytes.{letter_o, minus}
 use Rattle.naga_text.specs.Words.{handle_of, largest_u16, most_digits, number_of, number_up_to, value_after}
 use Rattle.naga_text.specs.Forms.{array_size_part, handle, number, optional, pointed_components}
-use Rattle.naga_text.specs.steps.WordForms.{◌>>=◌, array_size_of, bounded_size_of, cooperative_size_at, cooperative_size_of, count_at, count_of, optional_of, pointed_size_at, pointed_size_of, size_at, size_of}
+use Rattle.naga_text.specs.WordForms.{◌>>=◌, array_size_of, bounded_size_of, cooperative_size_at, cooperative_size_of, count_at, count_of, optional_of, pointed_size_at, pointed_size_of, size_at, size_of}
 use Rattle.naga_text.proofs.TableLaws.{by_number, by_test, passed_by}
 
 -- a size has its own number alone, and each size's number is that of it

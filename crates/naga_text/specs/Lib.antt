@@ -2,6 +2,7 @@
 -- Words.lines_of, words_of, pieces_of, number_up_to, integer_up_to: how bytes part into lines, words and pieces, and the numbers that words write
 -- Tables.chosen, kinds, spaces, classes: the words that stand for values
 -- Forms.type_form, expression_form, form, IsForm: how each type, each expression and each line is written
+-- WordForms.size_of, array_size_of, optional_of: what the readers of one word return
 -- Text.has_content, module_of, contents_of: which lines say something, and what lines say together
 -- Text.AreConsistent: which lines can make one text
 -- Text.IsText, IsFirstUnreadable: what a text says, or its first line that can't be read
@@ -9,5 +10,6 @@ pub mod Bytes
 pub mod Forms
 pub mod Tables
 pub mod Text
+pub mod WordForms
 pub mod Words
 pub mod steps

@@ -1,4 +1,3 @@
 -- What the private functions say of their steps.
 pub mod LineForms
 pub mod SoFar
-pub mod WordForms

@@ -2,7 +2,7 @@
 
 ghost use Rattle.naga_text.specs.Words.{handle_of};
 ghost use Rattle.naga_text.specs.steps.LineForms.{binary_of, compose_of, constant_expression_of, expression_of, fixed_expression_readers, literal_expression_of, override_expression_of, read_by, splat_of, unary_of, zero_value_of};
-ghost use Rattle.naga_text.specs.steps.WordForms.{read_each};
+ghost use Rattle.naga_text.specs.WordForms.{read_each};
 ghost use Rattle.std.specs.Prelude.{◌≡◌, IfOk, map};
 
 use crate::literals::literal;

@@ -2,11 +2,11 @@
 #![tactic(auto)]
 
 mod expressions;
-mod line;
+pub mod line;
 mod literals;
 mod members;
-mod number;
+pub mod number;
 mod pieces;
 pub mod text;
 mod types;
-mod words;
+pub mod words;

@@ -1,6 +1,6 @@
 //! The members of a struct, each in one word.
 
-ghost use Rattle.naga_text.specs.steps.WordForms.{binding_of, member_in, member_of, read_each};
+ghost use Rattle.naga_text.specs.WordForms.{binding_of, member_in, member_of, read_each};
 ghost use Rattle.std.specs.Prelude.{◌≡◌, IfOk, map};
 
 use crate::number::{handle, number};

@@ -1,7 +1,7 @@
 //! Numbers in decimal digits, and the minus that stands for none.
 
 ghost use Rattle.naga_text.specs.Words.{handle_of, integer_up_to, largest_i64, largest_u16, number_of, number_up_to};
-ghost use Rattle.naga_text.specs.steps.WordForms.{optional_of};
+ghost use Rattle.naga_text.specs.WordForms.{optional_of};
 ghost use Rattle.std.specs.Prelude.{◌≡◌, ◌+◌, ◌≤◌, ◌≤ℤ◌, IfSome, neg_ℤ, pos};
 
 use crate::words::equals;

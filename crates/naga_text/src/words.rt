@@ -1,7 +1,7 @@
 //! Words that stand for a few values.
 
 ghost use Rattle.naga_text.specs.Tables.{binary_operators, chosen, classes, dimensions, kinds, roles, spaces, truths, unary_operators};
-ghost use Rattle.naga_text.specs.steps.WordForms.{array_size_of, cooperative_size_of, count_at, count_of, pointed_size_of, size_at, size_of};
+ghost use Rattle.naga_text.specs.WordForms.{array_size_of, cooperative_size_of, count_at, count_of, pointed_size_of, size_at, size_of};
 ghost use Rattle.std.specs.Prelude.{◌≡◌, bytes_eq, map};
 
 use crate::number::{handle, number, number_up_to};
@@ -22,7 +22,7 @@ pub fn equals(word: &[u8], other: &[u8]) -> bool
 }
 
 /// The value beside a word in a table, if it is there.
-fn chosen<T: Copy>(table: &[(&str, T)], word: &[u8]) -> Option<T>
+pub fn chosen<T: Copy>(table: &[(&str, T)], word: &[u8]) -> Option<T>
     ensures { result ≡ chosen (map (λ row. (row.0.now, row.1)) table.now) word.now }
 {
     for (name, value) in table {

@@ -1,6 +1,6 @@
 use Rattle.std.proofs.Common.{◌≡◌, drop, map}
 use Rattle.naga_text.specs.Words.{handle_of}
-use Rattle.naga_text.specs.steps.WordForms.{read_each}
+use Rattle.naga_text.specs.WordForms.{read_each}
 use Rattle.naga_text.proofs.EachLaws.{after}
 use Rattle.naga_text.proofs.expressions.components.Given as goal
 

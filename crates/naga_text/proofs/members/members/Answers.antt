@@ -1,5 +1,5 @@
 use Rattle.naga_text.proofs.EachLaws.{stopped, went_on}
-use Rattle.naga_text.specs.steps.WordForms.{member_of}
+use Rattle.naga_text.specs.WordForms.{member_of}
 use Rattle.naga_text.proofs.members.members.Goals as goal
 
 pub returns-in-None : goal.returns-in-None

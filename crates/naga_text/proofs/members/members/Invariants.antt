@@ -1,5 +1,5 @@
 use Rattle.std.proofs.Common.{◌≡◌, drop, map}
-use Rattle.naga_text.specs.steps.WordForms.{member_of, read_each}
+use Rattle.naga_text.specs.WordForms.{member_of, read_each}
 use Rattle.naga_text.proofs.EachLaws.{after}
 use Rattle.naga_text.proofs.members.members.Given as goal
 
