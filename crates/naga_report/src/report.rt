@@ -180,8 +180,17 @@ fn add_type(text: &mut String, handle: Handle<TypeTag>, info: TypeInfo) -> Resul
     text.push_str("\n")
 }
 
-/// The report on an accepted module: a line for each type, and `ok`.
-fn accepted(alloc: Global, module: &Module, validator: &Validator) -> Result<String, AllocError>
+/// The report on a module that a validator has accepted: a line for each type with its flags in
+/// hexadecimal and its uniform and storage layout, and `ok`.
+///
+/// # Errors
+///
+/// `AllocError` if a request for memory was refused.
+pub fn report_accepted(
+    alloc: Global,
+    module: &Module,
+    validator: &Validator,
+) -> Result<String, AllocError>
     requires { length validator.now.infos ≡ length «module».now.types }
     ensures { IfOk result (λ text. string_bytes text ≡ accepted_text validator.now.infos) }
 {
@@ -201,7 +210,11 @@ fn refused_line(alloc: Global, item: &str, index: usize, name: &str) -> Result<S
 }
 
 /// The report on a refused module: one line with the kind of the error and its name.
-fn refused(alloc: Global, error: &ValidationError) -> Result<String, AllocError>
+///
+/// # Errors
+///
+/// `AllocError` if a request for memory was refused.
+pub fn report_refused(alloc: Global, error: &ValidationError) -> Result<String, AllocError>
     ensures { IfOk result (λ text. string_bytes text ≡ refused_text error.now) }
 {
     match error {
@@ -267,11 +280,11 @@ fn report_contents(alloc: Global, contents: &Contents) -> Result<Report, AllocEr
     let mut validator = Validator::new(alloc, contents.flags, contents.capabilities);
     match validate(&mut validator, contents) {
         Ok(_) => Ok(Report {
-            text: accepted(alloc, &contents.module, &validator)?,
+            text: report_accepted(alloc, &contents.module, &validator)?,
             outcome: Outcome::Accepted,
         }),
         Err(error) => Ok(Report {
-            text: refused(alloc, error.as_inner())?,
+            text: report_refused(alloc, error.as_inner())?,
             outcome: Outcome::Refused,
         }),
     }

@@ -1,6 +1,6 @@
 use Rattle.std.proofs.Common.{ℕ, List, ◌++◌, ap, codes, ◌∙◌}
 use Rattle.naga_report.proofs.TypeLines.{begun, ended, within, written}
-use Rattle.naga_report.proofs.report.accepted.Goals as goal
+use Rattle.naga_report.proofs.report.report_accepted.Goals as goal
 
 pub loop-handle-init : goal.loop-handle-init
 loop-handle-init c = begun _ _ c.args.module.now.types _ c.new-text.ensures.bytes c.requires (c.into_iter-handle-iterator.ensures.into_iter_gives ∙ c.iter-handle-items.ensures)

@@ -1,6 +1,6 @@
 use Rattle.std.proofs.Common.{string_bytes}
 use Rattle.naga_report.proofs.TypeLines.{IsWritten}
-use Rattle.naga_report.proofs.report.accepted.Given as goal
+use Rattle.naga_report.proofs.report.report_accepted.Given as goal
 
 -- the lines so far, and those of the types that are left, are all
 abbrev pub invariant-loop-handle : goal.invariant-loop-handle

@@ -12,7 +12,7 @@ pub returns : goal.returns
 returns c =
     let contents = c.args.contents.now in
     let error = inner_of c.in-Err.error in
-    let text_is : string_bytes c.in_ok-refused-in-Err.field-0 ≡ refused_text error = c.in_ok-refused-in-Err.ensures ∙ ap refused_text c.as_inner.ensures in
+    let text_is : string_bytes c.in_ok-report_refused-in-Err.field-0 ≡ refused_text error = c.in_ok-report_refused-in-Err.ensures ∙ ap refused_text c.as_inner.ensures in
     let same : settings_of c.new-validator.result contents.resolved ≡ settings_in contents = ap (λ (s : State PlainTyping). settings_of s contents.resolved) c.new-validator.ensures in
     ⊎_elim
     (λ (o : inner_of c.in-Err.error ≡ OutOfMemory). inl (text_is ∙ ap refused_text o))
