@@ -53,6 +53,13 @@ impl ImmediateSlots {
         ImmediateSlots(raw)
     }
 
+    /// The set as bits: bit `k` is 1 if slot `k` is in the set, else 0.
+    pub fn to_raw(self) -> u64
+        ensures { result ≡ self.0 }
+    {
+        self.0
+    }
+
     /// The slots of which `size_bytes` bytes from `offset` on have a byte. If there are no bytes, that
     /// is none. Bytes from 256 on are in no slot; sums are whole numbers.
     pub fn from_range(offset: u32, size_bytes: u32) -> ImmediateSlots
