@@ -1,0 +1,2 @@
+mod Acceptance
+mod Validation

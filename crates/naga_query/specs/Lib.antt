@@ -1,0 +1,2 @@
+-- What is known before functions of the library are called.
+pub mod Accepted

@@ -1,0 +1,181 @@
+//! Answers about whole functions: the types of their expressions by the full typing, and the stages that may
+//! use them.
+
+ghost use Rattle.std.specs.Prelude.{◌≡◌, ◌≤◌, IfOk, IfSome, OnOk, [], length};
+ghost use Rattle.naga_ir.specs.Handles.{FunctionReferencesOk, HandlesAccepted};
+ghost use Rattle.naga_valid.specs.Functions.{CallsBefore, CanJudgeFunction, CanJudgeInOrder};
+
+use crate::answers::modules::{add_error, add_not_applicable};
+use crate::draft::{Callable, Draft};
+use crate::session::Session;
+use bitflags::Flags;
+use naga_valid::{
+    FullTyping, Function, FunctionError, FunctionInfo, Module, ModuleInfo, OutOfMemory,
+    TypeResolution,
+};
+use std::alloc::AllocError;
+
+/// Adds the types of a function's expressions, and the stages that may use the function.
+fn add_info(answer: &mut String, info: &FunctionInfo) -> Result<(), AllocError> {
+    for (place, ty) in info.types.as_slice().iter().enumerate() {
+        match ty {
+            TypeResolution::Handle(ty) => {
+                let index = ty.index();
+                write!(answer, "E{place} T{index}\n")?;
+            }
+            TypeResolution::Value(inner) => write!(answer, "E{place} {inner:?}\n")?,
+        }
+    }
+    let bits = info.available_stages.bits();
+    write!(answer, "stages {bits:x}\n")
+}
+
+/// Adds which expression of a function is refused first, and why.
+fn add_refusal(
+    answer: &mut String,
+    letter: char,
+    index: usize,
+    error: &FunctionError,
+) -> Result<(), OutOfMemory> {
+    match error {
+        FunctionError::Expression { handle, source } => {
+            let place = handle.index();
+            write!(answer, "{letter}{index} E{place} refused {source:?}\n")?;
+            Ok(())
+        }
+        FunctionError::OutOfMemory => Err(OutOfMemory),
+    }
+}
+
+/// A function that is refused, by its index, and why.
+type Refusal = (usize, FunctionError);
+
+/// Validates the first functions of a module, and adds what is known of each to its info.
+fn validate_first(
+    session: &Session<FullTyping>,
+    draft: &Draft,
+    info: &mut ModuleInfo,
+    count: usize,
+) -> Result<(), Refusal>
+    requires handles { HandlesAccepted draft.now.«module» }
+    requires in_order { CanJudgeInOrder draft.now.«module» }
+    requires flags { length draft.now.«module».types ≤ length info.old.lists.type_flags }
+    requires none { info.old.lists.functions ≡ [] }
+    requires count { count ≤ length draft.now.«module».functions }
+    ensures functions { OnOk result (length info.new.lists.functions ≡ count) }
+    ensures flags { OnOk result (length draft.now.«module».types ≤ length info.new.lists.type_flags) }
+{
+    let functions = draft.module.functions.as_slice();
+    let validator = session.validator();
+    for index in 0..count {
+        let function = &functions[index];
+        let resolved = draft.resolved();
+        let known = match validator.validate_function_expressions(
+            &draft.module,
+            info,
+            function,
+            resolved,
+        ) {
+            Ok(known) => known,
+            Err(error) => return Err((index, error)),
+        };
+        if info.push_function(known).is_err() {
+            return Err((index, FunctionError::OutOfMemory));
+        }
+    }
+    Ok(())
+}
+
+/// Adds what is known of a function whose callees are known, or which expression is refused first.
+fn add_validated(
+    session: &Session<FullTyping>,
+    answer: &mut String,
+    draft: &Draft,
+    info: &ModuleInfo,
+    wanted: Wanted<'_>,
+) -> Result<(), OutOfMemory>
+    requires handles { HandlesAccepted draft.now.«module» }
+    requires flags { length draft.now.«module».types ≤ length info.now.lists.type_flags }
+    requires wanted { CanJudgeFunction draft.now.«module» wanted.function.now (length info.now.lists.functions) }
+{
+    let validator = session.validator();
+    let resolved = draft.resolved();
+    match validator.validate_function_expressions(&draft.module, info, wanted.function, resolved) {
+        Ok(known) => Ok(add_info(answer, &known)?),
+        Err(error) => add_refusal(answer, wanted.letter, wanted.index, &error),
+    }
+}
+
+/// A function or the function of an entry point, how its answers begin, and how many functions have to be known
+/// before it is validated.
+#[derive(Clone, Copy)]
+struct Wanted<'a> {
+    letter: char,
+    index: usize,
+    function: &'a Function,
+    before: usize,
+}
+
+/// The function or entry point, if it is there.
+fn wanted_of(module: &Module, callable: Callable) -> Option<Wanted<'_>>
+    requires { CanJudgeInOrder «module».now }
+    ensures can { IfSome result (λ w. CanJudgeFunction «module».now w.function.now w.before) }
+    ensures before { IfSome result (λ w. w.before ≤ length «module».now.functions) }
+{
+    match callable {
+        Callable::Function(index) => {
+            let function = module.functions.as_slice().get(index)?;
+            Some(Wanted {
+                letter: 'F',
+                index,
+                function,
+                before: index,
+            })
+        }
+        Callable::EntryPoint(index) => {
+            let entry_point = module.entry_points.as_slice().get(index)?;
+            Some(Wanted {
+                letter: 'N',
+                index,
+                function: &entry_point.function,
+                before: module.functions.len(),
+            })
+        }
+    }
+}
+
+/// Adds what is known of a function or entry point of an accepted module, after those before it.
+fn add_after_others(
+    session: &Session<FullTyping>,
+    answer: &mut String,
+    draft: &Draft,
+    info: &mut ModuleInfo,
+    callable: Callable,
+) -> Result<(), OutOfMemory>
+    requires handles { HandlesAccepted draft.now.«module» }
+    requires in_order { CanJudgeInOrder draft.now.«module» }
+    requires flags { length draft.now.«module».types ≤ length info.old.lists.type_flags }
+    requires none { info.old.lists.functions ≡ [] }
+{
+    let Some(wanted) = wanted_of(&draft.module, callable) else {
+        return Ok(add_not_applicable(answer, "no such function")?);
+    };
+    if let Err((index, error)) = validate_first(session, draft, info, wanted.before) {
+        return add_refusal(answer, 'F', index, &error);
+    }
+    add_validated(session, answer, draft, info, wanted)
+}
+
+/// Adds the types of the expressions of a function or entry point and the stages that may use it, or what is
+/// refused: the module, or the first expression of it or of a function before it.
+pub fn add_callable(
+    session: &mut Session<FullTyping>,
+    answer: &mut String,
+    draft: &Draft,
+    callable: Callable,
+) -> Result<(), OutOfMemory> {
+    match session.validate(draft) {
+        Ok(mut info) => add_after_others(session, answer, draft, &mut info, callable),
+        Err(error) => add_error(answer, &error),
+    }
+}

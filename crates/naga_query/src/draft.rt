@@ -1,0 +1,425 @@
+//! A module, and how it is validated, while lines are read.
+
+use crate::forms::expression;
+use crate::functions::{Finished, OpenFunction, Part, SaidTypes, part_of};
+use crate::items::{MOST_ITEMS, append, known, only_handle, only_word};
+use crate::unread::Unread;
+use bitflags::Flags;
+use naga_text::line::{Line, read_line};
+use naga_text::number::{handle, index, number_up_to, optional_handle};
+use naga_text::words::{chosen, space};
+use naga_valid::{
+    Capabilities, Constant, DiagnosticFilterNode, GlobalVariable, List, Module, OutOfMemory,
+    Override, ShaderStages, Span, Text, Type, TypeInner, ValidationFlags,
+};
+use std::alloc::Global;
+
+/// What a line adds to a module that the line text doesn't have.
+#[derive(Clone, Copy)]
+enum Keyword {
+    Name,
+    GlobalVariable,
+    GlobalExpression,
+    Function,
+    EntryPoint,
+    SpecialTypes,
+    OtherTypes,
+    Filter,
+    FilterLeaf,
+    Comment(Commented),
+}
+
+/// What a comment documents.
+#[derive(Clone, Copy)]
+enum Commented {
+    Type,
+    Function,
+    EntryPoint,
+    Constant,
+    GlobalVariable,
+}
+
+/// The keyword of a word.
+fn keyword_of(word: &[u8]) -> Option<Keyword> {
+    let keywords = [
+        ("name", Keyword::Name),
+        ("global", Keyword::GlobalVariable),
+        ("g", Keyword::GlobalExpression),
+        ("fn", Keyword::Function),
+        ("entry", Keyword::EntryPoint),
+        ("special", Keyword::SpecialTypes),
+        ("others", Keyword::OtherTypes),
+        ("filter", Keyword::Filter),
+        ("filterleaf", Keyword::FilterLeaf),
+        ("doctype", Keyword::Comment(Commented::Type)),
+        ("docfn", Keyword::Comment(Commented::Function)),
+        ("docentry", Keyword::Comment(Commented::EntryPoint)),
+        ("docconst", Keyword::Comment(Commented::Constant)),
+        ("docglobal", Keyword::Comment(Commented::GlobalVariable)),
+    ];
+    chosen(&keywords, word)
+}
+
+/// What a setting becomes by a line, which may not set it again.
+fn set_once<S: Copy>(before: Option<S>, value: S) -> Result<Option<S>, Unread> {
+    match before {
+        None => Ok(Some(value)),
+        Some(_) => Err(Unread::Line),
+    }
+}
+
+/// A function or an entry point of a module.
+#[derive(Clone, Copy)]
+pub enum Callable {
+    Function(usize),
+    EntryPoint(usize),
+}
+
+/// A module, and how it is validated, as far as lines were read.
+#[derive(Drop)]
+pub struct Draft {
+    alloc: Global,
+    pub module: Module,
+    flags: Option<ValidationFlags>,
+    capabilities: Option<Capabilities>,
+    resolved: Option<bool>,
+    /// The stages in which each function's result is available.
+    pub stages: Vec<ShaderStages>,
+    /// The types that the expressions of each function are said to have.
+    pub function_types: Vec<SaidTypes>,
+    /// The same of each entry point.
+    pub entry_types: Vec<SaidTypes>,
+    /// The number, from 1, of the first line that can't be read.
+    pub unreadable: Option<usize>,
+    /// The last function or entry point.
+    pub last: Option<Callable>,
+    /// The name of the next item that may have one.
+    name: Option<Text>,
+    open: Option<OpenFunction>,
+    /// Whether literals stand for arguments that a function doesn't have.
+    has_stand_ins: bool,
+    /// The line that is read, as its number from 1.
+    span: Span,
+}
+
+impl Draft {
+    /// The empty module.
+    fn new(alloc: Global, has_stand_ins: bool) -> Draft {
+        Draft {
+            alloc,
+            module: Module::new(alloc),
+            flags: None,
+            capabilities: None,
+            resolved: None,
+            stages: Vec::new(alloc),
+            function_types: Vec::new(alloc),
+            entry_types: Vec::new(alloc),
+            unreadable: None,
+            last: None,
+            name: None,
+            open: None,
+            has_stand_ins,
+            span: Span::default(),
+        }
+    }
+
+    /// Which parts of the module are validated: all, unless a line says otherwise.
+    pub fn flags(&self) -> ValidationFlags {
+        self.flags.unwrap_or_default()
+    }
+
+    /// What the module may use: the default, unless a line says otherwise.
+    pub fn capabilities(&self) -> Capabilities {
+        self.capabilities.unwrap_or_default()
+    }
+
+    /// Whether overrides have to have their values, which they haven't unless a line says so.
+    pub fn resolved(&self) -> bool {
+        self.resolved.unwrap_or_default()
+    }
+
+    /// `name WORD`
+    fn set_name(&mut self, words: &[&[u8]]) -> Result<(), Unread> {
+        let word = known(only_word(words))?;
+        let Ok(name) = str::from_utf8(word) else {
+            return Err(Unread::Line);
+        };
+        self.name = Some(Text::from_string(String::from_str(self.alloc, name)?));
+        Ok(())
+    }
+
+    /// Adds a type, if there is none that is equal.
+    fn add_type(&mut self, inner: TypeInner) -> Result<(), Unread> {
+        let count = self.module.types.len();
+        if count >= MOST_ITEMS {
+            return Err(Unread::Line);
+        }
+        let name = self.name.take();
+        let added = self.module.types.insert(Type { name, inner }, self.span)?;
+        if added.index() == count {
+            Ok(())
+        } else {
+            Err(Unread::Line)
+        }
+    }
+
+    /// Adds what a line of the line text says.
+    fn add_line(&mut self, line: Line) -> Result<(), Unread> {
+        match line {
+            Line::Flags(flags) => self.flags = set_once(self.flags, flags)?,
+            Line::Capabilities(capabilities) => {
+                self.capabilities = set_once(self.capabilities, capabilities)?;
+            }
+            Line::Resolved => self.resolved = set_once(self.resolved, true)?,
+            Line::Type_(inner) => self.add_type(inner)?,
+            Line::Expression(expression) => {
+                append(&mut self.module.global_expressions, expression, self.span)?;
+            }
+            Line::Constant { ty, init } => {
+                let name = self.name.take();
+                append(
+                    &mut self.module.constants,
+                    Constant { name, ty, init },
+                    self.span,
+                )?;
+            }
+            Line::Override { ty, init, id } => {
+                let name = self.name.take();
+                let item = Override { name, id, ty, init };
+                append(&mut self.module.overrides, item, self.span)?;
+            }
+            Line::Doc { ty, member } => {
+                let comments = &mut self.module.doc_comments.struct_members;
+                comments.push(((ty, member), List::new(self.alloc)))?;
+            }
+        }
+        Ok(())
+    }
+
+    /// `global S T E|-`
+    fn add_global_variable(&mut self, words: &[&[u8]]) -> Result<(), Unread> {
+        let [of, ty, init] = words else {
+            return Err(Unread::Line);
+        };
+        let space = known(space(of))?;
+        let ty = known(handle(ty))?;
+        let init = known(optional_handle(init))?;
+        let name = self.name.take();
+        let variable = GlobalVariable {
+            name,
+            space,
+            ty,
+            init,
+        };
+        append(&mut self.module.global_variables, variable, self.span)
+    }
+
+    /// `fn STAGES`
+    fn open_function(&mut self, words: &[&[u8]]) -> Result<(), Unread> {
+        let word = known(only_word(words))?;
+        let bits = known(number_up_to(word, u64::from(ShaderStages::all().bits())))?;
+        let Ok(bits) = u16::try_from(bits) else {
+            return Err(Unread::Line);
+        };
+        self.close_function()?;
+        self.stages.push(ShaderStages::from_bits_retain(bits))?;
+        self.open = Some(OpenFunction::new(self.alloc, self.name.take()));
+        Ok(())
+    }
+
+    /// `entry`
+    fn open_entry_point(&mut self, words: &[&[u8]]) -> Result<(), Unread> {
+        if !words.is_empty() {
+            return Err(Unread::Line);
+        }
+        self.close_function()?;
+        let name = match self.name.take() {
+            Some(name) => name,
+            None => Text::new(self.alloc),
+        };
+        self.open = Some(OpenFunction::new_entry(self.alloc, name));
+        Ok(())
+    }
+
+    /// Adds the function or entry point to which the lines so far belong, if there is one.
+    fn close_function(&mut self) -> Result<(), Unread> {
+        let Some(mut open) = self.open.take() else {
+            return Ok(());
+        };
+        if self.has_stand_ins {
+            open.replace_missing_arguments();
+        }
+        match open.finish()? {
+            Finished::Function(function, said) => {
+                self.last = Some(Callable::Function(self.module.functions.len()));
+                append(&mut self.module.functions, function, self.span)?;
+                self.function_types.push(said)?;
+            }
+            Finished::EntryPoint(entry_point, said) => {
+                self.last = Some(Callable::EntryPoint(self.module.entry_points.len()));
+                self.module.entry_points.push(entry_point)?;
+                self.entry_types.push(said)?;
+            }
+        }
+        Ok(())
+    }
+
+    /// `special T|- T|- T|-`
+    fn set_special_types(&mut self, words: &[&[u8]]) -> Result<(), Unread> {
+        let [desc, intersection, vertex_return] = words else {
+            return Err(Unread::Line);
+        };
+        let special = &mut self.module.special_types;
+        special.ray_desc = known(optional_handle(desc))?;
+        special.ray_intersection = known(optional_handle(intersection))?;
+        special.ray_vertex_return = known(optional_handle(vertex_return))?;
+        Ok(())
+    }
+
+    /// `others T..`
+    fn add_other_types(&mut self, words: &[&[u8]]) -> Result<(), Unread> {
+        for word in words {
+            let ty = known(handle(word))?;
+            self.module.special_types.others.push(ty)?;
+        }
+        Ok(())
+    }
+
+    /// `filter D|-`
+    fn add_filter(&mut self, words: &[&[u8]]) -> Result<(), Unread> {
+        let parent = known(optional_handle(known(only_word(words))?))?;
+        let node = DiagnosticFilterNode { parent };
+        append(&mut self.module.diagnostic_filters, node, self.span)
+    }
+
+    /// Adds a comment without texts on an item.
+    fn add_comment(&mut self, on: Commented, words: &[&[u8]]) -> Result<(), Unread> {
+        let texts = List::new(self.alloc);
+        let comments = &mut self.module.doc_comments;
+        match on {
+            Commented::Type => comments.types.push((known(only_handle(words))?, texts))?,
+            Commented::Function => {
+                comments
+                    .functions
+                    .push((known(only_handle(words))?, texts))?;
+            }
+            Commented::EntryPoint => {
+                let entry_point = known(index(known(only_word(words))?))?;
+                comments.entry_points.push((entry_point, texts))?;
+            }
+            Commented::Constant => {
+                comments
+                    .constants
+                    .push((known(only_handle(words))?, texts))?;
+            }
+            Commented::GlobalVariable => {
+                comments
+                    .global_variables
+                    .push((known(only_handle(words))?, texts))?;
+            }
+        }
+        Ok(())
+    }
+
+    /// Adds what a line of the module says that begins with a keyword.
+    fn add(&mut self, keyword: Keyword, words: &[&[u8]]) -> Result<(), Unread> {
+        match keyword {
+            Keyword::Name => self.set_name(words),
+            Keyword::GlobalVariable => self.add_global_variable(words),
+            Keyword::GlobalExpression => {
+                let expression = expression(self.alloc, words)?;
+                append(&mut self.module.global_expressions, expression, self.span)
+            }
+            Keyword::Function => self.open_function(words),
+            Keyword::EntryPoint => self.open_entry_point(words),
+            Keyword::SpecialTypes => self.set_special_types(words),
+            Keyword::OtherTypes => self.add_other_types(words),
+            Keyword::Filter => self.add_filter(words),
+            Keyword::FilterLeaf => {
+                self.module.diagnostic_filter_leaf = Some(known(only_handle(words))?);
+                Ok(())
+            }
+            Keyword::Comment(on) => self.add_comment(on, words),
+        }
+    }
+
+    /// Adds what a line says of the last function or entry point.
+    fn add_part(&mut self, part: Part, words: &[&[u8]]) -> Result<(), Unread> {
+        let name = match part {
+            Part::Argument | Part::Local => self.name.take(),
+            _ => None,
+        };
+        match &mut self.open {
+            Some(open) => open.add(part, words, name),
+            None => Err(Unread::Line),
+        }
+    }
+
+    /// Adds what the words of a line say.
+    fn add_words(&mut self, words: &[&[u8]]) -> Result<(), Unread> {
+        let Some((first, rest)) = words.split_first() else {
+            return Err(Unread::Line);
+        };
+        if let Some(part) = part_of(first) {
+            return self.add_part(part, rest);
+        }
+        if let Some(keyword) = keyword_of(first) {
+            return self.add(keyword, rest);
+        }
+        match read_line(self.alloc, words)? {
+            Some(line) => self.add_line(line),
+            None => Err(Unread::Line),
+        }
+    }
+
+    /// Adds what a line says, unless it is empty or a comment.
+    fn read_line(&mut self, line: &str) -> Result<(), Unread> {
+        if line.is_empty() || line.starts_with('#') {
+            return Ok(());
+        }
+        let words: Vec<&[u8]> = line
+            .as_bytes()
+            .split(|byte| *byte == b' ')
+            .collect(self.alloc)?;
+        self.add_words(&words)
+    }
+
+    /// Adds what the lines of a text say, up to the first that can't be read, and notes that one.
+    fn read(&mut self, text: &str) -> Result<(), OutOfMemory> {
+        let mut number = 0usize;
+        for line in text.lines() {
+            number = number.saturating_add(1);
+            let short = u32::try_from(number).unwrap_or(u32::MAX);
+            self.span = Span::new(short, short);
+            match self.read_line(line) {
+                Ok(()) => (),
+                Err(Unread::Line) => {
+                    self.unreadable = Some(number);
+                    return Ok(());
+                }
+                Err(Unread::OutOfMemory) => return Err(OutOfMemory),
+            }
+        }
+        match self.close_function() {
+            Ok(()) => Ok(()),
+            Err(Unread::Line) => {
+                self.unreadable = Some(number);
+                Ok(())
+            }
+            Err(Unread::OutOfMemory) => Err(OutOfMemory),
+        }
+    }
+
+    /// The module that the lines of a text describe, or those before the first that can't be read. If
+    /// `has_stand_ins`, a literal stands for each argument that a function doesn't have, since a rule can be
+    /// asked only if the arguments exist that the expressions before name.
+    ///
+    /// # Errors
+    ///
+    /// `OutOfMemory` if a request for memory was refused.
+    pub fn of_text(alloc: Global, text: &str, has_stand_ins: bool) -> Result<Draft, OutOfMemory> {
+        let mut draft = Draft::new(alloc, has_stand_ins);
+        draft.read(text)?;
+        Ok(draft)
+    }
+}

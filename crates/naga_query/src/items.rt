@@ -1,0 +1,51 @@
+//! What the readers of all lines share.
+
+use crate::unread::Unread;
+use naga_text::number::handle;
+use naga_valid::{Arena, ExpressionTag, Handle, List, Span};
+use std::alloc::Global;
+
+/// The number of items for which an arena has room.
+pub const MOST_ITEMS: usize = u32::MAX as usize;
+
+/// What words say, if they say something.
+pub fn known<T>(read: Option<T>) -> Result<T, Unread> {
+    read.ok_or(Unread::Line)
+}
+
+/// The one word that there has to be.
+pub fn only_word<'a>(words: &[&'a [u8]]) -> Option<&'a [u8]> {
+    match words {
+        [word] => Some(*word),
+        _ => None,
+    }
+}
+
+/// The one handle that there has to be.
+pub fn only_handle<K>(words: &[&[u8]]) -> Option<Handle<K>> {
+    handle(only_word(words)?)
+}
+
+/// What stands before and behind the first colon of a word.
+pub fn at_colon(word: &[u8]) -> Option<(&[u8], &[u8])> {
+    let place = word.iter().position(|byte| *byte == b':')?;
+    Some((&word[..place], &word[place + 1..]))
+}
+
+/// Adds an item, if the arena has room for it.
+pub fn append<T: Drop, K>(items: &mut Arena<T, K>, item: T, span: Span) -> Result<(), Unread> {
+    if items.len() >= MOST_ITEMS {
+        return Err(Unread::Line);
+    }
+    items.append(item, span)?;
+    Ok(())
+}
+
+/// The expressions whose indices words write.
+pub fn expressions(alloc: Global, words: &[&[u8]]) -> Result<List<Handle<ExpressionTag>>, Unread> {
+    let mut expressions = List::new(alloc);
+    for word in words {
+        expressions.push(known(handle(word))?)?;
+    }
+    Ok(expressions)
+}

@@ -1,0 +1,386 @@
+//! Statements that contain no other statements.
+
+use crate::items::{at_colon, expressions, known};
+use crate::unread::Unread;
+use naga_text::number::{handle, number, optional_handle};
+use naga_text::words::{chosen, equals};
+use naga_valid::{
+    AtomicFunction, GatherMode, Range, RayPipelineFunction, RayQueryFunction, Statement,
+    SubgroupOperation,
+};
+use std::alloc::Global;
+
+/// A kind of statements that contain no others.
+#[derive(Clone, Copy)]
+enum Kind {
+    Emit,
+    Break,
+    Continue,
+    Kill,
+    ControlBarrier,
+    MemoryBarrier,
+    Return,
+    Store,
+    ImageStore,
+    Atomic,
+    ImageAtomic,
+    WorkGroupUniformLoad,
+    Call,
+    RayQuery,
+    SubgroupBallot,
+    SubgroupCollectiveOperation,
+    SubgroupGather,
+    CooperativeStore,
+    TraceRay,
+}
+
+/// The word of each kind.
+const KINDS: [(&str, Kind); 19] = [
+    ("emit", Kind::Emit),
+    ("break", Kind::Break),
+    ("continue", Kind::Continue),
+    ("kill", Kind::Kill),
+    ("barrier", Kind::ControlBarrier),
+    ("membarrier", Kind::MemoryBarrier),
+    ("return", Kind::Return),
+    ("store", Kind::Store),
+    ("imagestore", Kind::ImageStore),
+    ("atomic", Kind::Atomic),
+    ("imageatomic", Kind::ImageAtomic),
+    ("wgload", Kind::WorkGroupUniformLoad),
+    ("call", Kind::Call),
+    ("rayquery", Kind::RayQuery),
+    ("ballot", Kind::SubgroupBallot),
+    ("collective", Kind::SubgroupCollectiveOperation),
+    ("gather", Kind::SubgroupGather),
+    ("coopstore", Kind::CooperativeStore),
+    ("trace", Kind::TraceRay),
+];
+
+/// The statement of a kind that has no words.
+fn alone(statement: Statement, words: &[&[u8]]) -> Option<Statement> {
+    if words.is_empty() {
+        Some(statement)
+    } else {
+        None
+    }
+}
+
+/// `emit A B`: the expressions from A on, up to but not B
+fn emit(words: &[&[u8]]) -> Option<Statement> {
+    let [start, end] = words else { return None };
+    Some(Statement::Emit(Range::new(number(start)?, number(end)?)))
+}
+
+/// `return E|-`
+fn return_statement(words: &[&[u8]]) -> Option<Statement> {
+    let [value] = words else { return None };
+    Some(Statement::Return {
+        value: optional_handle(value)?,
+    })
+}
+
+/// `store E E`
+fn store(words: &[&[u8]]) -> Option<Statement> {
+    let [pointer, value] = words else { return None };
+    Some(Statement::Store {
+        pointer: handle(pointer)?,
+        value: handle(value)?,
+    })
+}
+
+/// `imagestore IMAGE COORDINATE INDEX|- VALUE`
+fn image_store(words: &[&[u8]]) -> Option<Statement> {
+    let [image, coordinate, index, value] = words else {
+        return None;
+    };
+    Some(Statement::ImageStore {
+        image: handle(image)?,
+        coordinate: handle(coordinate)?,
+        array_index: optional_handle(index)?,
+        value: handle(value)?,
+    })
+}
+
+/// `cas:E`
+fn compare_exchange(word: &[u8]) -> Option<AtomicFunction> {
+    let (name, compare) = at_colon(word)?;
+    if !equals(name, b"cas") {
+        return None;
+    }
+    Some(AtomicFunction::Exchange {
+        compare: Some(handle(compare)?),
+    })
+}
+
+/// `add sub and xor or min max xchg cas:E`
+fn atomic_function(word: &[u8]) -> Option<AtomicFunction> {
+    let functions = [
+        ("add", AtomicFunction::Add),
+        ("sub", AtomicFunction::Subtract),
+        ("and", AtomicFunction::And),
+        ("xor", AtomicFunction::ExclusiveOr),
+        ("or", AtomicFunction::InclusiveOr),
+        ("min", AtomicFunction::Min),
+        ("max", AtomicFunction::Max),
+        ("xchg", AtomicFunction::Exchange { compare: None }),
+    ];
+    match chosen(&functions, word) {
+        Some(function) => Some(function),
+        None => compare_exchange(word),
+    }
+}
+
+/// `atomic POINTER FUN VALUE RESULT|-`
+fn atomic(words: &[&[u8]]) -> Option<Statement> {
+    let [pointer, fun, value, before] = words else {
+        return None;
+    };
+    Some(Statement::Atomic {
+        pointer: handle(pointer)?,
+        fun: atomic_function(fun)?,
+        value: handle(value)?,
+        result: optional_handle(before)?,
+    })
+}
+
+/// `imageatomic IMAGE COORDINATE INDEX|- FUN VALUE`
+fn image_atomic(words: &[&[u8]]) -> Option<Statement> {
+    let [image, coordinate, index, fun, value] = words else {
+        return None;
+    };
+    Some(Statement::ImageAtomic {
+        image: handle(image)?,
+        coordinate: handle(coordinate)?,
+        array_index: optional_handle(index)?,
+        fun: atomic_function(fun)?,
+        value: handle(value)?,
+    })
+}
+
+/// `wgload POINTER RESULT`
+fn workgroup_load(words: &[&[u8]]) -> Option<Statement> {
+    let [pointer, loaded] = words else {
+        return None
+    };
+    Some(Statement::WorkGroupUniformLoad {
+        pointer: handle(pointer)?,
+        result: handle(loaded)?,
+    })
+}
+
+/// `call F RESULT|- E..`
+fn call(alloc: Global, words: &[&[u8]]) -> Result<Statement, Unread> {
+    let [function, returned, arguments @ ..] = words else {
+        return Err(Unread::Line);
+    };
+    let function = known(handle(function))?;
+    let result = known(optional_handle(returned))?;
+    Ok(Statement::Call {
+        function,
+        arguments: expressions(alloc, arguments)?,
+        result,
+    })
+}
+
+/// What a step of a ray query does.
+#[derive(Clone, Copy)]
+enum Step {
+    Initialize,
+    Proceed,
+    GenerateIntersection,
+    ConfirmIntersection,
+    Terminate,
+}
+
+/// `init E E`, `proceed E`, `generate E`, `confirm` or `terminate`
+fn ray_query_function(words: &[&[u8]]) -> Option<RayQueryFunction> {
+    let steps = [
+        ("init", Step::Initialize),
+        ("proceed", Step::Proceed),
+        ("generate", Step::GenerateIntersection),
+        ("confirm", Step::ConfirmIntersection),
+        ("terminate", Step::Terminate),
+    ];
+    let (step, rest) = words.split_first()?;
+    match (chosen(&steps, step)?, rest) {
+        (Step::Initialize, [structure, descriptor]) => Some(RayQueryFunction::Initialize {
+            acceleration_structure: handle(structure)?,
+            descriptor: handle(descriptor)?,
+        }),
+        (Step::Proceed, [proceeded]) => Some(RayQueryFunction::Proceed {
+            result: handle(proceeded)?,
+        }),
+        (Step::GenerateIntersection, [hit_t]) => Some(RayQueryFunction::GenerateIntersection {
+            hit_t: handle(hit_t)?,
+        }),
+        (Step::ConfirmIntersection, []) => Some(RayQueryFunction::ConfirmIntersection),
+        (Step::Terminate, []) => Some(RayQueryFunction::Terminate),
+        _ => None,
+    }
+}
+
+/// `rayquery QUERY STEP`
+fn ray_query(words: &[&[u8]]) -> Option<Statement> {
+    let (query, step) = words.split_first()?;
+    Some(Statement::RayQuery {
+        query: handle(query)?,
+        fun: ray_query_function(step)?,
+    })
+}
+
+/// `ballot RESULT PREDICATE|-`
+fn ballot(words: &[&[u8]]) -> Option<Statement> {
+    let [balloted, predicate] = words else {
+        return None
+    };
+    Some(Statement::SubgroupBallot {
+        result: handle(balloted)?,
+        predicate: optional_handle(predicate)?,
+    })
+}
+
+/// `all any add mul min max and or xor`
+fn subgroup_operation(word: &[u8]) -> Option<SubgroupOperation> {
+    let operations = [
+        ("all", SubgroupOperation::All),
+        ("any", SubgroupOperation::Any),
+        ("add", SubgroupOperation::Add),
+        ("mul", SubgroupOperation::Mul),
+        ("min", SubgroupOperation::Min),
+        ("max", SubgroupOperation::Max),
+        ("and", SubgroupOperation::And),
+        ("or", SubgroupOperation::Or),
+        ("xor", SubgroupOperation::Xor),
+    ];
+    chosen(&operations, word)
+}
+
+/// `collective ARGUMENT RESULT [OPERATION]`, which adds unless a word says otherwise
+fn collective(words: &[&[u8]]) -> Option<Statement> {
+    let (argument, made, op) = match words {
+        [argument, made] => (argument, made, SubgroupOperation::Add),
+        [argument, made, op] => (argument, made, subgroup_operation(op)?),
+        _ => return None,
+    };
+    Some(Statement::SubgroupCollectiveOperation {
+        op,
+        argument: handle(argument)?,
+        result: handle(made)?,
+    })
+}
+
+/// How an invocation is named from which a value is taken.
+#[derive(Clone, Copy)]
+enum GatherForm {
+    Broadcast,
+    Shuffle,
+    ShuffleDown,
+    ShuffleUp,
+    ShuffleXor,
+    QuadBroadcast,
+}
+
+/// `broadcast:E shuffle:E shuffledown:E shuffleup:E shufflexor:E quadbroadcast:E`
+fn gather_by(word: &[u8]) -> Option<GatherMode> {
+    let gathers = [
+        ("broadcast", GatherForm::Broadcast),
+        ("shuffle", GatherForm::Shuffle),
+        ("shuffledown", GatherForm::ShuffleDown),
+        ("shuffleup", GatherForm::ShuffleUp),
+        ("shufflexor", GatherForm::ShuffleXor),
+        ("quadbroadcast", GatherForm::QuadBroadcast),
+    ];
+    let (gather, by) = at_colon(word)?;
+    let by = handle(by)?;
+    match chosen(&gathers, gather)? {
+        GatherForm::Broadcast => Some(GatherMode::Broadcast(by)),
+        GatherForm::Shuffle => Some(GatherMode::Shuffle(by)),
+        GatherForm::ShuffleDown => Some(GatherMode::ShuffleDown(by)),
+        GatherForm::ShuffleUp => Some(GatherMode::ShuffleUp(by)),
+        GatherForm::ShuffleXor => Some(GatherMode::ShuffleXor(by)),
+        GatherForm::QuadBroadcast => Some(GatherMode::QuadBroadcast(by)),
+    }
+}
+
+/// `first`, `quadswap`, or one by an expression
+fn gather_mode(word: &[u8]) -> Option<GatherMode> {
+    let modes = [
+        ("first", GatherMode::BroadcastFirst),
+        ("quadswap", GatherMode::QuadSwap),
+    ];
+    match chosen(&modes, word) {
+        Some(mode) => Some(mode),
+        None => gather_by(word),
+    }
+}
+
+/// `gather MODE ARGUMENT RESULT`
+fn gather(words: &[&[u8]]) -> Option<Statement> {
+    let [mode, argument, gathered] = words else {
+        return None;
+    };
+    Some(Statement::SubgroupGather {
+        mode: gather_mode(mode)?,
+        argument: handle(argument)?,
+        result: handle(gathered)?,
+    })
+}
+
+/// `coopstore TARGET POINTER STRIDE`
+fn cooperative_store(words: &[&[u8]]) -> Option<Statement> {
+    let [target, pointer, stride] = words else {
+        return None;
+    };
+    Some(Statement::CooperativeStore {
+        target: handle(target)?,
+        pointer: handle(pointer)?,
+        stride: handle(stride)?,
+    })
+}
+
+/// `trace STRUCTURE DESCRIPTOR PAYLOAD`
+fn trace_ray(words: &[&[u8]]) -> Option<Statement> {
+    let [structure, descriptor, payload] = words else {
+        return None;
+    };
+    Some(Statement::RayPipelineFunction(RayPipelineFunction::TraceRay {
+        acceleration_structure: handle(structure)?,
+        descriptor: handle(descriptor)?,
+        payload: handle(payload)?,
+    }))
+}
+
+/// The statement of a kind and of the words after it.
+fn of_kind(alloc: Global, kind: Kind, words: &[&[u8]]) -> Result<Statement, Unread> {
+    let read = match kind {
+        Kind::Emit => emit(words),
+        Kind::Break => alone(Statement::Break, words),
+        Kind::Continue => alone(Statement::Continue, words),
+        Kind::Kill => alone(Statement::Kill, words),
+        Kind::ControlBarrier => alone(Statement::ControlBarrier, words),
+        Kind::MemoryBarrier => alone(Statement::MemoryBarrier, words),
+        Kind::Return => return_statement(words),
+        Kind::Store => store(words),
+        Kind::ImageStore => image_store(words),
+        Kind::Atomic => atomic(words),
+        Kind::ImageAtomic => image_atomic(words),
+        Kind::WorkGroupUniformLoad => workgroup_load(words),
+        Kind::Call => return call(alloc, words),
+        Kind::RayQuery => ray_query(words),
+        Kind::SubgroupBallot => ballot(words),
+        Kind::SubgroupCollectiveOperation => collective(words),
+        Kind::SubgroupGather => gather(words),
+        Kind::CooperativeStore => cooperative_store(words),
+        Kind::TraceRay => trace_ray(words),
+    };
+    known(read)
+}
+
+/// The statement that words say, which contains no others.
+pub fn statement(alloc: Global, words: &[&[u8]]) -> Result<Statement, Unread> {
+    let Some((kind, rest)) = words.split_first() else {
+        return Err(Unread::Line);
+    };
+    of_kind(alloc, known(chosen(&KINDS, kind))?, rest)
+}
