@@ -1,4 +1,6 @@
-//! The tests of `naga_exprs::expression`: each expression is the last of a function of a small module.
+//! The tests of `naga_exprs::expression` that no file of cases can ask for: an override that must have its value and
+//! has none, refused memory, and slots of immediate data. Each expression is the last of a function of a small
+//! module. All other rows are files of `naga_query`: `access.txt`, `operators.txt` and those beside them.
 
 ghost use Rattle.std.specs.Prelude.{◌≡◌, ◌<◌, ◌≤◌, ℕ, All, IfOk, IsTrue, Some, length, slice_get};
 ghost use Rattle.naga_ir.specs.Handles.{ExpressionReferencesOk, HandlesAccepted};
@@ -7,14 +9,9 @@ ghost use Rattle.naga_ir.specs.declared.expression.Expression.TheVariants as for
 ghost use Rattle.naga_typing.specs.Resolutions.{ResolutionExists};
 
 mod access;
-mod images;
 mod immediates;
-mod math;
 mod operands;
-mod operators;
 mod refused_memory;
-mod samples;
-mod values;
 
 use bitflags::Flags;
 use naga_exprs::{ExpressionError, FunctionInfo, ModuleInfo};
@@ -230,42 +227,7 @@ fn accepted() -> Result<ShaderStages, ExpressionError> {
     Ok(ShaderStages::all())
 }
 
-/// Makes sure of what is said of an expression, by what it is judged by.
-fn assert_said_in(
-    rt: &(impl AllocGlobal + Abort),
-    settings: Settings,
-    expression: Expression,
-    want: &Result<ShaderStages, ExpressionError>,
-) {
-    let shown = format!(in rt.alloc(); "{expression:?}").expect(rt, "memory");
-    let said = said_of(rt, settings, expression).expect(rt, "memory");
-    assert_same_for(rt, &shown, &said, want);
-}
-
-/// Makes sure of what is said of an expression if shaders may use these capabilities.
-fn assert_said_under(
-    rt: &(impl AllocGlobal + Abort),
-    capabilities: Capabilities,
-    expression: Expression,
-    want: &Result<ShaderStages, ExpressionError>,
-) {
-    let settings = Settings {
-        capabilities,
-        overrides_resolved: false,
-    };
-    assert_said_in(rt, settings, expression, want);
-}
-
-/// Makes sure of what is said of an expression with what shaders may use by default.
-fn assert_said(
-    rt: &(impl AllocGlobal + Abort),
-    expression: Expression,
-    want: &Result<ShaderStages, ExpressionError>,
-) {
-    assert_said_under(rt, Capabilities::default(), expression, want);
-}
-
-/// The same if overrides must have their values.
+/// Makes sure of what is said of an expression if overrides must have their values.
 fn assert_said_resolved(
     rt: &(impl AllocGlobal + Abort),
     expression: Expression,
@@ -275,5 +237,7 @@ fn assert_said_resolved(
         capabilities: Capabilities::default(),
         overrides_resolved: true,
     };
-    assert_said_in(rt, settings, expression, want);
+    let shown = format!(in rt.alloc(); "{expression:?}").expect(rt, "memory");
+    let said = said_of(rt, settings, expression).expect(rt, "memory");
+    assert_same_for(rt, &shown, &said, want);
 }

@@ -6,7 +6,6 @@ ghost use Rattle.naga_ir.specs.ItemReferences.{global_lists};
 mod const_expressions;
 mod errors;
 mod infos;
-mod literals;
 mod refused_memory;
 
 use naga_handles::handles::validate_module_handles;

@@ -1,5 +1,6 @@
-//! The tests of `Validator::validate_function_expressions`: two whole shaders, whose functions are judged in
-//! order, and what is said of them if one expression is replaced by a wrong one.
+//! The tests of `Validator::validate_function_expressions` with refused memory: two whole shaders, whose functions
+//! are judged in order. The same shaders with one expression replaced are in `fragment_shader.txt` and
+//! `compute_shader.txt` of `naga_query`.
 
 ghost use Rattle.std.specs.Prelude.{◌≡◌, ◌≤◌, [], IfOk, OnOk, length};
 ghost use Rattle.naga_ir.specs.Handles.{HandlesAccepted};
@@ -12,9 +13,9 @@ mod refused_memory;
 
 use naga_text::text::read_text;
 use naga_valid::{
-    AddressSpace, BinaryOperator, Binding, Capabilities, EntryPoint, Expression, ExpressionError,
-    FullTyping, Function, FunctionArgument, FunctionError, FunctionResult, GlobalVariable, Handle,
-    List, LocalVariable, Module, ModuleInfo, OutOfMemory, ShaderStages, Span, Statement, Text,
+    AddressSpace, BinaryOperator, Binding, Capabilities, EntryPoint, Expression, FullTyping,
+    Function, FunctionArgument, FunctionError, FunctionResult, GlobalVariable, Handle, List,
+    LocalVariable, Module, ModuleInfo, OutOfMemory, ShaderStages, Span, Statement, Text,
     TypeResolution, ValidationError, ValidationFlags, Validator, laws,
 };
 use std::alloc::Global;
@@ -56,25 +57,12 @@ impl Shader {
     }
 
     /// Adds its variables, its functions and its entry point to the module of its types.
-    fn fill(
-        self,
-        rt: &impl Abort,
-        alloc: Global,
-        module: &mut Module,
-        change: Option<Change>,
-    ) -> Result<(), OutOfMemory> {
+    fn fill(self, rt: &impl Abort, alloc: Global, module: &mut Module) -> Result<(), OutOfMemory> {
         match self {
-            Shader::Fragment => fragment::fill(rt, alloc, module, change),
-            Shader::Compute => compute::fill(rt, alloc, module, change),
+            Shader::Fragment => fragment::fill(rt, alloc, module),
+            Shader::Compute => compute::fill(rt, alloc, module),
         }
     }
-}
-
-/// An expression of the entry point in place of another.
-#[derive(Debug, Drop)]
-struct Change {
-    place: u32,
-    expression: Expression,
 }
 
 /// A variable of a module.
@@ -186,15 +174,6 @@ fn call(
         arguments,
         result: Some(at(returned)),
     })
-}
-
-/// Puts the expression of a change in its place.
-fn replace(rt: &impl Abort, function: &mut Function, change: Option<Change>) {
-    if let Some(change) = change {
-        let place = at(change.place);
-        assert!(rt; place.index() < function.expressions.len());
-        function.expressions.replace(place, change.expression);
-    }
 }
 
 /// Adds a function to a module, which `fill` makes of an empty one.
@@ -341,9 +320,8 @@ fn fill_and_judge(
     rt: &(impl AllocGlobal + Abort),
     shader: Shader,
     module: &mut Module,
-    change: Option<Change>,
 ) -> Result<ShaderStages, FunctionError> {
-    shader.fill(rt, rt.alloc(), module, change)?;
+    shader.fill(rt, rt.alloc(), module)?;
     let info = judge(rt, rt.alloc(), module)?;
     let known = info.get_entry_point(0);
     assert_types(
@@ -355,64 +333,11 @@ fn fill_and_judge(
     Ok(known.available_stages)
 }
 
-/// The stages that may use the entry point of a shader, whose expressions have the types of the shader also
-/// if one is changed; or what is wrong.
-fn judged(
-    rt: &(impl AllocGlobal + Abort),
-    shader: Shader,
-    change: Option<Change>,
-) -> Result<ShaderStages, FunctionError> {
+/// The stages that may use the entry point of a shader, whose expressions have the types of the shader; or what is
+/// wrong.
+fn judged(rt: &(impl AllocGlobal + Abort), shader: Shader) -> Result<ShaderStages, FunctionError> {
     match read_text(rt.alloc(), shader.types().as_bytes()) {
-        Ok(mut contents) => fill_and_judge(rt, shader, &mut contents.module, change),
+        Ok(mut contents) => fill_and_judge(rt, shader, &mut contents.module),
         Err(_) => Err(FunctionError::OutOfMemory),
     }
-}
-
-/// Makes sure of the stages that may use the entry point of a shader, with one expression changed if one is
-/// given.
-fn assert_stages(
-    rt: &(impl AllocGlobal + Abort),
-    shader: Shader,
-    change: Option<Change>,
-    want: ShaderStages,
-) {
-    assert_same_for(rt, &shader, &judged(rt, shader, change), &Ok(want));
-}
-
-/// What is said of a shader with a wrong expression in the place of a right one.
-#[derive(Drop)]
-struct Refusal {
-    wrong: Change,
-    /// The first expression that is refused: the wrong one, or one that it is an operand of.
-    refused: u32,
-    source: ExpressionError,
-}
-
-/// A wrong expression that is refused itself.
-fn refused(place: u32, wrong: Expression, source: ExpressionError) -> Refusal {
-    refused_at(place, wrong, place, source)
-}
-
-/// A wrong expression that another one can't have as an operand.
-fn refused_at(place: u32, wrong: Expression, refused: u32, source: ExpressionError) -> Refusal {
-    let wrong = Change {
-        place,
-        expression: wrong,
-    };
-    Refusal {
-        wrong,
-        refused,
-        source,
-    }
-}
-
-/// Makes sure that a shader is refused so.
-fn assert_refused(rt: &(impl AllocGlobal + Abort), shader: Shader, refusal: Refusal) {
-    let place = refusal.wrong.place;
-    let want = FunctionError::Expression {
-        handle: at(refusal.refused),
-        source: refusal.source,
-    };
-    let got = judged(rt, shader, Some(refusal.wrong));
-    assert_same_for(rt, &place, &got, &Err(want));
 }

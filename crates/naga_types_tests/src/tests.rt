@@ -1,5 +1,6 @@
-//! The tests of `naga_flags`, `naga_text`, `naga_typing` and `naga_types`: rows of texts if a text can
-//! describe the module, else modules built by hand.
+//! The tests of `naga_flags`, `naga_text`, `naga_typing` and `naga_types` that no file of
+//! `naga_query/data` can hold: calls that no query makes, the texts of errors, and modules that no text
+//! describes.
 
 ghost use Rattle.naga_ir.specs.Handles.{GlobalReferencesOk};
 ghost use Rattle.naga_ir.specs.ItemReferences.{global_lists};
@@ -16,15 +17,12 @@ mod infos;
 mod kinds;
 mod layouts;
 mod math;
-mod pending;
 mod refused_memory;
 mod sizes;
 mod structs;
 mod text;
-mod types;
 mod typings;
 mod variables;
-mod whole_infos;
 
 use naga_flags::flags::Capabilities;
 use naga_handles::handles::validate_module_handles;
@@ -159,13 +157,12 @@ pub(crate) fn aligned(rt: &impl Abort, bytes: u32) -> Alignment {
     Alignment::new(bytes).expect(rt, "a power of two")
 }
 
-/// The info of the last type of a module, if all its types are judged one after another, or why the
-/// first that is refused is. Overrides must have their values if `overrides_resolved`.
-pub(crate) fn judged_with(
+/// The info of the last type of a module, if all its types are validated one after another, or why the
+/// first that is refused is. Overrides need no values.
+pub(crate) fn judged(
     rt: &impl Abort,
     alloc: Global,
     capabilities: Capabilities,
-    overrides_resolved: bool,
     module: &Module,
 ) -> Result<Result<TypeInfo, TypeError>, OutOfMemory> {
     assert_references_ok(rt, alloc, module);
@@ -179,7 +176,7 @@ pub(crate) fn judged_with(
         assert!(rt; index <= infos.len());
         let ctx = TypeContext {
             capabilities,
-            overrides_resolved,
+            overrides_resolved: false,
             infos: &infos,
             layouter: &layouter,
         };
@@ -191,46 +188,4 @@ pub(crate) fn judged_with(
     let last = module.types.len().saturating_sub(1);
     assert!(rt; last < infos.len() && last < 4294967295);
     Ok(Ok(infos.get(Handle::new(last as u32))))
-}
-
-/// The same, if overrides need no values.
-pub(crate) fn judged(
-    rt: &impl Abort,
-    alloc: Global,
-    capabilities: Capabilities,
-    module: &Module,
-) -> Result<Result<TypeInfo, TypeError>, OutOfMemory> {
-    judged_with(rt, alloc, capabilities, false, module)
-}
-
-/// The same of the types of a text.
-pub(crate) fn judged_text(
-    rt: &(impl AllocGlobal + Abort),
-    capabilities: Capabilities,
-    text: &str,
-) -> Result<TypeInfo, TypeError> {
-    with_text(rt, rt.alloc(), text, |module| {
-        judged(rt, rt.alloc(), capabilities, module)
-    })
-    .expect(rt, "memory")
-}
-
-/// The info of the last type of a text.
-pub(crate) fn info_of(
-    rt: &(impl AllocGlobal + Abort),
-    capabilities: Capabilities,
-    text: &str,
-) -> TypeInfo {
-    judged_text(rt, capabilities, text).expect(rt, "an accepted type")
-}
-
-/// Makes sure that the first type that is refused of each text is refused so.
-pub(crate) fn assert_refused(
-    rt: &(impl AllocGlobal + Abort),
-    rows: &[(Capabilities, &str, TypeError)],
-) {
-    for (capabilities, text, want) in rows {
-        let refused = judged_text(rt, *capabilities, text).expect_err(rt, "a refused type");
-        assert_same_for(rt, text, &refused, want);
-    }
 }

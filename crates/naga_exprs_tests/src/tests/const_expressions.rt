@@ -1,24 +1,21 @@
-//! Global expressions.
+//! Global expressions that `validate` doesn't reach: an argument and a splat of a vector, which have no types, and
+//! what is made of an override that must have its value, which is refused before. All others are in
+//! `constant_expressions.txt` and `literals.txt` of `naga_query`.
 
 ghost use Rattle.std.specs.Prelude.{◌≡◌, All, IfOk, IsTrue, length};
 ghost use Rattle.naga_typing.specs.Resolutions.{TypesExist};
 
 use super::{add, add_type, assert_references_ok, assert_same_for, with_module};
-use naga_exprs::{
-    ConstExpressionError, ExprContext, LiteralError, ModuleInfo, validate_const_expression,
-};
+use naga_exprs::{ConstExpressionError, ExprContext, ModuleInfo, validate_const_expression};
 use naga_flags::flags::{Capabilities, ShaderStages};
-use naga_flags::width::WidthError;
 use naga_ir::expression::{BinaryOperator, Expression, Literal};
 use naga_ir::handle::Handle;
-use naga_ir::ir::{Constant, Module, Override};
+use naga_ir::ir::{Module, Override};
 use naga_ir::list::List;
 use naga_ir::memory::OutOfMemory;
 use naga_ir::span::Span;
-use naga_ir::text::StaticText;
 use naga_ir::types::{Scalar, TypeInner, VectorSize};
 use naga_ir::unique_arena::UniqueArena;
-use naga_types::error::ComposeError;
 use naga_typing::context::to_ctx;
 use naga_typing::expression_kind::ExpressionKindTracker;
 use naga_typing::plain_typing::PlainTyping;
@@ -27,80 +24,76 @@ use std::alloc::Global;
 use std::process::Abort;
 use std::test::Fail;
 
-/// The value of the pair type that two expressions compose.
-fn pair_of(alloc: Global, components: [u32; 2]) -> Result<Expression, OutOfMemory> {
-    let mut list = List::new(alloc);
-    for component in components {
-        list.push(Handle::new(component % 100))?;
-    }
-    Ok(Expression::Compose {
-        ty: Handle::new(PAIR),
-        components: list,
-    })
-}
-
 /// The index of the type of unsigned numbers.
 const WORD: u32 = 0;
 
 /// The index of the type of pairs of them.
 const PAIR: u32 = 1;
 
-/// The types of the expressions of `add_expressions`.
-const TYPES: &[u32] = &[
-    WORD, WORD, PAIR, WORD, WORD, WORD, WORD, WORD, PAIR, PAIR, PAIR, PAIR,
-];
+// The expressions.
+const LITERAL: u32 = 0;
 
-/// Adds a type of numbers and one of pairs of them, a literal, the constant that it initialises, and an
-/// override.
+const OVERRIDE: u32 = 1;
+
+const SUM: u32 = 2;
+
+const BOTH: u32 = 3;
+
+const ZEROS: u32 = 4;
+
+const SPLAT: u32 = 5;
+
+const ARGUMENT: u32 = 6;
+
+/// The types of these.
+const TYPES: &[u32] = &[WORD, WORD, WORD, PAIR, PAIR, PAIR, WORD];
+
+/// Adds a type of numbers, one of pairs of them, and an override.
 fn add_items(rt: &impl Abort, module: &mut Module) -> Result<(), Fail> {
     let scalar = Scalar::U32;
     let size = VectorSize::Bi;
     let ty = add_type(rt, module, TypeInner::Scalar(scalar))?;
     add_type(rt, module, TypeInner::Vector { size, scalar })?;
-    let init = add(rt, module, Expression::Literal(Literal::U32(5)))?;
-    let name = None;
-    let constant = Constant { name, ty, init };
-    assert!(rt; module.constants.is_empty() && module.overrides.is_empty());
-    module.constants.append(constant, Span::default())?;
     let over = Override {
         name: None,
         id: None,
         ty,
         init: None,
     };
+    assert!(rt; module.overrides.is_empty());
     module.overrides.append(over, Span::default())?;
     Ok(())
 }
 
-/// Adds expressions that are judged by their own form, and others that are computed.
+/// A pair of a literal and an override.
+fn pair_of_both(alloc: Global) -> Result<Expression, OutOfMemory> {
+    let mut list = List::new(alloc);
+    list.push(Handle::new(LITERAL))?;
+    list.push(Handle::new(OVERRIDE))?;
+    Ok(Expression::Compose {
+        ty: Handle::new(PAIR),
+        components: list,
+    })
+}
+
+/// Adds expressions, of which the last two have no types in a module that is validated.
 fn add_expressions(rt: &impl Abort, alloc: Global, module: &mut Module) -> Result<(), Fail> {
     add_items(rt, module)?;
-    let op = BinaryOperator::Add;
-    let size = VectorSize::Bi;
-    let [literal, zero, over] = [Handle::new(0), Handle::new(2), Handle::new(3)];
     for expression in [
-        Expression::Constant(Handle::new(0)),
-        Expression::ZeroValue(Handle::new(PAIR)),
+        Expression::Literal(Literal::U32(5)),
         Expression::Override(Handle::new(0)),
         Expression::Binary {
-            op,
-            left: literal,
-            right: literal,
+            op: BinaryOperator::Add,
+            left: Handle::new(LITERAL),
+            right: Handle::new(OVERRIDE),
         },
-        Expression::Binary {
-            op,
-            left: literal,
-            right: over,
+        pair_of_both(alloc)?,
+        Expression::ZeroValue(Handle::new(PAIR)),
+        Expression::Splat {
+            size: VectorSize::Bi,
+            value: Handle::new(ZEROS),
         },
         Expression::FunctionArgument(0),
-        Expression::Literal(Literal::F64(0)),
-        Expression::Splat {
-            size,
-            value: literal,
-        },
-        Expression::Splat { size, value: zero },
-        pair_of(alloc, [0, 3])?,
-        pair_of(alloc, [0, 2])?,
     ] {
         add(rt, module, expression)?;
     }
@@ -192,55 +185,26 @@ fn assert_said(
 }
 
 #[test]
-fn overrides_need_no_values_at_first(rt: HostRuntime) -> Result<(), Fail> {
-    let width = WidthError::MissingCapability {
-        name: StaticText::new("f64"),
-        flag: StaticText::new("FLOAT64"),
-    };
-    assert_said(
-        &rt,
-        false,
-        &[
-            (0, Ok(())),
-            (1, Ok(())),
-            (2, Ok(())),
-            (3, Ok(())),
-            (4, Err(ConstExpressionError::NonFullyEvaluatedConst)),
-            (5, Ok(())),
-            (6, Err(ConstExpressionError::NonConstOrOverride)),
-            (
-                7,
-                Err(ConstExpressionError::Literal(LiteralError::Width(width))),
-            ),
-            (8, Ok(())),
-            (
-                9,
-                Err(ConstExpressionError::InvalidSplatType(Handle::new(2))),
-            ),
-            (10, Ok(())),
-            (
-                11,
-                Err(ConstExpressionError::Compose(ComposeError::ComponentCount {
-                    given: 3,
-                    expected: 2,
-                })),
-            ),
-        ],
-    )
+fn an_argument_is_no_global_expression(rt: HostRuntime) -> Result<(), Fail> {
+    let refusal = || Err(ConstExpressionError::NonConstOrOverride);
+    assert_said(&rt, false, &[(ARGUMENT, refusal())])?;
+    assert_said(&rt, true, &[(ARGUMENT, refusal())])
 }
 
 #[test]
-fn later_they_must_have_them(rt: HostRuntime) -> Result<(), Fail> {
+fn a_splat_repeats_a_scalar(rt: HostRuntime) -> Result<(), Fail> {
+    let refusal = ConstExpressionError::InvalidSplatType(Handle::new(ZEROS));
+    assert_said(&rt, false, &[(SPLAT, Err(refusal))])
+}
+
+#[test]
+fn a_sum_is_evaluated_and_a_composition_kept(rt: HostRuntime) -> Result<(), Fail> {
     assert_said(
         &rt,
         true,
         &[
-            (0, Ok(())),
-            (3, Err(ConstExpressionError::NonFullyEvaluatedConst)),
-            (5, Err(ConstExpressionError::NonFullyEvaluatedConst)),
-            (6, Err(ConstExpressionError::NonConstOrOverride)),
-            (8, Ok(())),
-            (10, Ok(())),
+            (SUM, Err(ConstExpressionError::NonFullyEvaluatedConst)),
+            (BOTH, Ok(())),
         ],
     )
 }

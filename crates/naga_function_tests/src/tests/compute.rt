@@ -26,15 +26,12 @@
 //! ```
 
 use super::{
-    Change, Refusal, Shader, Variable, add_arguments, add_entry_point, add_function, add_local,
-    add_variables, append, assert_refused, assert_stages, at, binary, call, load, part, refused,
-    refused_at, replace, result_of,
+    Variable, add_arguments, add_entry_point, add_function, add_local, add_variables, append, at,
+    binary, call, load, part, result_of,
 };
-use bitflags::Flags;
 use naga_valid::{
-    AddressSpace, AtomicFunction, BinaryOperator, Binding, Block, Expression, ExpressionError,
-    Function, Literal, Module, OutOfMemory, Range, Scalar, ShaderStages, Statement, StorageAccess,
-    TypeInner,
+    AddressSpace, AtomicFunction, BinaryOperator, Binding, Block, Expression, Function, Literal,
+    Module, OutOfMemory, Range, Statement, StorageAccess,
 };
 use std::alloc::Global;
 use std::process::Abort;
@@ -58,15 +55,11 @@ type pointer 0 workgroup
 
 const U32: u32 = 0;
 
-const VALUES: u32 = 1;
-
 const NUMBERS: u32 = 2;
 
 const SHARES: u32 = 3;
 
 const ATOMIC: u32 = 4;
-
-const F32: u32 = 5;
 
 const BOOL: u32 = 6;
 
@@ -163,9 +156,6 @@ pub(super) const EXPRESSION_TYPES: &[u32] = &[
     U32, TO_NUMBERS, TO_SHARES, TO_ATOMIC, TO_COUNTER, U32, U32, TO_VALUES, U32, U32, BOOL,
     TO_NUMBER, U32, U32, TO_SHARE, U32, U32, U32, U32, U32, TO_SHARE, U32, TO_NUMBER, U32,
 ];
-
-/// The form of the numbers.
-const NUMBERS_FORM: TypeInner = TypeInner::Scalar(Scalar::U32);
 
 /// A part at an index that is computed.
 fn access(base: u32, index: u32) -> Expression {
@@ -292,18 +282,12 @@ fn continuing(alloc: Global) -> Result<Block, OutOfMemory> {
     Ok(block)
 }
 
-/// Fills the entry point, with one expression changed if one is given.
-fn fill_main(
-    rt: &impl Abort,
-    alloc: Global,
-    function: &mut Function,
-    change: Option<Change>,
-) -> Result<(), OutOfMemory> {
+/// Fills the entry point.
+fn fill_main(rt: &impl Abort, alloc: Global, function: &mut Function) -> Result<(), OutOfMemory> {
     // No rule so far asks which built-in value it is.
     add_arguments(function, &[(U32, Some(Binding::BuiltIn(0)))])?;
     add_local(rt, function, U32)?;
     add_expressions(rt, function)?;
-    replace(rt, function, change);
     for statement in [
         store(COUNTER, INVOCATION),
         Statement::Emit(Range::new(ELEMENTS, COUNT)),
@@ -327,118 +311,8 @@ fn fill_main(
 }
 
 /// Fills the module of the types.
-pub(super) fn fill(
-    rt: &impl Abort,
-    alloc: Global,
-    module: &mut Module,
-    change: Option<Change>,
-) -> Result<(), OutOfMemory> {
+pub(super) fn fill(rt: &impl Abort, alloc: Global, module: &mut Module) -> Result<(), OutOfMemory> {
     add_variables(rt, module, VARIABLES)?;
     add_function(rt, alloc, module, |function| fill_slot(rt, function))?;
-    add_entry_point(alloc, module, |function| {
-        fill_main(rt, alloc, function, change)
-    })
-}
-
-#[test]
-fn stages_are_those_with_workgroups(rt: HostRuntime) {
-    assert_stages(&rt, Shader::Compute, None, ShaderStages::COMPUTE_LIKE);
-    // Without the load for the workgroup nothing is left that asks for one.
-    let change = Change {
-        place: FIRST,
-        expression: Expression::Literal(Literal::U32(0)),
-    };
-    assert_stages(&rt, Shader::Compute, Some(change), ShaderStages::all());
-}
-
-/// Wrong expressions that read memory.
-fn wrong_accesses() -> [Refusal; 6] {
-    [
-        // The length of an array of a fixed size is no expression.
-        refused(
-            LENGTH,
-            Expression::ArrayLength(at(SHARED)),
-            ExpressionError::InvalidArrayType(at(SHARED)),
-        ),
-        // A number has no elements.
-        refused(
-            ELEMENT,
-            access(COUNT, STEP),
-            ExpressionError::InvalidBaseType(at(COUNT)),
-        ),
-        // A truth value is no index.
-        refused(
-            ELEMENT,
-            access(ELEMENTS, GOES_ON),
-            ExpressionError::InvalidIndexType(at(GOES_ON)),
-        ),
-        // There are 64 shares, so the last has the index 63.
-        refused(
-            SHARE,
-            access(SHARED, STEP),
-            ExpressionError::IndexOutOfBounds(at(SHARED), 64),
-        ),
-        // A runtime-sized array is not loaded as a whole.
-        refused(
-            VALUE,
-            load(ELEMENTS),
-            ExpressionError::InvalidPointerType(at(ELEMENTS)),
-        ),
-        // Nor are atomics loaded for the workgroup: what is loaded is the value of one.
-        refused(
-            FIRST,
-            shared_load(ATOMIC),
-            ExpressionError::InvalidWorkGroupUniformLoadResultType(at(ATOMIC)),
-        ),
-    ]
-}
-
-#[test]
-fn wrong_accesses_are_refused(rt: HostRuntime) {
-    for refusal in wrong_accesses() {
-        assert_refused(&rt, Shader::Compute, refusal);
-    }
-}
-
-#[test]
-fn wrong_numbers_are_refused(rt: HostRuntime) {
-    for refusal in [
-        // An atomic sum of another type can't be added to a number.
-        refused_at(
-            EARLIER,
-            sum_before(F32),
-            LATER,
-            ExpressionError::InvalidBinaryOperandTypes {
-                op: BinaryOperator::Add,
-                lhs_expr: at(EARLIER),
-                lhs_type: TypeInner::Scalar(Scalar::F32),
-                rhs_expr: at(VALUE),
-                rhs_type: NUMBERS_FORM,
-            },
-        ),
-        // A number of 32 bits can be shifted by 31.
-        refused_at(
-            BITS,
-            Expression::Literal(Literal::U32(32)),
-            RESULT,
-            ExpressionError::ShiftAmountTooLarge {
-                lhs_type: NUMBERS_FORM,
-                rhs_expr: at(BITS),
-            },
-        ),
-        // Whole numbers have no derivatives.
-        refused(
-            NEXT,
-            Expression::Derivative { expr: at(COUNT) },
-            ExpressionError::InvalidDerivative,
-        ),
-        // A runtime-sized array has no zero.
-        refused(
-            STEP,
-            Expression::ZeroValue(at(VALUES)),
-            ExpressionError::InvalidZeroValue(at(VALUES)),
-        ),
-    ] {
-        assert_refused(&rt, Shader::Compute, refusal);
-    }
+    add_entry_point(alloc, module, |function| { fill_main(rt, alloc, function) })
 }

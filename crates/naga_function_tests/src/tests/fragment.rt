@@ -23,16 +23,12 @@
 //! There is a second sampler, `compared: sampler_comparison`.
 
 use super::{
-    Change, Shader, Variable, add_arguments, add_entry_point, add_function, add_local,
-    add_variables, append, assert_refused, assert_stages, at, binary, call, load, part, refused,
-    refused_at, replace, result_of,
+    Variable, add_arguments, add_entry_point, add_function, add_local, add_variables, append, at,
+    binary, call, load, part, result_of,
 };
-use bitflags::Flags;
 use naga_valid::{
-    AddressSpace, BinaryOperator, Binding, ComposeError, Expression, ExpressionError, Function,
-    ImageClass, ImageDimension, List, Literal, MathFunction, Module, OutOfMemory, Range,
-    ResolveError, SampleLevel, Scalar, ScalarKind, ShaderStages, Statement, SwizzleComponent,
-    TypeInner, VectorSize,
+    AddressSpace, BinaryOperator, Binding, Expression, Function, List, Literal, MathFunction,
+    Module, OutOfMemory, Range, SampleLevel, Statement, SwizzleComponent, VectorSize,
 };
 use std::alloc::Global;
 use std::process::Abort;
@@ -99,12 +95,7 @@ const VARIABLES: &[Variable] = &[
     },
 ];
 
-/// The index of the second sampler.
-const COMPARED: u32 = 3;
-
 // The functions.
-const CLIP: u32 = 0;
-
 const LUMINANCE: u32 = 1;
 
 const EDGE: u32 = 2;
@@ -357,18 +348,12 @@ fn add_expressions(
     Ok(())
 }
 
-/// Fills the entry point, with one expression changed if one is given.
-fn fill_main(
-    rt: &impl Abort,
-    alloc: Global,
-    function: &mut Function,
-    change: Option<Change>,
-) -> Result<(), OutOfMemory> {
+/// Fills the entry point.
+fn fill_main(rt: &impl Abort, alloc: Global, function: &mut Function) -> Result<(), OutOfMemory> {
     add_arguments(function, &[(VEC2, location(0)), (F32, location(1))])?;
     function.result = result_of(VEC4, location(0));
     add_local(rt, function, VEC4)?;
     add_expressions(rt, alloc, function)?;
-    replace(rt, function, change);
     for statement in [
         Statement::Emit(Range::new(TEXEL, SHARPNESS)),
         call(alloc, EDGE, RGB, SHARPNESS)?,
@@ -388,163 +373,10 @@ fn fill_main(
 }
 
 /// Fills the module of the types.
-pub(super) fn fill(
-    rt: &impl Abort,
-    alloc: Global,
-    module: &mut Module,
-    change: Option<Change>,
-) -> Result<(), OutOfMemory> {
+pub(super) fn fill(rt: &impl Abort, alloc: Global, module: &mut Module) -> Result<(), OutOfMemory> {
     add_variables(rt, module, VARIABLES)?;
     add_function(rt, alloc, module, |function| fill_clip(function))?;
     add_function(rt, alloc, module, |function| fill_luminance(rt, function))?;
     add_function(rt, alloc, module, |function| fill_edge(rt, alloc, function))?;
-    add_entry_point(alloc, module, |function| {
-        fill_main(rt, alloc, function, change)
-    })
-}
-
-/// The form of the numbers.
-const NUMBER: TypeInner = TypeInner::Scalar(Scalar::F32);
-
-/// The form of the colors.
-const COLORS: TypeInner = TypeInner::Vector {
-    size: VectorSize::Quad,
-    scalar: Scalar::F32,
-};
-
-#[test]
-fn stages_are_those_of_the_functions_that_are_called(rt: HostRuntime) {
-    assert_stages(&rt, Shader::Fragment, None, ShaderStages::FRAGMENT);
-    for (place, expression, stages) in [
-        // Without the derivative that `edge` takes, any stage may sample at a known level.
-        (
-            SHARPNESS,
-            Expression::CallResult(at(LUMINANCE)),
-            ShaderStages::all(),
-        ),
-        // No stage has both derivatives and workgroups.
-        (
-            HALF,
-            Expression::WorkGroupUniformLoadResult { ty: at(F32) },
-            ShaderStages::empty(),
-        ),
-    ] {
-        let change = Change { place, expression };
-        assert_stages(&rt, Shader::Fragment, Some(change), stages);
-    }
-}
-
-#[test]
-fn wrong_values_are_refused(rt: HostRuntime) {
-    for refusal in [
-        // The function has two arguments.
-        refused(
-            FADE,
-            Expression::FunctionArgument(2),
-            ExpressionError::FunctionArgumentDoesntExist(2),
-        ),
-        // A vector of two components has no third.
-        refused(
-            RGB,
-            first_three(PLACE),
-            ExpressionError::InvalidSwizzleComponent(SwizzleComponent::Z, VectorSize::Bi),
-        ),
-        // A color has four components.
-        refused(
-            ALPHA,
-            part(LOADED, 4),
-            ExpressionError::IndexOutOfBounds(at(LOADED), 4),
-        ),
-        // Vectors are splatted from scalars.
-        refused(
-            GREY,
-            splat(VectorSize::Quad, TEXEL),
-            ExpressionError::InvalidSplatType(at(TEXEL)),
-        ),
-        // Terms have one type: to add a scalar to a vector, WGSL splats it first.
-        refused(
-            SUM,
-            binary(BinaryOperator::Add, LOADED, FADE),
-            ExpressionError::InvalidBinaryOperandTypes {
-                op: BinaryOperator::Add,
-                lhs_expr: at(LOADED),
-                lhs_type: COLORS,
-                rhs_expr: at(FADE),
-                rhs_type: NUMBER,
-            },
-        ),
-        // Vectors of four are blended by a scalar or a vector of four.
-        refused(
-            BLENDED,
-            mix(RGB),
-            ExpressionError::InvalidArgumentType(MathFunction::Mix, 2, at(RGB)),
-        ),
-        // A number is no condition.
-        refused(
-            OPACITY,
-            Expression::Select {
-                condition: at(FADE),
-                accept: at(FADE),
-                reject: at(ALPHA),
-            },
-            ExpressionError::SelectConditionNotABool { actual: NUMBER },
-        ),
-        // Three components are not four.
-        refused(
-            HIGHLIGHT,
-            color_of(rt.alloc(), &[RGB]).expect(&rt, "memory"),
-            ExpressionError::Compose(ComposeError::ComponentCount {
-                given: 3,
-                expected: 4,
-            }),
-        ),
-    ] {
-        assert_refused(&rt, Shader::Fragment, refusal);
-    }
-}
-
-#[test]
-fn wrong_resources_are_refused(rt: HostRuntime) {
-    for refusal in [
-        // A sampler that compares needs depths and a reference.
-        refused_at(
-            SMOOTH,
-            Expression::GlobalVariable(at(COMPARED)),
-            TEXEL,
-            ExpressionError::ComparisonSamplingMismatch {
-                image: ImageClass::Sampled {
-                    kind: ScalarKind::Float,
-                    multi: false,
-                },
-                sampler: true,
-                has_ref: false,
-            },
-        ),
-        // A picture has two coordinates.
-        refused(
-            TEXEL,
-            sample(FADE),
-            ExpressionError::InvalidImageCoordinateType(ImageDimension::D2, at(FADE)),
-        ),
-        // A function without a result has no value.
-        refused(
-            SHARPNESS,
-            Expression::CallResult(at(CLIP)),
-            ExpressionError::Type_(ResolveError::NotResolvable),
-        ),
-        // The material has two members.
-        refused(
-            STRENGTH_POINTER,
-            part(BUFFER, 2),
-            ExpressionError::IndexOutOfBounds(at(BUFFER), 2),
-        ),
-        // A color is no pointer.
-        refused(
-            LOADED,
-            load(TEXEL),
-            ExpressionError::InvalidPointerType(at(TEXEL)),
-        ),
-    ] {
-        assert_refused(&rt, Shader::Fragment, refusal);
-    }
+    add_entry_point(alloc, module, |function| { fill_main(rt, alloc, function) })
 }

@@ -10,7 +10,7 @@ use std::process::Abort;
 
 /// Whether memory was refused while a shader was judged that these stages may use.
 fn is_refused_of(rt: &(impl AllocGlobal + Abort), shader: Shader, stages: ShaderStages) -> bool {
-    match judged(rt, shader, None) {
+    match judged(rt, shader) {
         Ok(said) => {
             assert!(rt; said == stages);
             false

@@ -1,27 +1,24 @@
-//! How faults read, and what a forward dependency reports.
+//! The messages of faults.
 
-use super::bad_handle;
 use naga_handles::error::{FwdDepError, InvalidHandleError, ValidationFault};
-use naga_ir::handle::Handle;
+use naga_ir::handle::{BadHandle, Handle};
 use naga_ir::range::BadRangeError;
 use naga_ir::tags::FunctionTag;
 use naga_ir::text::{StaticText, Text};
 use std::process::Abort;
+
+/// The fault of an item that isn't there.
+fn bad_handle(kind: &'static str, index: usize) -> ValidationFault {
+    let kind = StaticText::new(kind);
+    ValidationFault::Invalid(InvalidHandleError::BadHandle(BadHandle { kind, index }))
+}
 
 /// The error on function 2, which calls function 3.
 fn late_function() -> FwdDepError {
     FwdDepError::new(Handle::<FunctionTag>::new(2), Handle::<FunctionTag>::new(3))
 }
 
-#[test]
-fn a_forward_dependency_reports_both_ends(rt: HostRuntime) {
-    let error = late_function();
-    assert!(rt; (error.subject(), error.depends_on()) == (2, 3));
-    let kinds = (error.subject_kind(), error.depends_on_kind());
-    assert!(rt; kinds == ("Function", "Function"));
-}
-
-/// Checks that a fault reads so.
+/// Checks that a fault is displayed as this text.
 fn assert_reads(rt: &(impl AllocGlobal + Abort), fault: ValidationFault, expected: &str) {
     let text = format!(in rt.alloc(); "{fault}").expect(rt, "memory");
     assert_eq!(rt; text.as_str(), expected);

@@ -5,19 +5,72 @@
 //! them all, and the second asks that nothing was refused. `scripts/refused-memory` runs both with one
 //! request after another refused, until the second passes too.
 
-use super::{add, add_override, add_sized_array, first};
 use naga_handles::error::ValidationFault;
 use naga_handles::handles::validate_module_handles;
 use naga_handles::order::visit_order;
 use naga_ir::expression::Expression;
-use naga_ir::ir::Module;
+use naga_ir::handle::{Handle, Kind};
+use naga_ir::ir::{Module, Override};
 use naga_ir::list::List;
 use naga_ir::memory::OutOfMemory;
 use naga_ir::span::Span;
+use naga_ir::tags::{ExpressionTag, TypeTag};
 use naga_ir::text::Text;
-use naga_ir::types::{Scalar, Type, TypeInner};
+use naga_ir::types::{ArraySize, Scalar, Type, TypeInner};
 use std::alloc::Global;
 use std::process::Abort;
+
+/// The handle of the first item of an arena.
+fn first<K: Kind>() -> Handle<K> {
+    Handle::new(0)
+}
+
+/// Adds a type without a name.
+fn add_type(rt: &impl Abort, module: &mut Module, inner: TypeInner) -> Result<(), OutOfMemory> {
+    assert!(rt; module.types.len() < 100);
+    module
+        .types
+        .insert(Type { name: None, inner }, Span::default())?;
+    Ok(())
+}
+
+/// Adds a type of four bytes, and an array of it as long as the first override says.
+fn add_sized_array(rt: &impl Abort, module: &mut Module) -> Result<(), OutOfMemory> {
+    add_type(rt, module, TypeInner::Scalar(Scalar::U32))?;
+    let array = TypeInner::Array {
+        base: first(),
+        size: ArraySize::Pending(first()),
+        stride: 4,
+    };
+    add_type(rt, module, array)
+}
+
+/// Adds a global expression.
+fn add(rt: &impl Abort, module: &mut Module, expression: Expression) -> Result<(), OutOfMemory> {
+    assert!(rt; module.global_expressions.len() < 100);
+    module
+        .global_expressions
+        .append(expression, Span::default())?;
+    Ok(())
+}
+
+/// Adds an override without a name or a number.
+fn add_override(
+    rt: &impl Abort,
+    module: &mut Module,
+    ty: Handle<TypeTag>,
+    init: Option<Handle<ExpressionTag>>,
+) -> Result<(), OutOfMemory> {
+    assert!(rt; module.overrides.len() < 100);
+    let over = Override {
+        name: None,
+        id: None,
+        ty,
+        init,
+    };
+    module.overrides.append(over, Span::default())?;
+    Ok(())
+}
 
 /// Makes sure that a right module is accepted whichever request is refused: overrides take no memory today.
 fn assert_accepted(rt: &impl Abort, alloc: Global, module: &Module) {
@@ -41,7 +94,7 @@ fn is_order_refused(rt: &impl Abort, alloc: Global, module: &Module) -> bool {
 
 /// Fills a module with an array, the expressions that size it, and their override.
 fn fill(rt: &impl Abort, module: &mut Module) -> Result<(), OutOfMemory> {
-    add_sized_array(rt, module, 0)?;
+    add_sized_array(rt, module)?;
     for _ in 0..4 {
         add(rt, module, Expression::ZeroValue(first()))?;
     }

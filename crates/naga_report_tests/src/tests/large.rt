@@ -57,5 +57,5 @@ fn a_large_text_is_accepted(rt: HostRuntime) {
     assert_same(&rt, &report.outcome, &Outcome::Accepted);
     let lines = report.text.as_str().lines().count();
     assert_same(&rt, &lines, &1_002);
-    assert_reported(&rt, rt.alloc(), &[(text.as_str(), report.text.as_str(), 0)]);
+    assert_reported(&rt, rt.alloc(), text.as_str(), report.text.as_str(), 0);
 }

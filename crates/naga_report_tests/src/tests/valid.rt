@@ -7,10 +7,10 @@ use super::{assert_same, assert_same_for, assert_shown};
 use naga_text::text::read_text;
 use naga_valid::{
     Alignment, BadHandle, BadRangeError, Capabilities, Disalignment, FunctionTag, FwdDepError,
-    Handle, ImmediateError, InvalidHandleError, LayoutError, LayoutErrorInner, List, Module,
-    OutOfMemory, Scalar, ShaderStages, Span, StaticText, SubgroupOperationSet, Text, Type,
-    TypeError, TypeFlags, TypeInfo, TypeInner, TypeTag, ValidationError, ValidationFlags,
-    Validator, WidthError, WithSpan,
+    Handle, ImmediateError, InvalidHandleError, LayoutError, LayoutErrorInner, Module, OutOfMemory,
+    Scalar, ShaderStages, Span, StaticText, SubgroupOperationSet, Text, Type, TypeError, TypeFlags,
+    TypeInfo, TypeInner, TypeTag, ValidationError, ValidationFlags, Validator, WidthError,
+    WithSpan,
 };
 use std::alloc::Global;
 use std::process::Abort;
@@ -81,15 +81,6 @@ fn refusal_of(
     let resolved = validator.validate_resolved_overrides(module).err();
     assert!(rt; error == resolved);
     Ok(error.ok_or("accepted")?)
-}
-
-/// The same of the module of a text.
-fn refusal_of_text(
-    rt: &impl Abort,
-    alloc: Global,
-    text: &str,
-) -> Result<WithSpan<ValidationError>, Fail> {
-    with_text(rt, alloc, text, |module| refusal_of(rt, alloc, module))
 }
 
 #[test]
@@ -206,83 +197,6 @@ fn has_storage_layout_alone(rt: &impl Abort, alloc: Global, module: &Module) -> 
     Ok(())
 }
 
-#[test]
-fn the_first_type_that_needs_a_missing_capability_is_refused(rt: HostRuntime) -> Result<(), Fail> {
-    for (text, index) in [
-        ("type scalar float 2", 0_u16),
-        (
-            "type scalar float 4\ntype scalar float 2\ntype scalar float 8",
-            1,
-        ),
-    ] {
-        let error = refusal_of_text(&rt, rt.alloc(), text)?;
-        assert_same_for(
-            &rt,
-            &text,
-            &error.into_inner(),
-            &refused_half(rt.alloc(), Handle::new(u32::from(index))),
-        );
-    }
-    Ok(())
-}
-
-#[test]
-fn a_capability_permits_the_types_that_need_it(rt: HostRuntime) -> Result<(), Fail> {
-    with_text(&rt, rt.alloc(), "type scalar float 2", |module| {
-        is_accepted_with_halves(&rt, rt.alloc(), module)
-    })
-}
-
-/// Makes sure that both calls accept a module of one type, if scalars may have two bytes.
-fn is_accepted_with_halves(rt: &impl Abort, alloc: Global, module: &Module) -> Result<(), Fail> {
-    let mut validator = validator_under(alloc, Capabilities::SHADER_FLOAT16);
-    validator.validate(module)?;
-    assert_same(rt, &validator.type_count(), &1);
-    validator.validate_resolved_overrides(module)?;
-    assert_same(rt, &validator.type_count(), &1);
-    Ok(())
-}
-
-#[test]
-fn types_without_a_layout_are_refused_first(rt: HostRuntime) -> Result<(), Fail> {
-    for (text, index) in [
-        ("type scalar float 3\ntype scalar float 4", 0_u16),
-        ("type scalar float 2\ntype scalar float 3", 1),
-        ("type scalar float 4\ntype scalar float 0", 1),
-    ] {
-        let error = refusal_of_text(&rt, rt.alloc(), text)?;
-        assert_same_for(
-            &rt,
-            &text,
-            &error.into_inner(),
-            &no_layout(Handle::new(u32::from(index))),
-        );
-    }
-    Ok(())
-}
-
-/// Adds a type of two bytes with a name.
-fn add_named_half(rt: &impl Abort, alloc: Global, module: &mut Module) -> Result<(), OutOfMemory> {
-    let name = Some(Text::from_string(String::from_str(alloc, "Half")?));
-    assert!(rt; module.types.is_empty());
-    let inner = TypeInner::Scalar(Scalar::F16);
-    let half = module.types.insert(Type { name, inner }, Span::default());
-    half.map(|_| ())
-}
-
-#[test]
-fn a_refusal_has_the_name_of_the_type(rt: HostRuntime) -> Result<(), Fail> {
-    let error = with_text(&rt, rt.alloc(), "", |module| {
-        add_named_half(&rt, rt.alloc(), module)?;
-        refusal_of(&rt, rt.alloc(), module)
-    })?;
-    match error.into_inner() {
-        ValidationError::Type_ { name, .. } => assert_same(&rt, &name.as_str(), &"Half"),
-        _ => assert!(rt; false, "refused otherwise"),
-    }
-    Ok(())
-}
-
 /// The refusal of a module whose second type has this width and this span.
 fn refusal_at(
     rt: &impl Abort,
@@ -308,59 +222,6 @@ fn a_refusal_has_the_span_of_the_type(rt: HostRuntime) -> Result<(), Fail> {
             assert_same_for(&rt, &width, &error.span(), &want);
         }
     }
-    Ok(())
-}
-
-/// The error on function 5, which isn't there.
-fn missing_function() -> BadHandle {
-    BadHandle {
-        kind: StaticText::new("Function"),
-        index: 5,
-    }
-}
-
-/// Comments on a function that isn't there.
-fn comment_on_function(alloc: Global, module: &mut Module) -> Result<(), Fail> {
-    let comment = (Handle::new(5), List::new(alloc));
-    Ok(module.doc_comments.functions.push(comment)?)
-}
-
-#[test]
-fn a_comment_on_a_missing_function_is_refused(rt: HostRuntime) -> Result<(), Fail> {
-    let error = with_text(&rt, rt.alloc(), "", |module| {
-        comment_on_function(rt.alloc(), module)?;
-        refusal_of(&rt, rt.alloc(), module)
-    })?;
-    assert_same(&rt, &error.span(), &None);
-    assert_same(
-        &rt,
-        &error.into_inner(),
-        &ValidationError::from(missing_function()),
-    );
-    Ok(())
-}
-
-/// Adds a type with a span, and comments on its first member.
-fn comment_on_member(rt: &impl Abort, alloc: Global, module: &mut Module) -> Result<(), Fail> {
-    let ty = add_float(rt, module, 4, Span::new(5, 9))?;
-    let comment = ((ty, 0), List::new(alloc));
-    Ok(module.doc_comments.struct_members.push(comment)?)
-}
-
-#[test]
-fn a_comment_on_a_missing_member_is_refused(rt: HostRuntime) -> Result<(), Fail> {
-    let error = with_text(&rt, rt.alloc(), "", |module| {
-        comment_on_member(&rt, rt.alloc(), module)?;
-        refusal_of(&rt, rt.alloc(), module)
-    })?;
-    assert_same(&rt, &error.span(), &None);
-    let handle = Handle::new(0);
-    let want = ValidationError::Type_ {
-        handle,
-        name: Text::from_string(String::from_str(rt.alloc(), "Unknown")?),
-        source: TypeError::InvalidData(handle),
-    };
-    assert_same(&rt, &error.into_inner(), &want);
     Ok(())
 }
 
@@ -423,6 +284,8 @@ fn settings_outlast_a_reset(
     assert_same(rt, &validator.type_count(), &0);
     validator.validate(half)?;
     assert_same(rt, &validator.type_count(), &1);
+    validator.validate_resolved_overrides(half)?;
+    assert_same(rt, &validator.type_count(), &1);
     assert!(rt; validator.validate(double).is_err());
     Ok(())
 }
@@ -468,6 +331,14 @@ fn errors_are_made_from_those_of_lower_crates(rt: HostRuntime) {
         &ValidationError::from(OutOfMemory),
         &ValidationError::OutOfMemory,
     );
+}
+
+/// The error on function 5, which isn't there.
+fn missing_function() -> BadHandle {
+    BadHandle {
+        kind: StaticText::new("Function"),
+        index: 5,
+    }
 }
 
 #[test]

@@ -1,4 +1,4 @@
-//! Widths and flags as their tables have them, and the texts of errors.
+//! Flags as their tables have them, and the texts of errors of widths.
 
 use super::{assert_same, assert_same_for, assert_shown};
 use bitflags::Flags;
@@ -7,7 +7,7 @@ use naga_flags::flags::{
     Capabilities, ShaderStages, SubgroupOperationSet, TypeFlags, ValidationFlags,
 };
 use naga_flags::subgroup::{required_operations, required_operations_of_gather};
-use naga_flags::width::{ImmediateError, WidthError, check_width};
+use naga_flags::width::{ImmediateError, WidthError};
 use naga_ir::handle::Handle;
 use naga_ir::statement::{GatherMode, SubgroupOperation};
 use naga_ir::text::StaticText;
@@ -111,122 +111,6 @@ fn a_set_contains_only_what_it_has_whole(rt: HostRuntime) {
     assert!(rt; !flags.contains(ValidationFlags::BLOCKS | ValidationFlags::BINDINGS));
     assert!(rt; flags.intersects(ValidationFlags::BLOCKS | ValidationFlags::BINDINGS));
     assert!(rt; !flags.intersects(ValidationFlags::BINDINGS));
-}
-
-#[test]
-fn plain_widths_need_no_capability(rt: HostRuntime) {
-    let none = Capabilities::empty();
-    for (kind, width) in [
-        (ScalarKind::Bool, 1),
-        (ScalarKind::Float, 4),
-        (ScalarKind::Sint, 4),
-        (ScalarKind::Uint, 4),
-    ] {
-        assert_same_for(
-            &rt,
-            &kind,
-            &check_width(none, Scalar { kind, width }),
-            &Ok(Ok(())),
-        );
-    }
-}
-
-#[test]
-fn other_widths_need_the_capability_that_the_error_names(rt: HostRuntime) {
-    let rows = [
-        (
-            ScalarKind::Float,
-            8,
-            Capabilities::FLOAT64,
-            "f64",
-            "FLOAT64",
-        ),
-        (
-            ScalarKind::Float,
-            2,
-            Capabilities::SHADER_FLOAT16,
-            "f16",
-            "SHADER_FLOAT16",
-        ),
-        (
-            ScalarKind::Sint,
-            2,
-            Capabilities::SHADER_INT16,
-            "i16",
-            "SHADER_INT16",
-        ),
-        (
-            ScalarKind::Uint,
-            2,
-            Capabilities::SHADER_INT16,
-            "u16",
-            "SHADER_INT16",
-        ),
-        (
-            ScalarKind::Sint,
-            8,
-            Capabilities::SHADER_INT64,
-            "i64",
-            "SHADER_INT64",
-        ),
-        (
-            ScalarKind::Uint,
-            8,
-            Capabilities::SHADER_INT64,
-            "u64",
-            "SHADER_INT64",
-        ),
-    ];
-    for (kind, width, needed, name, flag) in rows {
-        let scalar = Scalar { kind, width };
-        let immediates = if width == 2 {
-            Err(ImmediateError::InvalidScalar(scalar))
-        } else {
-            Ok(())
-        };
-        assert_same_for(&rt, &name, &check_width(needed, scalar), &Ok(immediates));
-        let mut others = Capabilities::all();
-        others.remove(needed);
-        let missing = WidthError::MissingCapability {
-            name: StaticText::new(name),
-            flag: StaticText::new(flag),
-        };
-        assert_same_for(&rt, &name, &check_width(others, scalar), &Err(missing));
-    }
-}
-
-#[test]
-fn odd_widths_are_refused_under_all_capabilities(rt: HostRuntime) {
-    let all = Capabilities::all();
-    for (kind, width) in [
-        (ScalarKind::Bool, 4),
-        (ScalarKind::Bool, 0),
-        (ScalarKind::Float, 1),
-        (ScalarKind::Float, 16),
-        (ScalarKind::Sint, 1),
-        (ScalarKind::Uint, 3),
-        (ScalarKind::Uint, 0),
-    ] {
-        assert_same_for(
-            &rt,
-            &kind,
-            &check_width(all, Scalar { kind, width }),
-            &Err(WidthError::Invalid(kind, width)),
-        );
-    }
-    for (kind, width) in [
-        (ScalarKind::AbstractInt, 8),
-        (ScalarKind::AbstractInt, 4),
-        (ScalarKind::AbstractFloat, 8),
-        (ScalarKind::AbstractFloat, 2),
-    ] {
-        assert_same_for(
-            &rt,
-            &kind,
-            &check_width(all, Scalar { kind, width }),
-            &Err(WidthError::Abstract),
-        );
-    }
 }
 
 #[test]

@@ -1,7 +1,6 @@
-//! The rule of structs, on the last type of a text, or on structs whose members have names or are
-//! built in, as those of no text are.
+//! The rule of structs whose members have names or are built in, as no text describes them.
 
-use super::{add_type, assert_refused, assert_same_for, info_of, judged, with_module};
+use super::{add_type, judged, with_module};
 use bitflags::Flags;
 use naga_flags::flags::Capabilities;
 use naga_ir::handle::Handle;
@@ -11,7 +10,7 @@ use naga_ir::memory::OutOfMemory;
 use naga_ir::tags::TypeTag;
 use naga_ir::text::Text;
 use naga_ir::types::{ArraySize, Binding, Scalar, StructMember, TypeInner};
-use naga_types::error::{TypeError, VaryingError};
+use naga_types::error::TypeError;
 use naga_types::info::TypeInfo;
 use std::alloc::Global;
 use std::process::Abort;
@@ -25,124 +24,6 @@ pub(super) fn member(ty: Handle<TypeTag>, offset: u32, binding: Option<Binding>)
         binding,
         offset,
     }
-}
-
-#[test]
-fn members_stand_one_after_another_within_the_struct(rt: HostRuntime) {
-    let none = Capabilities::default();
-    assert_refused(
-        &rt,
-        &[
-            (
-                none,
-                "type scalar uint 4\ntype struct 8 0:0 0:2",
-                TypeError::MemberOverlap {
-                    index: 1,
-                    offset: 2,
-                },
-            ),
-            (
-                none,
-                "type scalar uint 4\ntype struct 16 0:0 0:8 0:10",
-                TypeError::MemberOverlap {
-                    index: 2,
-                    offset: 10,
-                },
-            ),
-            (
-                none,
-                "type scalar uint 4\ntype struct 4294967295 0:4294967295",
-                TypeError::MemberOutOfBounds {
-                    index: 0,
-                    offset: 4294967295,
-                    size: 4,
-                    span: 4294967295,
-                },
-            ),
-            (
-                none,
-                "type scalar uint 4\ntype struct 4294967295 0:0 0:4294967292",
-                TypeError::MemberOutOfBounds {
-                    index: 1,
-                    offset: 4294967292,
-                    size: 4,
-                    span: 4294967295,
-                },
-            ),
-            (none, "type struct 4", TypeError::EmptyStruct),
-        ],
-    );
-}
-
-#[test]
-fn sources_of_blending_come_in_pairs(rt: HostRuntime) {
-    let given = Capabilities::DUAL_SOURCE_BLENDING;
-    let both = "type scalar uint 4\ntype struct 8 0:0:0:0 0:4:0:1";
-    assert_same_for(&rt, &both, &info_of(&rt, given, both).flags.bits(), &0xff);
-    assert_refused(
-        &rt,
-        &[
-            (
-                Capabilities::default(),
-                both,
-                TypeError::MissingCapability(given),
-            ),
-            (
-                given,
-                "type scalar uint 4\ntype struct 8 0:0:0:0 0:4",
-                TypeError::InvalidBlendSrc(VaryingError::IncompleteBlendSrcUsage {
-                    present_blend_src: 0,
-                }),
-            ),
-            (
-                given,
-                "type vector 4 float 4\ntype struct 16 0:0:0:0",
-                TypeError::InvalidBlendSrc(VaryingError::IncompleteBlendSrcUsage {
-                    present_blend_src: 0,
-                }),
-            ),
-            (
-                given,
-                "type scalar uint 4\ntype struct 8 0:0 0:4:0:1",
-                TypeError::InvalidBlendSrc(VaryingError::IncompleteBlendSrcUsage {
-                    present_blend_src: 1,
-                }),
-            ),
-            (
-                given,
-                "type scalar uint 4\ntype scalar sint 4\ntype struct 8 0:0:0:0 1:4:0:1",
-                TypeError::InvalidBlendSrc(VaryingError::BlendSrcOutputTypeMismatch {
-                    blend_src_0_type: Handle::new(0),
-                    blend_src_1_type: Handle::new(1),
-                }),
-            ),
-            (
-                given,
-                "type matrix 2 2 float 4\ntype struct 32 0:0:0:0 0:16:0:1",
-                TypeError::InvalidBlendSrc(VaryingError::NotIOShareableType(Handle::new(0))),
-            ),
-            (
-                given,
-                "type scalar uint 4\ntype struct 8 0:0:0:0 0:4:0:0",
-                TypeError::InvalidBlendSrc(VaryingError::BindingCollisionBlendSrc { blend_src: 0 }),
-            ),
-            (
-                given,
-                "type scalar uint 4\ntype struct 8 0:0:1:0 0:4:0:1",
-                TypeError::InvalidBlendSrc(VaryingError::InvalidBlendSrcIndex {
-                    location: 1,
-                    blend_src: 0,
-                }),
-            ),
-            (
-                given,
-                "type scalar uint 4\ntype struct 16 0:0:0:0 0:4:7 0:8:0:1 0:12:3",
-                TypeError::InvalidBlendSrc(VaryingError::InvalidBlendSrcWithOtherBindings {
-                    location: 3,
-                }),
-            ),
-        ],
-    );
 }
 
 /// A source of blending at location 0.
@@ -214,8 +95,8 @@ fn judged_lights(
 }
 
 #[test]
-fn an_array_without_a_length_is_the_last_member(rt: HostRuntime) -> Result<(), Fail> {
-    for (name, want) in [(None, ""), (Some(""), ""), (Some("lights"), "lights")] {
+fn the_member_that_is_an_array_without_a_length_is_named(rt: HostRuntime) -> Result<(), Fail> {
+    for (name, want) in [(Some(""), ""), (Some("lights"), "lights")] {
         let result = judged_lights(&rt, rt.alloc(), name)?;
         let want = Text::from_string(String::from_str(rt.alloc(), want)?);
         let refused = TypeError::InvalidDynamicArray(want, Handle::new(1));

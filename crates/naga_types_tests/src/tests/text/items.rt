@@ -3,7 +3,6 @@
 use super::super::with_text;
 use super::assert_same_for;
 use naga_ir::ir::Module;
-use naga_text::text::{TextError, read_text};
 use std::alloc::{AllocError, Global};
 use std::process::Abort;
 
@@ -39,14 +38,6 @@ fn assert_items(rt: &(impl AllocGlobal + Abort), rows: &[(&str, &str)]) {
             shown_items(rt.alloc(), module)
         });
         assert_same_for(rt, text, &got.expect(rt, "memory").as_str(), want);
-    }
-}
-
-/// Makes sure that lines can't be read.
-fn assert_unreadable(rt: &(impl AllocGlobal + Abort), lines: &[&str]) {
-    for line in lines {
-        let refused = read_text(rt.alloc(), line.as_bytes()).err();
-        assert_same_for(rt, line, &refused, &Some(TextError::Line(1)));
     }
 }
 
@@ -96,49 +87,6 @@ fn literals_are_as_written(rt: HostRuntime) {
                 "expr lit afloat 18446744073709551615",
                 "[Literal(AbstractFloat(18446744073709551615))]",
             ),
-        ],
-    );
-}
-
-#[test]
-fn literals_are_unreadable(rt: HostRuntime) {
-    assert_unreadable(
-        &rt,
-        &[
-            "expr lit",
-            "expr lit i32",
-            "expr lit i32 ",
-            "expr lit i32 1 1",
-            "expr lit u8 1",
-            "expr lit I32 1",
-            "expr lit i16 32768",
-            "expr lit i16 -32769",
-            "expr lit u16 65536",
-            "expr lit i32 2147483648",
-            "expr lit i32 -2147483649",
-            "expr lit i32 -",
-            "expr lit i32 --1",
-            "expr lit i32 +1",
-            "expr lit i32 1-",
-            "expr lit i32 000000000000000000001",
-            "expr lit i32 -000000000000000000001",
-            "expr lit u32 4294967296",
-            "expr lit u32 -1",
-            "expr lit u32 -0",
-            "expr lit i64 9223372036854775808",
-            "expr lit i64 -9223372036854775809",
-            "expr lit u64 18446744073709551616",
-            "expr lit f16 65536",
-            "expr lit f32 4294967296",
-            "expr lit f32 -0",
-            "expr lit f32 1.0",
-            "expr lit f64 18446744073709551616",
-            "expr lit bool 2",
-            "expr lit bool -0",
-            "expr lit bool true",
-            "expr lit aint 9223372036854775808",
-            "expr lit aint -9223372036854775809",
-            "expr lit afloat 18446744073709551616",
         ],
     );
 }
@@ -246,41 +194,6 @@ fn expressions_are_as_written(rt: HostRuntime) {
 }
 
 #[test]
-fn expressions_are_unreadable(rt: HostRuntime) {
-    assert_unreadable(
-        &rt,
-        &[
-            "expr",
-            "expr ",
-            "expr access 0 0",
-            "expr const",
-            "expr const 0 0",
-            "expr const 4294967295",
-            "expr override",
-            "expr override -",
-            "expr zero",
-            "expr zero 0 0",
-            "expr compose",
-            "expr compose 4294967295",
-            "expr compose 0 ",
-            "expr compose 0 1 4294967295",
-            "expr compose 0 1 - 2",
-            "expr splat 2",
-            "expr splat 1 0",
-            "expr splat 5 0",
-            "expr splat 2 0 0",
-            "expr unary negate",
-            "expr unary negate 0 0",
-            "expr unary neg 0",
-            "expr binary add 0",
-            "expr binary add 0 0 0",
-            "expr binary Add 0 0",
-            "expr binary plus 0 0",
-        ],
-    );
-}
-
-#[test]
 fn items_are_as_written(rt: HostRuntime) {
     assert_items(
         &rt,
@@ -314,32 +227,6 @@ fn items_are_as_written(rt: HostRuntime) {
                 "[Literal(Bool(true)), ZeroValue([0])] [Constant { name: None, ty: [0], init: [0] }, Constant { name: None, ty: [0], init: [1] }] \
                 [Override { name: None, id: None, ty: [0], init: None }] [(([0], 1), List { items: [] })]",
             ),
-        ],
-    );
-}
-
-#[test]
-fn items_are_unreadable(rt: HostRuntime) {
-    assert_unreadable(
-        &rt,
-        &[
-            "const",
-            "const 0",
-            "const 0 0 0",
-            "const 0 -",
-            "const 4294967295 0",
-            "override 0",
-            "override 0 0",
-            "override 0 0 0 0",
-            "override - - -",
-            "override 0 - 65536",
-            "override 0 - -1",
-            "override 0 4294967295 -",
-            "override 0 -- -",
-            "doc 0",
-            "doc 0 0 0",
-            "doc 0 4294967295",
-            "doc 4294967295 0",
         ],
     );
 }

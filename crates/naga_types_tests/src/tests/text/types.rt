@@ -2,14 +2,13 @@
 
 ghost use Rattle.std.specs.Prelude.{◌<◌};
 
-use super::assert_same_for;
 use naga_ir::handle::Handle;
 use naga_ir::list::List;
 use naga_ir::types::{
     AddressSpace, ArraySize, Binding, CooperativeRole, CooperativeSize, ImageClass, ImageDimension,
     Scalar, StorageAccess, StorageFormat, StructMember, TypeInner, VectorSize,
 };
-use naga_text::text::{Contents, TextError, read_text};
+use naga_text::text::{Contents, read_text};
 use std::num::NonZeroU32;
 use std::test::Fail;
 
@@ -26,14 +25,6 @@ fn says_type(rt: HostRuntime, text: &str, inner: &TypeInner) -> bool {
     match read_text(rt.alloc(), text.as_bytes()) {
         Ok(contents) => has_type(&contents, inner),
         Err(_) => false,
-    }
-}
-
-/// The first line that can't be read.
-fn unreadable_line(rt: HostRuntime, text: &str) -> Option<usize> {
-    match read_text(rt.alloc(), text.as_bytes()) {
-        Err(TextError::Line(n)) => Some(n),
-        _ => None,
     }
 }
 
@@ -203,78 +194,4 @@ fn structs_are_as_written(rt: HostRuntime) -> Result<(), Fail> {
     let inner = TypeInner::Struct { members, span: 0 };
     assert!(rt; says_type(rt, "type struct 0", &inner));
     Ok(())
-}
-
-#[test]
-fn numbers_and_pointers_are_unreadable(rt: HostRuntime) {
-    for text in [
-        "type coop 8 8 float 2",
-        "type coop 8 8 float 2 A A",
-        "type coop 9 8 float 2 A",
-        "type coop 8 8 float 2 D",
-        "type atomic uint",
-        "type atomic uint 4 4",
-        "type atomic uint 256",
-        "type pointer 0",
-        "type pointer 0 function 0",
-        "type pointer 4294967295 function",
-        "type pointer 0 Function",
-        "type valuepointer 0 uint 4",
-        "type valuepointer 0 uint 4 function 0",
-        "type valuepointer 1 uint 4 function",
-        "type valuepointer 5 uint 4 function",
-    ] {
-        assert_same_for(&rt, &text, &unreadable_line(rt, text), &Some(1));
-    }
-}
-
-#[test]
-fn arrays_and_structs_are_unreadable(rt: HostRuntime) {
-    for text in [
-        "type array 0 4",
-        "type array 0 4 4 4",
-        "type array 0 0 4",
-        "type array 0 4294967296 4",
-        "type array 0 o 4",
-        "type array 0 o4294967295 4",
-        "type array 0 4 4294967296",
-        "type array 0 dynamic 4",
-        "type bindingarray 0",
-        "type bindingarray 0 4 4",
-        "type bindingarray 0 0",
-        "type struct",
-        "type struct 4294967296",
-        "type struct 16 0",
-        "type struct 16 0:0:0:0:0",
-        "type struct 16 4294967295:0",
-        "type struct 16 0:4294967296",
-        "type struct 16 0:0:4294967296",
-        "type struct 16 0:0:0:4294967296",
-        "type struct 16 0:0 0:",
-        "type struct 16 ",
-    ] {
-        assert_same_for(&rt, &text, &unreadable_line(rt, text), &Some(1));
-    }
-}
-
-#[test]
-fn images_and_rays_are_unreadable(rt: HostRuntime) {
-    for text in [
-        "type image 2 0",
-        "type image 2 0 float 0",
-        "type image 4 0 float",
-        "type image 2 2 float",
-        "type image 2 0 uintms",
-        "type sampler",
-        "type sampler 0 0",
-        "type sampler 2",
-        "type accel",
-        "type accel 0 0",
-        "type accel 2",
-        "type rayquery",
-        "type rayquery 0 0",
-        "type rayquery 2",
-    ] {
-        assert_same_for(&rt, &text, &unreadable_line(rt, text), &Some(1));
-    }
 }
