@@ -1,6 +1,6 @@
 //! The tests of `naga_exprs::expression` that no file of cases can ask for: an override that must have its value and
-//! has none, refused memory, and slots of immediate data. Each expression is the last of a function of a small
-//! module. All other rows are files of `naga_query`: `access.txt`, `operators.txt` and those beside them.
+//! has none, and refused memory. Each expression is the last of a function of a small module. All other rows are
+//! files of `naga_query`: `access.txt`, `operators.txt` and those beside them.
 
 ghost use Rattle.std.specs.Prelude.{◌≡◌, ◌<◌, ◌≤◌, ℕ, All, IfOk, IsTrue, Some, length, slice_get};
 ghost use Rattle.naga_ir.specs.Handles.{ExpressionReferencesOk, HandlesAccepted};
@@ -9,7 +9,6 @@ ghost use Rattle.naga_ir.specs.declared.expression.Expression.TheVariants as for
 ghost use Rattle.naga_typing.specs.Resolutions.{ResolutionExists};
 
 mod access;
-mod immediates;
 mod operands;
 mod refused_memory;
 

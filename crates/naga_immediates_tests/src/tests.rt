@@ -1,4 +1,5 @@
-//! The tests of `naga_immediates`: rows of texts if a text can describe the module.
+//! The tests of `naga_immediates` that no file of cases can ask for: unions and differences of sets, what a set
+//! contains, and structs nested very deep. All other rows are in `immediate_slots.txt` of `naga_query`.
 
 ghost use Rattle.std.specs.Prelude.{◌<◌, length};
 ghost use Rattle.naga_ir.specs.Handles.{GlobalReferencesOk};
@@ -12,7 +13,6 @@ use naga_immediates::immediates::ImmediateSlots;
 use naga_ir::handle::Handle;
 use naga_ir::ir::Module;
 use naga_ir::tags::TypeTag;
-use naga_text::text::read_text;
 use naga_typing::context::to_ctx;
 use std::alloc::Global;
 use std::fmt::Debug;
@@ -26,17 +26,6 @@ pub(crate) fn assert_same_for<R: Debug, T: Debug + PartialEq>(
     want: &T,
 ) {
     assert!(rt; *got == *want, "{row:?}: {got:?}, and not {want:?}");
-}
-
-/// Makes sure that a set of slots is shown as this text, for one row of a table.
-pub(crate) fn assert_shown_for<R: Debug>(
-    rt: &(impl AllocGlobal + Abort),
-    row: &R,
-    slots: &ImmediateSlots,
-    want: &str,
-) {
-    let shown = format!(in rt.alloc(); "{slots}").expect(rt, "memory");
-    assert!(rt; shown.as_str() == want, "{row:?}: {shown}, and not {want}");
 }
 
 /// Makes sure that references in a module exist and go back.
@@ -54,26 +43,10 @@ pub(crate) fn last_type(rt: &impl Abort, module: &Module) -> Handle<TypeTag>
     Handle::new(last as u32)
 }
 
-/// The slots that the last type of a module uses from a byte on.
-pub(crate) fn slots_of_last(
-    rt: &impl Abort,
-    alloc: Global,
-    module: &Module,
-    offset: u32,
-) -> ImmediateSlots {
+/// The slots that the last type of a module uses.
+pub(crate) fn slots_of_last(rt: &impl Abort, alloc: Global, module: &Module) -> ImmediateSlots {
     assert_references_ok(rt, alloc, module);
     let ty = last_type(rt, module);
     let gctx = to_ctx(module);
-    ImmediateSlots::from_type(&module.types[ty].inner, offset, &module.types, gctx)
-}
-
-/// The slots that the last type of the module that a text describes uses from a byte on.
-pub(crate) fn slots_of_text(
-    rt: &impl Abort,
-    alloc: Global,
-    text: &str,
-    offset: u32,
-) -> ImmediateSlots {
-    let contents = read_text(alloc, text.as_bytes()).expect(rt, "readable");
-    slots_of_last(rt, alloc, &contents.module, offset)
+    ImmediateSlots::from_type(&module.types[ty].inner, 0, &module.types, gctx)
 }

@@ -1,11 +1,11 @@
-//! The tests of `naga_leaves`: rows of texts if a text can describe the module.
+//! The tests of `naga_leaves` that no file of cases can ask for: a type without leaves, the first of many leaves, a
+//! sweep over structs, a buffer that is packed, and refused memory. All other rows are in `leaves.txt` of `naga_query`.
 
 ghost use Rattle.std.specs.Prelude.{◌<◌, length};
 ghost use Rattle.naga_ir.specs.Handles.{GlobalReferencesOk};
 ghost use Rattle.naga_ir.specs.ItemReferences.{global_lists};
 
 mod cursor;
-mod leaf;
 mod packing;
 mod refused_memory;
 

@@ -60,16 +60,8 @@ pub(super) fn at(index: u32) -> Handle<ExpressionTag> {
     Handle::new(index % 100)
 }
 
-/// An access to an operand at a known index.
-pub(super) fn part(base: u32, index: u32) -> Expression {
-    Expression::AccessIndex {
-        base: at(base),
-        index,
-    }
-}
-
 /// Adds an expression to a function.
-pub(super) fn append(
+fn append(
     rt: &impl Abort,
     function: &mut Function,
     expression: Expression,
