@@ -19,7 +19,8 @@ pub struct Session<T> {
     flags: ValidationFlags,
     capabilities: Capabilities,
     typing: T,
-    validator: Validator<T>,
+    /// The validator, with the settings of the case that was validated last.
+    pub validator: Validator<T>,
 }
 
 impl<T: Typing + Copy> Session<T> {
@@ -54,13 +55,6 @@ impl<T: Typing + Copy> Session<T> {
     /// The validator, with the settings of a case.
     pub fn with_settings_of(&mut self, draft: &Draft) -> &Validator<T> {
         self.set(draft.flags(), draft.capabilities());
-        &self.validator
-    }
-
-    /// The validator, with the settings of the case that was validated last.
-    pub fn validator(&self) -> &Validator<T>
-        ensures { result.now ≡ self.now.validator }
-    {
         &self.validator
     }
 

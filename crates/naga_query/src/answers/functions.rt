@@ -224,7 +224,7 @@ fn validate_function(
     }
     let kinds = ExpressionKindTracker::from_arena(alloc, &function.expressions)?;
     let with = Surroundings {
-        validator: session.validator(),
+        validator: &session.validator,
         resolved: draft.resolved(),
         module: &draft.module,
         info,
@@ -324,7 +324,7 @@ pub fn add_functions(
     let alloc = session.alloc();
     match session.validate(draft) {
         Ok(mut info) => {
-            let report = report_accepted(alloc, &draft.module, session.validator())?;
+            let report = report_accepted(alloc, &draft.module, &session.validator)?;
             answer.push_str(report.as_str())?;
             add_infos(alloc, &mut info, &draft.module, &draft.stages)?;
             add_of_functions(session, answer, draft, &info)?;

@@ -66,7 +66,7 @@ fn validate_first(
     ensures flags { OnOk result (length draft.now.«module».types ≤ length info.new.lists.type_flags) }
 {
     let functions = draft.module.functions.as_slice();
-    let validator = session.validator();
+    let validator = &session.validator;
     for index in 0..count {
         let function = &functions[index];
         let resolved = draft.resolved();
@@ -98,7 +98,7 @@ fn add_validated(
     requires flags { length draft.now.«module».types ≤ length info.now.lists.type_flags }
     requires wanted { CanJudgeFunction draft.now.«module» wanted.function.now (length info.now.lists.functions) }
 {
-    let validator = session.validator();
+    let validator = &session.validator;
     let resolved = draft.resolved();
     match validator.validate_function_expressions(&draft.module, info, wanted.function, resolved) {
         Ok(known) => Ok(add_info(answer, &known)?),

@@ -73,7 +73,7 @@ fn add_infos(
     let layouter = layouts_of(session.alloc(), module)?;
     for index in 0..module.types.len() {
         let ty = Handle::new(index as u32);
-        let info = session.validator().type_info(ty);
+        let info = session.validator.type_info(ty);
         add_info(answer, module, ty, layouter[ty], info)?;
     }
     Ok(())
@@ -111,7 +111,7 @@ fn add_type_info(
         module,
         ty,
         layouter[ty],
-        session.validator().type_info(ty),
+        session.validator.type_info(ty),
     )?;
     Ok(())
 }
