@@ -4,8 +4,9 @@ use Rattle.std.specs.Prelude.{Err, IfOk, List, Ok, Result}
 use Rattle.naga_arena.specs.Memory.{UnlessOutOfMemory}
 use Rattle.naga_infos.specs.ModuleInfo.{ModuleInfoLists}
 use Rattle.naga_ir.proofs.Handles.{global_references_ok}
+use Rattle.naga_ir.specs.Handles.{HandlesAccepted}
 use Rattle.naga_ir.specs.declared.ir.Module.{Module}
-use Rattle.naga_query.specs.Accepted.{IsAcceptedModule}
+use Rattle.naga_query.specs.Accepted.{AreHandlesRight, IsAcceptedModule}
 use Rattle.naga_types.specs.declared.info.TypeInfo.{TypeInfo}
 use Rattle.naga_typing.specs.Typings.{Resolves}
 use Rattle.naga_valid.specs.Accepted.{Accepts}
@@ -17,6 +18,10 @@ pub if_ok : {T E : Type 0} (result : Result T E) (IsOutOfMemory : E → Type 0) 
     → UnlessOutOfMemory IsOutOfMemory result IsAccepted IsRefused → ((x : T) → IsAccepted x → Follows x) → IfOk result Follows
 if_ok (Ok x) oom accepted follows refused h gives = gives x h
 if_ok (Err e) oom accepted follows refused h gives = tt
+
+-- what follows if the handles of a module are right
+pub right_handles : (m : Module) → HandlesAccepted m → AreHandlesRight m
+right_handles m handles = record { handles = handles; references = global_references_ok m handles }
 
 -- a module that is accepted, whose functions can be validated in order
 pub accepted_module : (resolves : Resolves) (m : Module) (settings : Settings) (infos : List TypeInfo) (lists : ModuleInfoLists)

@@ -1,2 +1,4 @@
 mod Acceptance
+mod Calls
+mod Functions
 mod Validation

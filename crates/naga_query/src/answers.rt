@@ -1,9 +1,12 @@
 //! What queries are answered.
 
+pub mod exchange;
 pub mod functions;
 pub mod leaves;
 pub mod modules;
+pub mod overloads;
 pub mod shaders;
 pub mod slots;
 pub mod texts;
 pub mod types;
+pub mod typing;

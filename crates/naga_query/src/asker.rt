@@ -1,98 +1,36 @@
-//! Queries, and who answers them.
+//! Who answers which query.
 
+ghost use Rattle.naga_query.specs.Accepted.{AreHandlesRight, IsAcceptedModule};
+
+use crate::answers::exchange::add_exchange;
 use crate::answers::functions::{add_functions, add_last};
-use crate::answers::leaves::{add_leaf_of, add_leaves};
-use crate::answers::modules::{add_handles, add_not_applicable, add_order, add_validated};
+use crate::answers::leaves::{add_leaf_at, add_leaves};
+use crate::answers::modules::{
+    add_error, add_fault, add_handles, add_not_applicable, add_order, check_handles,
+};
+use crate::answers::overloads::add_overloads;
 use crate::answers::shaders::add_callable;
-use crate::answers::slots::{add_of_pointer, add_of_type, add_range, add_size};
+use crate::answers::slots::{add_of_type, add_range, add_size, add_through};
 use crate::answers::texts::{add_read, add_run, add_unreadable, bytes_of};
 use crate::answers::types::{
     add_compose, add_expressions, add_literal, add_type, add_types, add_width,
 };
-use crate::draft::{Callable, Draft};
-use crate::items::only_word;
-use crate::labels::Labels;
-use crate::session::Sessions;
+use crate::answers::typing::{
+    add_index, add_inferred_types, add_kind, add_last_typed, add_length, add_same,
+    add_size as add_size_in_bytes,
+};
+use crate::query::{
+    AcceptedQuery, ChangeQuery, FunctionQuery, HandleQuery, ModuleQuery, Query, TextQuery,
+    needs_module, query_of,
+};
+use crate::session::{Session, Sessions};
+use naga_module_text::declarations::Callable;
+use naga_module_text::draft::Draft;
+use naga_module_text::items::only_word;
+use naga_module_text::labels::Labels;
 use naga_text::number::index;
-use naga_text::words::chosen;
-use naga_valid::OutOfMemory;
+use naga_valid::{FullTyping, Module, ModuleInfo, OutOfMemory, PlainTyping};
 use std::alloc::{AllocError, Global};
-
-/// What can be asked of any bytes, also of those that describe no module.
-#[derive(Clone, Copy)]
-enum TextQuery {
-    Run,
-    Read,
-}
-
-/// What can be asked of the module of a case.
-#[derive(Clone, Copy)]
-enum ModuleQuery {
-    Validate,
-    Handles,
-    Order,
-    Types,
-    Type,
-    Expressions,
-    Compose,
-    Literal,
-    Width,
-    Function,
-    EntryPoint,
-    Leaves,
-    Leaf,
-    Range,
-    TypeSlots,
-    PointerSlots,
-    ImmediateSize,
-}
-
-/// What can be asked of the module of a case, read once more with a change.
-#[derive(Clone, Copy)]
-enum ChangeQuery {
-    Functions,
-    Form,
-    With,
-}
-
-/// What a query asks.
-#[derive(Clone, Copy)]
-enum Query {
-    Report,
-    Text(TextQuery),
-    Module(ModuleQuery),
-    Change(ChangeQuery),
-}
-
-/// The query of a word.
-fn query_of(word: &[u8]) -> Option<Query> {
-    let queries = [
-        ("report", Query::Report),
-        ("run", Query::Text(TextQuery::Run)),
-        ("read", Query::Text(TextQuery::Read)),
-        ("validate", Query::Module(ModuleQuery::Validate)),
-        ("handles", Query::Module(ModuleQuery::Handles)),
-        ("order", Query::Module(ModuleQuery::Order)),
-        ("types", Query::Module(ModuleQuery::Types)),
-        ("type", Query::Module(ModuleQuery::Type)),
-        ("expressions", Query::Module(ModuleQuery::Expressions)),
-        ("compose", Query::Module(ModuleQuery::Compose)),
-        ("literal", Query::Module(ModuleQuery::Literal)),
-        ("width", Query::Module(ModuleQuery::Width)),
-        ("function", Query::Module(ModuleQuery::Function)),
-        ("entry", Query::Module(ModuleQuery::EntryPoint)),
-        ("leaves", Query::Module(ModuleQuery::Leaves)),
-        ("leaf", Query::Module(ModuleQuery::Leaf)),
-        ("range", Query::Module(ModuleQuery::Range)),
-        ("typeslots", Query::Module(ModuleQuery::TypeSlots)),
-        ("pointerslots", Query::Module(ModuleQuery::PointerSlots)),
-        ("immediatesize", Query::Module(ModuleQuery::ImmediateSize)),
-        ("functions", Query::Change(ChangeQuery::Functions)),
-        ("form", Query::Change(ChangeQuery::Form)),
-        ("with", Query::Change(ChangeQuery::With)),
-    ];
-    chosen(&queries, word)
-}
 
 /// A case: its lines without labels, its labels, and the module that the lines describe.
 #[derive(Drop)]
@@ -139,40 +77,120 @@ fn add_on_text(
     }
 }
 
-/// Adds what is asked of the module of a case.
+/// Adds what is asked of any module.
 fn add_on_module(
-    sessions: &mut Sessions,
+    session: &mut Session<PlainTyping>,
     answer: &mut String,
     query: ModuleQuery,
     words: &[&[u8]],
     draft: &Draft,
 ) -> Result<(), OutOfMemory> {
-    let alloc = sessions.alloc;
-    let session = &mut sessions.plain;
+    let alloc = session.alloc();
     match query {
-        ModuleQuery::Validate => add_validated(session, answer, draft),
-        ModuleQuery::Handles => Ok(add_handles(alloc, answer, draft)?),
-        ModuleQuery::Order => Ok(add_order(alloc, answer, draft)?),
-        ModuleQuery::Types => add_types(session, answer, draft),
-        ModuleQuery::Type => add_type(session, answer, draft, words),
-        ModuleQuery::Expressions => add_expressions(session, answer, draft),
-        ModuleQuery::Compose => add_compose(session, answer, draft, words),
-        ModuleQuery::Literal => add_literal(session, answer, draft, words),
-        ModuleQuery::Width => Ok(add_width(session, answer, draft, words)?),
-        ModuleQuery::Leaves => add_leaves(alloc, answer, draft, words),
-        ModuleQuery::Leaf => Ok(add_leaf_of(alloc, answer, draft, words)?),
+        ModuleQuery::Handles => Ok(add_handles(alloc, answer, &draft.module)?),
+        ModuleQuery::Order => Ok(add_order(alloc, answer, &draft.module)?),
+        ModuleQuery::Literal => add_literal(session, answer, draft.settings, words),
+        ModuleQuery::Width => Ok(add_width(session, answer, draft.settings, words)?),
         ModuleQuery::Range => Ok(add_range(answer, words)?),
-        ModuleQuery::TypeSlots => Ok(add_of_type(alloc, answer, draft, words)?),
-        ModuleQuery::PointerSlots => Ok(add_of_pointer(alloc, answer, draft, words)?),
-        ModuleQuery::ImmediateSize => add_size(session, answer, draft),
-        ModuleQuery::Function => match only_word(words).and_then(index) {
-            Some(at) => add_callable(&mut sessions.full, answer, draft, Callable::Function(at)),
-            None => Ok(add_not_applicable(answer, "not an index")?),
-        },
-        ModuleQuery::EntryPoint => match only_word(words).and_then(index) {
-            Some(at) => add_callable(&mut sessions.full, answer, draft, Callable::EntryPoint(at)),
-            None => Ok(add_not_applicable(answer, "not an index")?),
-        },
+        ModuleQuery::Exchange => add_exchange(alloc, answer, &draft.module, words),
+    }
+}
+
+/// Adds what is asked of a module whose handles are right.
+fn add_on_right_handles(
+    alloc: Global,
+    answer: &mut String,
+    query: HandleQuery,
+    words: &[&[u8]],
+    draft: &Draft,
+) -> Result<(), OutOfMemory>
+    requires { AreHandlesRight draft.now.«module» }
+{
+    let module = &draft.module;
+    match query {
+        HandleQuery::Leaves => add_leaves(alloc, answer, module, words),
+        HandleQuery::Leaf => Ok(add_leaf_at(alloc, answer, module, words)?),
+        HandleQuery::TypeSlots => Ok(add_of_type(answer, module, words)?),
+        HandleQuery::PointerSlots => Ok(add_through(answer, module, words)?),
+        HandleQuery::Kind => add_kind(alloc, answer, draft, words),
+        HandleQuery::Length => Ok(add_length(answer, module, words)?),
+        HandleQuery::Size => Ok(add_size_in_bytes(answer, module, words)?),
+        HandleQuery::Same => Ok(add_same(answer, module, words)?),
+        HandleQuery::Index => Ok(add_index(answer, module, words)?),
+        HandleQuery::Infer => add_inferred_types(alloc, answer, module, words),
+        HandleQuery::Overloads => add_overloads(alloc, answer, module, words),
+    }
+}
+
+/// Adds what is asked of a module if its handles are right, or which handle is wrong.
+fn add_on_handles(
+    alloc: Global,
+    answer: &mut String,
+    query: HandleQuery,
+    words: &[&[u8]],
+    draft: &Draft,
+) -> Result<(), OutOfMemory> {
+    match check_handles(alloc, &draft.module) {
+        Ok(()) => add_on_right_handles(alloc, answer, query, words, draft),
+        Err(fault) => Ok(add_fault(answer, &fault)?),
+    }
+}
+
+/// Adds what is asked of an accepted module.
+fn add_on_accepted(
+    session: &Session<PlainTyping>,
+    answer: &mut String,
+    query: AcceptedQuery,
+    words: &[&[u8]],
+    accepted: (&Module, &ModuleInfo),
+) -> Result<(), OutOfMemory>
+    requires { IsAcceptedModule accepted.0.now session.now.validator.infos accepted.1.now.lists }
+{
+    let (module, info) = accepted;
+    match query {
+        AcceptedQuery::Validate => Ok(answer.push_str("ok\n")?),
+        AcceptedQuery::Types => add_types(session, answer, module),
+        AcceptedQuery::Type => add_type(session, answer, module, words),
+        AcceptedQuery::Expressions => Ok(add_expressions(answer, info)?),
+        AcceptedQuery::Compose => add_compose(session.alloc(), answer, module, info, words),
+        AcceptedQuery::ImmediateSize => Ok(add_size(answer, module)?),
+    }
+}
+
+/// Adds what is asked of a module if it is accepted, or why it isn't.
+fn add_on_validated(
+    session: &mut Session<PlainTyping>,
+    answer: &mut String,
+    query: AcceptedQuery,
+    words: &[&[u8]],
+    draft: &Draft,
+) -> Result<(), OutOfMemory> {
+    match session.validate(draft) {
+        Ok(info) => add_on_accepted(session, answer, query, words, (&draft.module, &info)),
+        Err(error) => add_error(answer, &error),
+    }
+}
+
+/// The function or entry point of a query.
+fn callable_of(query: FunctionQuery, words: &[&[u8]]) -> Option<Callable> {
+    let index = index(only_word(words)?)?;
+    Some(match query {
+        FunctionQuery::Function => Callable::Function(index),
+        FunctionQuery::EntryPoint => Callable::EntryPoint(index),
+    })
+}
+
+/// Adds what is known of a function or an entry point.
+fn add_on_function(
+    session: &mut Session<FullTyping>,
+    answer: &mut String,
+    query: FunctionQuery,
+    words: &[&[u8]],
+    draft: &Draft,
+) -> Result<(), OutOfMemory> {
+    match callable_of(query, words) {
+        Some(callable) => add_callable(session, answer, draft, callable),
+        None => Ok(add_not_applicable(answer, "not an index")?),
     }
 }
 
@@ -205,7 +223,9 @@ fn changed(
     let text = case.text.as_str();
     match query {
         ChangeQuery::Functions => Ok(Some(String::from_str(alloc, text)?)),
-        ChangeQuery::Form => Ok(Some(format!(in alloc; "{text}f {words}\n")?)),
+        ChangeQuery::Form | ChangeQuery::Typing => {
+            Ok(Some(format!(in alloc; "{text}f {words}\n")?))
+        }
         ChangeQuery::With => with_form(alloc, case, words),
     }
 }
@@ -223,7 +243,8 @@ fn add_on_changed(
     match query {
         ChangeQuery::Functions => add_functions(&mut sessions.plain, answer, draft),
         ChangeQuery::Form => add_last(&mut sessions.plain, answer, draft),
-        ChangeQuery::With => match draft.last {
+        ChangeQuery::Typing => add_last_typed(sessions.alloc, answer, draft),
+        ChangeQuery::With => match draft.declarations.last {
             Some(last) => add_callable(&mut sessions.full, answer, draft, last),
             None => Ok(add_not_applicable(answer, "no function")?),
         },
@@ -234,7 +255,7 @@ fn add_on_changed(
 fn needs_stand_ins(query: ChangeQuery) -> bool {
     match query {
         ChangeQuery::Functions | ChangeQuery::Form => true,
-        ChangeQuery::With => false,
+        ChangeQuery::Typing | ChangeQuery::With => false,
     }
 }
 
@@ -273,22 +294,19 @@ fn add_on_case(
 ) -> Result<(), OutOfMemory> {
     let alloc = sessions.alloc;
     let resolved = case.labels.replaced(rest)?;
+    let words = words_of(alloc, resolved.as_str())?;
+    let draft = &case.draft;
+    let plain = &mut sessions.plain;
     match query {
         Query::Report => Ok(add_run(alloc, answer, case.text.as_bytes())?),
         Query::Text(asked) => add_on_text(alloc, answer, asked, rest),
-        Query::Module(asked) => {
-            let words = words_of(alloc, resolved.as_str())?;
-            add_on_module(sessions, answer, asked, &words, &case.draft)
+        Query::Module(asked) => add_on_module(plain, answer, asked, &words, draft),
+        Query::Handle(asked) => add_on_handles(alloc, answer, asked, &words, draft),
+        Query::Accepted(asked) => add_on_validated(plain, answer, asked, &words, draft),
+        Query::Function(asked) => {
+            add_on_function(&mut sessions.full, answer, asked, &words, draft)
         }
         Query::Change(asked) => add_on_change(sessions, answer, asked, resolved.as_str(), case),
-    }
-}
-
-/// Whether a query is about the module of a case.
-fn needs_module(query: Query) -> bool {
-    match query {
-        Query::Report | Query::Text(_) => false,
-        Query::Module(_) | Query::Change(_) => true,
     }
 }
 

@@ -1,9 +1,9 @@
 //! Files of cases: lines of modules, queries, and their results.
 
 use crate::asker::{Case, add_answer};
-use crate::draft::Draft;
-use crate::labels::Labels;
 use crate::session::Sessions;
+use naga_module_text::draft::Draft;
+use naga_module_text::labels::Labels;
 use naga_valid::OutOfMemory;
 use std::alloc::{AllocError, Global};
 
@@ -59,7 +59,7 @@ fn add_lines(text: &mut String, labels: &mut Labels, lines: &[&str]) -> Result<(
     Ok(())
 }
 
-/// The lines of a case, those of all cases first, with indices in place of labels.
+/// The shared lines of a file and then the lines of a case, with indices in place of labels.
 fn resolved(
     alloc: Global,
     labels: &mut Labels,
@@ -72,7 +72,7 @@ fn resolved(
     Ok(text)
 }
 
-/// The case of these lines, those of all cases first.
+/// The case of its own lines, behind the shared ones.
 fn case_of(alloc: Global, shared: &[&str], own: &[&str]) -> Result<Case, OutOfMemory> {
     let mut labels = Labels::new(alloc);
     let text = resolved(alloc, &mut labels, shared, own)?;

@@ -7,17 +7,10 @@
 
 mod answers;
 mod asker;
-mod blocks;
+mod callable;
 mod case_file;
-mod draft;
-mod forms;
-mod functions;
-mod items;
-mod labels;
+mod query;
 mod session;
-mod statements;
-mod tables;
-mod unread;
 
 use crate::case_file::answer_file;
 use anyhow::{Context, Result};

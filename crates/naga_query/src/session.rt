@@ -1,18 +1,32 @@
 //! The validators that serve all cases of a file.
 
 ghost use Rattle.std.specs.Prelude.{◌≡◌, IfOk};
-ghost use Rattle.naga_query.specs.Accepted.{IsAcceptedModule};
-ghost use Rattle.naga_valid.specs.Accepted.{Accepts};
-ghost use Rattle.naga_valid.specs.State.{settings_of};
+ghost use Rattle.naga_query.specs.Accepted.{IsAcceptedBy, IsAcceptedModule};
 
-use crate::draft::Draft;
+use naga_module_text::draft::Draft;
+use naga_module_text::settings::Settings;
 use naga_valid::{
     Capabilities, FullTyping, Module, ModuleInfo, PlainTyping, Typing, ValidationError,
     ValidationFlags, Validator, WithSpan, laws,
 };
 use std::alloc::Global;
 
-/// A validator, kept from case to case as long as its settings are those of the case.
+/// Validates a module; `resolved` says whether overrides have to have their values.
+fn validate_module<T: Typing>(
+    validator: &mut Validator<T>,
+    module: &Module,
+    resolved: bool,
+) -> Result<ModuleInfo, WithSpan<ValidationError>>
+    ensures { IfOk result (IsAcceptedBy (T.resolves validator.new.typing) validator.new resolved «module».now) }
+{
+    if resolved {
+        validator.validate_resolved_overrides(module)
+    } else {
+        validator.validate(module)
+    }
+}
+
+/// A validator, kept from case to case as long as the case has the same settings.
 #[derive(Drop)]
 pub struct Session<T> {
     alloc: Global,
@@ -37,13 +51,15 @@ impl<T: Typing + Copy> Session<T> {
         }
     }
 
-    /// The memory that answers are made in.
+    /// The allocator of all answers.
     pub fn alloc(&self) -> Global {
         self.alloc
     }
 
     /// Takes the settings of a case.
-    fn set(&mut self, flags: ValidationFlags, capabilities: Capabilities) {
+    fn set(&mut self, settings: Settings) {
+        let flags = settings.flags();
+        let capabilities = settings.capabilities();
         if self.flags == flags && self.capabilities == capabilities {
             return;
         }
@@ -53,33 +69,18 @@ impl<T: Typing + Copy> Session<T> {
     }
 
     /// The validator, with the settings of a case.
-    pub fn with_settings_of(&mut self, draft: &Draft) -> &Validator<T> {
-        self.set(draft.flags(), draft.capabilities());
+    pub fn with_settings(&mut self, settings: Settings) -> &Validator<T> {
+        self.set(settings);
         &self.validator
-    }
-
-    /// Validates a module under the settings of the validator.
-    fn validate_module(
-        &mut self,
-        module: &Module,
-        resolved: bool,
-    ) -> Result<ModuleInfo, WithSpan<ValidationError>>
-        ensures { IfOk result (λ info. Accepts (T.resolves self.new.validator.typing) «module».now (settings_of self.new.validator resolved) self.new.validator.infos info.lists) }
-    {
-        if resolved {
-            self.validator.validate_resolved_overrides(module)
-        } else {
-            self.validator.validate(module)
-        }
     }
 
     /// Validates the module of a case under its settings.
     pub fn validate(&mut self, draft: &Draft) -> Result<ModuleInfo, WithSpan<ValidationError>>
         ensures { IfOk result (λ info. IsAcceptedModule draft.now.«module» self.new.validator.infos info.lists) }
     {
-        self.set(draft.flags(), draft.capabilities());
-        let resolved = draft.resolved();
-        let info = self.validate_module(&draft.module, resolved)?;
+        self.set(draft.settings);
+        let resolved = draft.settings.resolved();
+        let info = validate_module(&mut self.validator, &draft.module, resolved)?;
         laws::functions(&draft.module, &self.validator, resolved, &info);
         Ok(info)
     }

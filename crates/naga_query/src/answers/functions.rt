@@ -1,40 +1,39 @@
 //! Answers about the expressions of functions: the stages that may use each.
 
-ghost use Rattle.std.specs.Prelude.{◌≡◌, ◌<◌, ◌≤◌, ℕ, IfOk, IfSome, IsTrue, OnOk, Some, [], length, slice_get, vec_len};
-ghost use Rattle.naga_ir.specs.Handles.{ExpressionReferencesOk, HandlesAccepted};
+ghost use Rattle.std.specs.Prelude.{◌≡◌, ◌<◌, ◌≤◌, ℕ, IfOk, IsTrue, OnOk, Some, [], length, slice_get};
 ghost use Rattle.naga_ir.specs.ItemReferences.{global_lists};
 ghost use Rattle.naga_ir.specs.declared.expression.Expression.TheVariants as form;
+ghost use Rattle.naga_query.specs.Accepted.{AreFunctionsKnown, ArgumentsAreThere, CanValidateIn, IsAcceptedModule, IsFunctionAt, IsKnownBefore, IsThereOrArgument};
 ghost use Rattle.naga_typing.specs.Resolutions.{IsProperResolution, ResolutionExists};
 ghost use Rattle.naga_typing.specs.Typings.{CanResolve};
-ghost use Rattle.naga_query.specs.Accepted.{ArgumentsAreThere, CanValidateAt};
-ghost use Rattle.naga_valid.specs.Functions.{CanJudgeInOrder};
 
 use crate::answers::modules::{add_error, add_not_applicable};
-use crate::draft::{Callable, Draft};
-use crate::functions::{Said, SaidTypes};
+use crate::callable::{FunctionAt, callable_at, function_of};
 use crate::session::Session;
 use bitflags::Flags;
+use naga_module_text::declarations::{Callable, Declared};
+use naga_module_text::draft::Draft;
 use naga_report::report::{report_accepted, report_refused};
 use naga_valid::{
     Expression, ExpressionError, ExpressionKindTracker, ExpressionTag, Function, FunctionInfo,
     Handle, Module, ModuleInfo, OutOfMemory, PlainTyping, ResolveError, Scalar, ShaderStages,
-    TypeInner, TypeResolution, Typing, Validator,
+    TypeInner, TypeResolution, Typing, ValidationError, Validator,
 };
 use std::alloc::{AllocError, Global};
 
-/// The type of an expression: the one that its line says, or what the plain typing resolves, or bool.
-fn type_of(
+/// The type of an expression: the one that its line declares, or what the plain typing resolves, or bool.
+pub fn type_of(
     alloc: Global,
     module: &Module,
     expression: &Expression,
-    said: Said,
+    declared: Declared,
     earlier: &[TypeResolution],
 ) -> Result<TypeResolution, OutOfMemory>
     requires can_resolve { CanResolve «module».now expression.now earlier.now }
     ensures exists { IfOk result (λ r. ResolutionExists (global_lists «module».now) r) }
     ensures proper { IfOk result IsProperResolution }
 {
-    if let Some(ty) = said.ty
+    if let Some(ty) = declared.ty
         && ty.index() < module.types.len()
     {
         return Ok(TypeResolution::Handle(ty));
@@ -60,28 +59,42 @@ fn name_of(alloc: Global, error: &ExpressionError) -> Result<String, AllocError>
 /// What the rule of an expression returns.
 type Validated = Result<ShaderStages, ExpressionError>;
 
-/// Adds the stages that may use an expression, in hexadecimal, or the variant of the error.
-fn add_stages(
-    alloc: Global,
-    answer: &mut String,
-    validated: &Option<Validated>,
-) -> Result<(), OutOfMemory> {
-    match validated {
-        Some(Ok(stages)) => {
-            let bits = stages.bits();
-            write!(answer, "{bits:x}\n")?;
-        }
-        Some(Err(ExpressionError::OutOfMemory)) => return Err(OutOfMemory),
-        Some(Err(error)) => {
-            let name = name_of(alloc, error)?;
-            write!(answer, "refused {name}\n")?;
-        }
-        None => add_not_applicable(answer, "nothing is known of the function")?,
-    }
-    Ok(())
+/// Adds the stages that may use an expression, in hexadecimal.
+fn add_stages(answer: &mut String, stages: ShaderStages) -> Result<(), AllocError> {
+    let bits = stages.bits();
+    write!(answer, "{bits:x}\n")
 }
 
-/// Whether an expression is no argument that a function with so many has not.
+/// Adds the stages that may use an expression, or the variant of the error.
+fn add_in_short(
+    alloc: Global,
+    answer: &mut String,
+    validated: &Validated,
+) -> Result<(), OutOfMemory> {
+    match validated {
+        Ok(stages) => Ok(add_stages(answer, *stages)?),
+        Err(ExpressionError::OutOfMemory) => Err(OutOfMemory),
+        Err(error) => {
+            let name = name_of(alloc, error)?;
+            write!(answer, "refused {name}\n")?;
+            Ok(())
+        }
+    }
+}
+
+/// Adds the stages that may use an expression, or the whole error.
+fn add_whole(answer: &mut String, validated: &Validated) -> Result<(), OutOfMemory> {
+    match validated {
+        Ok(stages) => Ok(add_stages(answer, *stages)?),
+        Err(ExpressionError::OutOfMemory) => Err(OutOfMemory),
+        Err(error) => {
+            write!(answer, "{error:?}\n")?;
+            Ok(())
+        }
+    }
+}
+
+/// Whether an expression is no argument past the first `count`.
 fn argument_exists(expression: &Expression, count: usize) -> bool
     ensures { IsTrue result → (i : ℕ) → expression.now ≡ form.FunctionArgument i → i < count }
 {
@@ -104,16 +117,6 @@ fn arguments_exist(function: &Function) -> bool
     true
 }
 
-/// Whether an expression is no result of a function after the first so many.
-fn is_known(expression: &Expression, count: usize) -> bool
-    ensures { IsTrue result → (f : ℕ) → expression.now ≡ form.CallResult f → f < count }
-{
-    match expression {
-        Expression::CallResult(function) => function.index() < count,
-        _ => true,
-    }
-}
-
 /// What the expressions of a function are validated with.
 #[derive(Clone, Copy)]
 struct Surroundings<'a> {
@@ -123,51 +126,23 @@ struct Surroundings<'a> {
     info: &'a ModuleInfo,
     function: &'a Function,
     kinds: &'a ExpressionKindTracker,
-    /// How many functions are known.
-    known: usize,
 }
 
-/// Validates the expression at a place, unless it is the result of a function of which nothing is known.
+/// Validates an expression at a place: the one that stands there, or an argument.
 fn validate_at(
     with: Surroundings<'_>,
     types: &FunctionInfo,
     place: Handle<ExpressionTag>,
     expression: &Expression,
-) -> Option<Validated>
-    requires can { CanValidateAt with.«module».now with.function.now with.info.now.lists with.kinds.now types.now.types place }
-    requires there { slice_get with.function.now.expressions place ≡ Some expression.now }
-    requires known { with.known ≤ length with.info.now.lists.functions }
-{
-    if !is_known(expression, with.known) {
-        return None;
-    }
-    Some(
-        with.validator.validate_expression(
-            with.resolved,
-            place,
-            expression,
-            with.function,
-            with.module,
-            types,
-            with.info,
-            with.kinds,
-        ),
-    )
-}
-
-/// Validates an argument at a place, which the function may not have.
-fn validate_argument_at(
-    with: Surroundings<'_>,
-    types: &FunctionInfo,
-    place: Handle<ExpressionTag>,
-    argument: u32,
 ) -> Validated
-    requires { CanValidateAt with.«module».now with.function.now with.info.now.lists with.kinds.now types.now.types place }
+    requires known { CanValidateIn with.«module».now with.function.now with.info.now.lists }
+    requires before { IsKnownBefore (global_lists with.«module».now) with.kinds.now types.now.types place }
+    requires there { IsThereOrArgument with.function.now place expression.now }
 {
     with.validator.validate_expression(
         with.resolved,
         place,
-        &Expression::FunctionArgument(argument),
+        expression,
         with.function,
         with.module,
         types,
@@ -180,142 +155,144 @@ fn validate_argument_at(
 fn validate_each(
     alloc: Global,
     with: Surroundings<'_>,
-    said: &SaidTypes,
-) -> Result<Vec<Option<Validated>>, OutOfMemory>
-    requires handles { HandlesAccepted with.«module».now }
-    requires in_function { ExpressionReferencesOk with.«module».now with.function.now }
-    requires flags { length with.«module».now.types ≤ length with.info.now.lists.type_flags }
-    requires known { with.known ≤ length with.info.now.lists.functions }
-    requires arguments { ArgumentsAreThere with.function.now }
+    declared: &[Declared],
+) -> Result<Vec<Validated>, OutOfMemory>
+    requires known { CanValidateIn with.«module».now with.function.now with.info.now.lists }
     requires kinds { length with.kinds.now ≡ length with.function.now.expressions }
 {
     let mut types = FunctionInfo::new(alloc, ShaderStages::all());
     let mut all = Vec::new(alloc);
     for (place, expression) in with.function.expressions.iter() {
-        let said = said.get(place.index()).copied().unwrap_or_default();
-        let validated = match said.missing {
-            Some(argument) => Some(validate_argument_at(with, &types, place, argument)),
+        let declared = declared.get(place.index()).copied().unwrap_or_default();
+        let validated = match declared.missing {
+            Some(argument) => {
+                let missing = Expression::FunctionArgument(argument);
+                validate_at(with, &types, place, &missing)
+            }
             None => validate_at(with, &types, place, expression),
         };
         all.push(validated)?;
         let earlier = types.types.as_slice();
-        let ty = type_of(alloc, with.module, expression, said, earlier)?;
+        let ty = type_of(alloc, with.module, expression, declared, earlier)?;
         types.push(ty)?;
     }
     Ok(all)
 }
 
-/// The same, unless the function names an argument that it doesn't have.
+/// The same of a function whose arguments may be missing: then there is nothing.
 fn validate_function(
     session: &Session<PlainTyping>,
     draft: &Draft,
     info: &ModuleInfo,
-    function: &Function,
-    said: &SaidTypes,
-) -> Result<Vec<Option<Validated>>, OutOfMemory>
-    requires handles { HandlesAccepted draft.now.«module» }
-    requires in_function { ExpressionReferencesOk draft.now.«module» function.now }
-    requires flags { length draft.now.«module».types ≤ length info.now.lists.type_flags }
-    requires functions { length info.now.lists.functions ≡ vec_len draft.now.stages }
+    at: FunctionAt<'_>,
+) -> Result<Option<Vec<Validated>>, OutOfMemory>
+    requires known { AreFunctionsKnown draft.now.«module» info.now.lists }
+    requires there { IsFunctionAt draft.now.«module» at.function.now at.preceding }
 {
-    let alloc = session.alloc();
-    if !arguments_exist(function) {
-        return Ok(Vec::new(alloc));
+    if !arguments_exist(at.function) {
+        return Ok(None);
     }
-    let kinds = ExpressionKindTracker::from_arena(alloc, &function.expressions)?;
+    let alloc = session.alloc();
+    let kinds = ExpressionKindTracker::from_arena(alloc, &at.function.expressions)?;
     let with = Surroundings {
         validator: &session.validator,
-        resolved: draft.resolved(),
+        resolved: draft.settings.resolved(),
         module: &draft.module,
         info,
-        function,
+        function: at.function,
         kinds: &kinds,
-        known: draft.stages.len(),
     };
-    validate_each(alloc, with, said)
+    let declared = draft.declarations.of(at.callable);
+    Ok(Some(validate_each(alloc, with, declared)?))
 }
 
-/// Adds a line for each expression of a function: the stages that may use it, or the variant of the error.
+/// Validates each expression of a function or an entry point, if it exists.
+fn validate_callable(
+    session: &Session<PlainTyping>,
+    draft: &Draft,
+    info: &ModuleInfo,
+    callable: Callable,
+) -> Result<Option<Vec<Validated>>, OutOfMemory>
+    requires { AreFunctionsKnown draft.now.«module» info.now.lists }
+{
+    match function_of(&draft.module, callable) {
+        Some(at) => validate_function(session, draft, info, at),
+        None => Ok(None),
+    }
+}
+
+/// Adds a line for each expression of a function or an entry point: the stages that may use it, or the variant
+/// of the error.
 fn add_each(
     alloc: Global,
     answer: &mut String,
-    letter: char,
-    index: usize,
-    all: &[Option<Validated>],
+    callable: Callable,
+    all: &[Validated],
 ) -> Result<(), OutOfMemory> {
     for (place, validated) in all.iter().enumerate() {
-        write!(answer, "{letter}{index} E{place} ")?;
-        add_stages(alloc, answer, validated)?;
+        write!(answer, "{callable} E{place} ")?;
+        add_in_short(alloc, answer, validated)?;
     }
     Ok(())
 }
 
-/// Adds to the info of a module that of each function, as its line says it.
-fn add_infos(
-    alloc: Global,
-    info: &mut ModuleInfo,
-    module: &Module,
-    stages: &[ShaderStages],
-) -> Result<(), OutOfMemory>
+/// Adds to the info of a module an info of each function: the stages that its line declares.
+fn add_infos(alloc: Global, info: &mut ModuleInfo, draft: &Draft) -> Result<(), OutOfMemory>
     requires none { info.old.lists.functions ≡ [] }
-    requires flags { length «module».now.types ≤ length info.old.lists.type_flags }
-    ensures functions { OnOk result (length info.new.lists.functions ≡ length stages.now) }
-    ensures flags { OnOk result (length «module».now.types ≤ length info.new.lists.type_flags) }
+    requires flags { length draft.now.«module».types ≤ length info.old.lists.type_flags }
+    ensures functions { OnOk result (length info.new.lists.functions ≡ length draft.now.«module».functions) }
+    ensures flags { OnOk result (length draft.now.«module».types ≤ length info.new.lists.type_flags) }
 {
-    for index in 0..stages.len() {
-        info.push_function(FunctionInfo::new(alloc, stages[index]))?;
+    for index in 0..draft.module.functions.len() {
+        let stages = draft
+            .declarations
+            .stages
+            .get(index)
+            .copied()
+            .unwrap_or(ShaderStages::all());
+        info.push_function(FunctionInfo::new(alloc, stages))?;
     }
     Ok(())
 }
 
-/// Adds a line for each expression of each function.
-fn add_of_functions(
+/// Adds a line for each expression of each function and of each entry point.
+fn add_of_all(
     session: &Session<PlainTyping>,
     answer: &mut String,
     draft: &Draft,
     info: &ModuleInfo,
 ) -> Result<(), OutOfMemory>
-    requires handles { HandlesAccepted draft.now.«module» }
-    requires in_order { CanJudgeInOrder draft.now.«module» }
-    requires flags { length draft.now.«module».types ≤ length info.now.lists.type_flags }
-    requires functions { length info.now.lists.functions ≡ vec_len draft.now.stages }
+    requires { AreFunctionsKnown draft.now.«module» info.now.lists }
 {
-    let alloc = session.alloc();
-    let functions = draft.module.functions.as_slice();
-    let nothing = Vec::new(alloc);
-    for index in 0..functions.len() {
-        let said = draft.function_types.get(index).unwrap_or(&nothing);
-        let all = validate_function(session, draft, info, &functions[index], said)?;
-        add_each(alloc, answer, 'F', index, &all)?;
+    let module = &draft.module;
+    let count = module
+        .functions
+        .len()
+        .saturating_add(module.entry_points.len());
+    for place in 0..count {
+        let callable = callable_at(module, place);
+        match validate_callable(session, draft, info, callable)? {
+            Some(all) => add_each(session.alloc(), answer, callable, &all)?,
+            None => add_not_applicable(answer, "an argument is missing")?,
+        }
     }
     Ok(())
 }
 
-/// Adds a line for each expression of each entry point.
-fn add_of_entry_points(
-    session: &Session<PlainTyping>,
+/// Adds the report on a refused module.
+fn add_refused(
+    alloc: Global,
     answer: &mut String,
-    draft: &Draft,
-    info: &ModuleInfo,
-) -> Result<(), OutOfMemory>
-    requires handles { HandlesAccepted draft.now.«module» }
-    requires in_order { CanJudgeInOrder draft.now.«module» }
-    requires flags { length draft.now.«module».types ≤ length info.now.lists.type_flags }
-    requires functions { length info.now.lists.functions ≡ vec_len draft.now.stages }
-{
-    let alloc = session.alloc();
-    let entry_points = draft.module.entry_points.as_slice();
-    let nothing = Vec::new(alloc);
-    for index in 0..entry_points.len() {
-        let said = draft.entry_types.get(index).unwrap_or(&nothing);
-        let function = &entry_points[index].function;
-        let all = validate_function(session, draft, info, function, said)?;
-        add_each(alloc, answer, 'N', index, &all)?;
+    error: &ValidationError,
+) -> Result<(), OutOfMemory> {
+    if *error == ValidationError::OutOfMemory {
+        return Err(OutOfMemory);
     }
+    answer.push_str(report_refused(alloc, error)?.as_str())?;
     Ok(())
 }
 
-/// Adds the report on a module, and, if it is accepted, a line for each expression of its functions.
+/// `functions`: adds the report on a module, and, if it is accepted, a line for each expression of its functions.
 pub fn add_functions(
     session: &mut Session<PlainTyping>,
     answer: &mut String,
@@ -326,95 +303,56 @@ pub fn add_functions(
         Ok(mut info) => {
             let report = report_accepted(alloc, &draft.module, &session.validator)?;
             answer.push_str(report.as_str())?;
-            add_infos(alloc, &mut info, &draft.module, &draft.stages)?;
-            add_of_functions(session, answer, draft, &info)?;
-            add_of_entry_points(session, answer, draft, &info)
+            add_infos(alloc, &mut info, draft)?;
+            add_of_all(session, answer, draft, &info)
         }
-        Err(error) => {
-            answer.push_str(report_refused(alloc, error.as_inner())?.as_str())?;
-            Ok(())
-        }
+        Err(error) => add_refused(alloc, answer, error.as_inner()),
     }
 }
 
-/// The function, or the function of the entry point.
-fn function_of(draft: &Draft, callable: Callable) -> Option<&Function>
-    requires { CanJudgeInOrder draft.now.«module» }
-    ensures { IfSome result (λ f. ExpressionReferencesOk draft.now.«module» f.now) }
-{
-    match callable {
-        Callable::Function(index) => draft.module.functions.as_slice().get(index),
-        Callable::EntryPoint(index) => {
-            let entry_point = draft.module.entry_points.as_slice().get(index)?;
-            Some(&entry_point.function)
-        }
-    }
-}
-
-/// What lines say of the expressions of the function or entry point.
-fn said_of(draft: &Draft, callable: Callable) -> Option<&SaidTypes> {
-    match callable {
-        Callable::Function(index) => draft.function_types.get(index),
-        Callable::EntryPoint(index) => draft.entry_types.get(index),
-    }
-}
-
-/// Adds the stages that may use an expression, in hexadecimal, or the whole error.
-fn add_whole(
-    answer: &mut String,
-    validated: Option<&Option<Validated>>,
-) -> Result<(), OutOfMemory> {
-    match validated {
-        Some(Some(Ok(stages))) => {
-            let bits = stages.bits();
-            write!(answer, "{bits:x}\n")?;
-        }
-        Some(Some(Err(ExpressionError::OutOfMemory))) => return Err(OutOfMemory),
-        Some(Some(Err(error))) => write!(answer, "{error:?}\n")?,
-        Some(None) => add_not_applicable(answer, "nothing is known of the function")?,
-        None => add_not_applicable(answer, "no expression")?,
-    }
-    Ok(())
-}
-
-/// Adds what the rule of the last expression of the last function of an accepted module returns.
-fn add_of_last(
+/// Adds the stages that may use the last expression of a function or an entry point, or the whole error.
+fn add_last_of(
     session: &Session<PlainTyping>,
     answer: &mut String,
     draft: &Draft,
     info: &ModuleInfo,
+    callable: Callable,
 ) -> Result<(), OutOfMemory>
-    requires handles { HandlesAccepted draft.now.«module» }
-    requires in_order { CanJudgeInOrder draft.now.«module» }
-    requires flags { length draft.now.«module».types ≤ length info.now.lists.type_flags }
-    requires functions { length info.now.lists.functions ≡ vec_len draft.now.stages }
+    requires { AreFunctionsKnown draft.now.«module» info.now.lists }
 {
-    let nothing = Vec::new(session.alloc());
-    let Some(last) = draft.last else {
-        add_not_applicable(answer, "no function")?;
-        return Ok(());
-    };
-    let said = said_of(draft, last).unwrap_or(&nothing);
-    match function_of(draft, last) {
-        Some(function) => {
-            let all = validate_function(session, draft, info, function, said)?;
-            add_whole(answer, all.last())
-        }
+    let all = validate_callable(session, draft, info, callable)?;
+    match all.as_ref().and_then(|all| all.last()) {
+        Some(validated) => add_whole(answer, validated),
+        None => Ok(add_not_applicable(answer, "no expression")?),
+    }
+}
+
+/// Adds the stages that may use the last expression of the last function of an accepted module, or the whole
+/// error.
+fn add_of_accepted(
+    session: &Session<PlainTyping>,
+    answer: &mut String,
+    draft: &Draft,
+    info: &mut ModuleInfo,
+) -> Result<(), OutOfMemory>
+    requires { IsAcceptedModule draft.now.«module» session.now.validator.infos info.old.lists }
+{
+    add_infos(session.alloc(), info, draft)?;
+    match draft.declarations.last {
+        Some(last) => add_last_of(session, answer, draft, info, last),
         None => Ok(add_not_applicable(answer, "no function")?),
     }
 }
 
-/// Adds what the rule of the last expression of the last function returns, or why the module is refused.
+/// `form FORM`: adds the stages that may use the last expression of the last function, or the whole error, or why
+/// the module is refused.
 pub fn add_last(
     session: &mut Session<PlainTyping>,
     answer: &mut String,
     draft: &Draft,
 ) -> Result<(), OutOfMemory> {
     match session.validate(draft) {
-        Ok(mut info) => {
-            add_infos(session.alloc(), &mut info, &draft.module, &draft.stages)?;
-            add_of_last(session, answer, draft, &info)
-        }
+        Ok(mut info) => add_of_accepted(session, answer, draft, &mut info),
         Err(error) => add_error(answer, &error),
     }
 }

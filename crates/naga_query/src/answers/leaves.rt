@@ -4,8 +4,7 @@ ghost use Rattle.std.specs.Prelude.{◌<◌, length as length_of};
 ghost use Rattle.naga_ir.specs.Handles.{GlobalReferencesOk};
 ghost use Rattle.naga_ir.specs.ItemReferences.{global_lists};
 
-use crate::answers::modules::{add_fault, add_not_applicable, check_handles};
-use crate::draft::Draft;
+use crate::answers::modules::add_not_applicable;
 use naga_text::number::{handle, number};
 use naga_valid::{Handle, Leaf, Module, OutOfMemory, TypeInner, TypeTag, leaf_at, leaves_of};
 use std::alloc::{AllocError, Global};
@@ -107,8 +106,8 @@ fn type_and_length(words: &[&[u8]]) -> Option<(Handle<TypeTag>, u32)> {
     }
 }
 
-/// Adds the leaves of the type of a query, if there is such a type.
-fn add_leaves_of(
+/// `leaves T [N]`: adds the leaves of a type whose runtime-sized arrays have N elements.
+pub fn add_leaves(
     alloc: Global,
     answer: &mut String,
     module: &Module,
@@ -121,20 +120,6 @@ fn add_leaves_of(
             add_all(alloc, answer, module, ty, length)
         }
         _ => Ok(add_not_applicable(answer, "no such type")?),
-    }
-}
-
-/// `leaves T [N]`: adds the leaves of a type whose runtime-sized arrays have N elements, or which handle is
-/// wrong.
-pub fn add_leaves(
-    alloc: Global,
-    answer: &mut String,
-    draft: &Draft,
-    words: &[&[u8]],
-) -> Result<(), OutOfMemory> {
-    match check_handles(alloc, &draft.module) {
-        Ok(()) => add_leaves_of(alloc, answer, &draft.module, words),
-        Err(fault) => Ok(add_fault(answer, &fault)?),
     }
 }
 
@@ -160,8 +145,8 @@ fn type_length_and_path<'a, 'b>(
     Some((handle(ty)?, number(length)?, path))
 }
 
-/// Adds the leaf to which a path leads.
-fn add_leaf_at(
+/// `leaf T N PATH..`: adds the leaf to which a path leads in a type whose runtime-sized arrays have N elements.
+pub fn add_leaf_at(
     alloc: Global,
     answer: &mut String,
     module: &Module,
@@ -181,19 +166,5 @@ fn add_leaf_at(
     match leaf_at(module, ty, &path, length) {
         Some(leaf) => add_leaf(answer, leaf),
         None => answer.push_str("none\n"),
-    }
-}
-
-/// `leaf T N PATH..`: adds the leaf to which a path leads in a type whose runtime-sized arrays have N
-/// elements, or which handle is wrong.
-pub fn add_leaf_of(
-    alloc: Global,
-    answer: &mut String,
-    draft: &Draft,
-    words: &[&[u8]],
-) -> Result<(), AllocError> {
-    match check_handles(alloc, &draft.module) {
-        Ok(()) => add_leaf_at(alloc, answer, &draft.module, words),
-        Err(fault) => add_fault(answer, &fault),
     }
 }

@@ -1,14 +1,11 @@
-//! Answers about a whole module: whether it is right, and its handles.
+//! Answers about the handles of a module, and why a module is refused.
 
 ghost use Rattle.std.specs.Prelude.{OnOk};
-ghost use Rattle.naga_ir.specs.Handles.{GlobalReferencesOk, HandlesAccepted};
-ghost use Rattle.naga_ir.specs.ItemReferences.{global_lists};
+ghost use Rattle.naga_query.specs.Accepted.{AreHandlesRight};
 
-use crate::draft::Draft;
-use crate::session::Session;
 use naga_valid::{
-    InvalidHandleError, Item, Module, OutOfMemory, PlainTyping, ValidationError, ValidationFault,
-    Walk, WithSpan, validate_module_handles, visit_order,
+    InvalidHandleError, Item, Module, OutOfMemory, ValidationError, ValidationFault, Walk,
+    WithSpan, validate_module_handles, visit_order,
 };
 use std::alloc::{AllocError, Global};
 
@@ -33,21 +30,6 @@ pub fn add_error(
     }
     answer.push_str("\n")?;
     Ok(())
-}
-
-/// Adds `ok`, or why the module is refused.
-pub fn add_validated(
-    session: &mut Session<PlainTyping>,
-    answer: &mut String,
-    draft: &Draft,
-) -> Result<(), OutOfMemory> {
-    match session.validate(draft) {
-        Ok(_) => {
-            answer.push_str("ok\n")?;
-            Ok(())
-        }
-        Err(error) => add_error(answer, &error),
-    }
 }
 
 /// Adds which handle or range is wrong.
@@ -91,15 +73,14 @@ pub fn add_fault(answer: &mut String, fault: &ValidationFault) -> Result<(), All
 
 /// Returns the first handle or range of a module that is wrong.
 pub fn check_handles(alloc: Global, module: &Module) -> Result<(), ValidationFault>
-    ensures handles { OnOk result (HandlesAccepted «module».now) }
-    ensures references { OnOk result (GlobalReferencesOk (global_lists «module».now)) }
+    ensures { OnOk result (AreHandlesRight «module».now) }
 {
     validate_module_handles(alloc, module)
 }
 
-/// Adds `ok`, or the first handle or range that is wrong.
-pub fn add_handles(alloc: Global, answer: &mut String, draft: &Draft) -> Result<(), AllocError> {
-    match check_handles(alloc, &draft.module) {
+/// `handles`: adds `ok`, or the first handle or range that is wrong.
+pub fn add_handles(alloc: Global, answer: &mut String, module: &Module) -> Result<(), AllocError> {
+    match check_handles(alloc, module) {
         Ok(()) => answer.push_str("ok\n"),
         Err(fault) => add_fault(answer, &fault),
     }
@@ -128,9 +109,9 @@ fn add_walk(answer: &mut String, walk: &Walk) -> Result<(), AllocError> {
     write!(answer, "reads {reads}\n")
 }
 
-/// Adds the order of visits, or why there is none.
-pub fn add_order(alloc: Global, answer: &mut String, draft: &Draft) -> Result<(), AllocError> {
-    match visit_order(alloc, &draft.module) {
+/// `order`: adds the order of visits, or why there is none.
+pub fn add_order(alloc: Global, answer: &mut String, module: &Module) -> Result<(), AllocError> {
+    match visit_order(alloc, module) {
         Ok(walk) => add_walk(answer, &walk),
         Err(fault) => add_fault(answer, &fault),
     }

@@ -6,12 +6,13 @@ ghost use Rattle.naga_ir.specs.Handles.{FunctionReferencesOk, HandlesAccepted};
 ghost use Rattle.naga_valid.specs.Functions.{CallsBefore, CanJudgeFunction, CanJudgeInOrder};
 
 use crate::answers::modules::{add_error, add_not_applicable};
-use crate::draft::{Callable, Draft};
+use crate::callable::{FunctionAt, function_of};
 use crate::session::Session;
 use bitflags::Flags;
+use naga_module_text::declarations::Callable;
+use naga_module_text::draft::Draft;
 use naga_valid::{
-    FullTyping, Function, FunctionError, FunctionInfo, Module, ModuleInfo, OutOfMemory,
-    TypeResolution,
+    FullTyping, FunctionError, FunctionInfo, ModuleInfo, OutOfMemory, TypeResolution,
 };
 use std::alloc::AllocError;
 
@@ -30,25 +31,24 @@ fn add_info(answer: &mut String, info: &FunctionInfo) -> Result<(), AllocError> 
     write!(answer, "stages {bits:x}\n")
 }
 
-/// Adds which expression of a function is refused first, and why.
+/// Adds which expression of a function or an entry point is refused first, and why.
 fn add_refusal(
     answer: &mut String,
-    letter: char,
-    index: usize,
+    callable: Callable,
     error: &FunctionError,
 ) -> Result<(), OutOfMemory> {
     match error {
         FunctionError::Expression { handle, source } => {
             let place = handle.index();
-            write!(answer, "{letter}{index} E{place} refused {source:?}\n")?;
+            write!(answer, "{callable} E{place} refused {source:?}\n")?;
             Ok(())
         }
         FunctionError::OutOfMemory => Err(OutOfMemory),
     }
 }
 
-/// A function that is refused, by its index, and why.
-type Refusal = (usize, FunctionError);
+/// A function that is refused, and why.
+type Refusal = (Callable, FunctionError);
 
 /// Validates the first functions of a module, and adds what is known of each to its info.
 fn validate_first(
@@ -69,7 +69,7 @@ fn validate_first(
     let validator = &session.validator;
     for index in 0..count {
         let function = &functions[index];
-        let resolved = draft.resolved();
+        let resolved = draft.settings.resolved();
         let known = match validator.validate_function_expressions(
             &draft.module,
             info,
@@ -77,10 +77,10 @@ fn validate_first(
             resolved,
         ) {
             Ok(known) => known,
-            Err(error) => return Err((index, error)),
+            Err(error) => return Err((Callable::Function(index), error)),
         };
         if info.push_function(known).is_err() {
-            return Err((index, FunctionError::OutOfMemory));
+            return Err((Callable::Function(index), FunctionError::OutOfMemory));
         }
     }
     Ok(())
@@ -92,55 +92,17 @@ fn add_validated(
     answer: &mut String,
     draft: &Draft,
     info: &ModuleInfo,
-    wanted: Wanted<'_>,
+    at: FunctionAt<'_>,
 ) -> Result<(), OutOfMemory>
     requires handles { HandlesAccepted draft.now.«module» }
     requires flags { length draft.now.«module».types ≤ length info.now.lists.type_flags }
-    requires wanted { CanJudgeFunction draft.now.«module» wanted.function.now (length info.now.lists.functions) }
+    requires can { CanJudgeFunction draft.now.«module» at.function.now (length info.now.lists.functions) }
 {
     let validator = &session.validator;
-    let resolved = draft.resolved();
-    match validator.validate_function_expressions(&draft.module, info, wanted.function, resolved) {
+    let resolved = draft.settings.resolved();
+    match validator.validate_function_expressions(&draft.module, info, at.function, resolved) {
         Ok(known) => Ok(add_info(answer, &known)?),
-        Err(error) => add_refusal(answer, wanted.letter, wanted.index, &error),
-    }
-}
-
-/// A function or the function of an entry point, how its answers begin, and how many functions have to be known
-/// before it is validated.
-#[derive(Clone, Copy)]
-struct Wanted<'a> {
-    letter: char,
-    index: usize,
-    function: &'a Function,
-    before: usize,
-}
-
-/// The function or entry point, if it is there.
-fn wanted_of(module: &Module, callable: Callable) -> Option<Wanted<'_>>
-    requires { CanJudgeInOrder «module».now }
-    ensures can { IfSome result (λ w. CanJudgeFunction «module».now w.function.now w.before) }
-    ensures before { IfSome result (λ w. w.before ≤ length «module».now.functions) }
-{
-    match callable {
-        Callable::Function(index) => {
-            let function = module.functions.as_slice().get(index)?;
-            Some(Wanted {
-                letter: 'F',
-                index,
-                function,
-                before: index,
-            })
-        }
-        Callable::EntryPoint(index) => {
-            let entry_point = module.entry_points.as_slice().get(index)?;
-            Some(Wanted {
-                letter: 'N',
-                index,
-                function: &entry_point.function,
-                before: module.functions.len(),
-            })
-        }
+        Err(error) => add_refusal(answer, at.callable, &error),
     }
 }
 
@@ -157,13 +119,13 @@ fn add_after_others(
     requires flags { length draft.now.«module».types ≤ length info.old.lists.type_flags }
     requires none { info.old.lists.functions ≡ [] }
 {
-    let Some(wanted) = wanted_of(&draft.module, callable) else {
+    let Some(at) = function_of(&draft.module, callable) else {
         return Ok(add_not_applicable(answer, "no such function")?);
     };
-    if let Err((index, error)) = validate_first(session, draft, info, wanted.before) {
-        return add_refusal(answer, 'F', index, &error);
+    if let Err((refused, error)) = validate_first(session, draft, info, at.preceding) {
+        return add_refusal(answer, refused, &error);
     }
-    add_validated(session, answer, draft, info, wanted)
+    add_validated(session, answer, draft, info, at)
 }
 
 /// Adds the types of the expressions of a function or entry point and the stages that may use it, or what is

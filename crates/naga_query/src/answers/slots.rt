@@ -1,19 +1,19 @@
 //! Answers about the slots of immediate data.
 
-ghost use Rattle.std.specs.Prelude.{◌<◌, IsTrue, length, slice_get};
-ghost use Rattle.naga_immediates.specs.Slots.{BaseExists, IsTyped};
-ghost use Rattle.naga_ir.specs.Handles.{GlobalReferencesOk};
+ghost use Rattle.std.specs.Prelude.{◌<◌, All, IsOk, IsTrue, length};
+ghost use Rattle.naga_immediates.specs.Slots.{BaseExists};
+ghost use Rattle.naga_ir.specs.Handles.{GlobalReferencesOk, HandlesAccepted};
 ghost use Rattle.naga_ir.specs.ItemReferences.{global_lists};
+ghost use Rattle.naga_query.specs.Accepted.{IsVariableTyped};
+ghost use Rattle.naga_typing.specs.Layout.{layout_results};
 
-use crate::answers::modules::{add_error, add_fault, add_not_applicable, check_handles};
-use crate::draft::Draft;
-use crate::session::Session;
+use crate::answers::modules::add_not_applicable;
 use naga_text::number::{handle, number};
 use naga_valid::{
     Arena, Expression, ExpressionTag, Function, FunctionTag, GlobalVariableTag, Handle,
-    ImmediateSlots, Module, OutOfMemory, PlainTyping, TypeTag, to_ctx,
+    ImmediateSlots, Module, TypeTag, to_ctx,
 };
-use std::alloc::{AllocError, Global};
+use std::alloc::AllocError;
 
 /// Adds a set of slots, as bits in hexadecimal and as ranges of bytes.
 fn add_slots(answer: &mut String, slots: ImmediateSlots) -> Result<(), AllocError> {
@@ -47,8 +47,8 @@ fn slots_of(module: &Module, ty: Handle<TypeTag>, offset: u32) -> ImmediateSlots
     ImmediateSlots::from_type(&module.types[ty].inner, offset, &module.types, gctx)
 }
 
-/// Adds the slots that the type of a query uses, if there is such a type.
-fn add_of(answer: &mut String, module: &Module, words: &[&[u8]]) -> Result<(), AllocError>
+/// `typeslots T OFFSET`: adds the slots that a type uses from a byte on.
+pub fn add_of_type(answer: &mut String, module: &Module, words: &[&[u8]]) -> Result<(), AllocError>
     requires { GlobalReferencesOk (global_lists «module».now) }
 {
     match type_and_offset(words) {
@@ -56,19 +56,6 @@ fn add_of(answer: &mut String, module: &Module, words: &[&[u8]]) -> Result<(), A
             add_slots(answer, slots_of(module, ty, offset))
         }
         _ => add_not_applicable(answer, "no such type"),
-    }
-}
-
-/// `typeslots T OFFSET`: adds the slots that a type uses from a byte on, or which handle is wrong.
-pub fn add_of_type(
-    alloc: Global,
-    answer: &mut String,
-    draft: &Draft,
-    words: &[&[u8]],
-) -> Result<(), AllocError> {
-    match check_handles(alloc, &draft.module) {
-        Ok(()) => add_of(answer, &draft.module, words),
-        Err(fault) => add_fault(answer, &fault),
     }
 }
 
@@ -106,7 +93,7 @@ fn has_base(expressions: &Arena<Expression, ExpressionTag>, pointer: Handle<Expr
 /// Whether the type of a global variable is there.
 fn has_type(module: &Module, variable: Handle<GlobalVariableTag>) -> bool
     requires { variable < length «module».now.global_variables }
-    ensures { IsTrue result → IsTyped (global_lists «module».now) (slice_get «module».now.global_variables variable) }
+    ensures { IsTrue result → IsVariableTyped «module».now variable }
 {
     module.global_variables[variable].ty.index() < module.types.len()
 }
@@ -138,8 +125,9 @@ fn add_reached(
     add_slots(answer, slots)
 }
 
-/// Adds the slots that may be used through the pointer of a query.
-fn add_through(answer: &mut String, module: &Module, words: &[&[u8]]) -> Result<(), AllocError>
+/// `pointerslots F E V`: adds the slots that may be used through expression E of function F, which points to
+/// global variable V.
+pub fn add_through(answer: &mut String, module: &Module, words: &[&[u8]]) -> Result<(), AllocError>
     requires { GlobalReferencesOk (global_lists «module».now) }
 {
     let Some(pointer) = pointer_of(words) else {
@@ -151,32 +139,11 @@ fn add_through(answer: &mut String, module: &Module, words: &[&[u8]]) -> Result<
     }
 }
 
-/// `pointerslots F E V`: adds the slots that may be used through expression E of function F, which points to
-/// global variable V, or which handle is wrong.
-pub fn add_of_pointer(
-    alloc: Global,
-    answer: &mut String,
-    draft: &Draft,
-    words: &[&[u8]],
-) -> Result<(), AllocError> {
-    match check_handles(alloc, &draft.module) {
-        Ok(()) => add_through(answer, &draft.module, words),
-        Err(fault) => add_fault(answer, &fault),
-    }
-}
-
-/// `immediatesize`: adds the size of the immediate data in bytes, or why the module is refused.
-pub fn add_size(
-    session: &mut Session<PlainTyping>,
-    answer: &mut String,
-    draft: &Draft,
-) -> Result<(), OutOfMemory> {
-    match session.validate(draft) {
-        Ok(_) => {
-            let size = ImmediateSlots::size_for_module(&draft.module);
-            write!(answer, "{size}\n")?;
-            Ok(())
-        }
-        Err(error) => add_error(answer, &error),
-    }
+/// `immediatesize`: adds the size of the immediate data of a module in bytes.
+pub fn add_size(answer: &mut String, module: &Module) -> Result<(), AllocError>
+    requires handles { HandlesAccepted «module».now }
+    requires laid_out { All IsOk (layout_results (global_lists «module».now)) }
+{
+    let size = ImmediateSlots::size_for_module(module);
+    write!(answer, "{size}\n")
 }

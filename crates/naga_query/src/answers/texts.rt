@@ -1,7 +1,8 @@
 //! Answers about texts: the report on one, and which line of a larger text can't be read.
 
-use crate::draft::Draft;
+use naga_module_text::draft::Draft;
 use naga_report::counted::Counted;
+use naga_report::report::Outcome;
 use naga_report::run::{RunFault, run, status};
 use naga_valid::OutOfMemory;
 use std::alloc::{AllocError, Global};
@@ -14,15 +15,22 @@ fn add_bytes(answer: &mut String, bytes: &[u8]) -> Result<(), AllocError> {
     Ok(())
 }
 
+/// Whether a run was refused memory. A slice can always be read, and only memory can keep a vector from taking
+/// bytes, so that any fault is of memory.
+fn is_memory_refused(ended: &Result<Outcome, RunFault>, written: &[u8]) -> bool {
+    ended.is_err() || written == "refused memory\n".as_bytes()
+}
+
 /// Adds what a run on bytes writes, and its exit status.
 pub fn add_run(alloc: Global, answer: &mut String, input: &[u8]) -> Result<(), AllocError> {
     let mut reader = Counted::new(input);
     let mut writer = Counted::new(Vec::new(alloc));
     let ended = run(alloc, &mut reader, &mut writer);
-    if ended == Err(RunFault::OutOfMemory) {
+    let written = writer.into_inner();
+    if is_memory_refused(&ended, &written) {
         return Err(AllocError);
     }
-    add_bytes(answer, &writer.into_inner())?;
+    add_bytes(answer, &written)?;
     let code = status(&ended);
     write!(answer, "status {code}\n")
 }

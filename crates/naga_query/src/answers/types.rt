@@ -5,17 +5,18 @@ ghost use Rattle.naga_ir.specs.Handles.{GlobalReferencesOk};
 ghost use Rattle.naga_ir.specs.ItemReferences.{global_lists};
 ghost use Rattle.naga_typing.specs.Resolutions.{TypesExist};
 
-use crate::answers::modules::{add_error, add_not_applicable};
-use crate::draft::Draft;
-use crate::forms::expression;
-use crate::items::{expressions, only_handle};
+use crate::answers::modules::add_not_applicable;
 use crate::session::Session;
-use crate::unread::Unread;
+use naga_module_text::forms::expression;
+use naga_module_text::items::{expressions, only_handle};
+use naga_module_text::settings::Settings;
+use naga_module_text::unread::Unread;
 use naga_text::number::{handle, number_up_to};
 use naga_text::words::kind;
 use naga_valid::{
-    Expression, ExpressionTag, Handle, Layouter, List, Module, OutOfMemory, PlainTyping, Scalar,
-    TypeInfo, TypeLayout, TypeResolution, TypeTag, UniqueArena, to_ctx, validate_compose_at,
+    Expression, ExpressionTag, Handle, Layouter, List, Module, ModuleInfo, OutOfMemory,
+    PlainTyping, Scalar, TypeInfo, TypeLayout, TypeResolution, TypeTag, UniqueArena, to_ctx,
+    validate_compose_at,
 };
 use std::alloc::{AllocError, Global};
 
@@ -61,8 +62,8 @@ fn layouts_of(alloc: Global, module: &Module) -> Result<Layouter, OutOfMemory>
     }
 }
 
-/// Adds what is known of each type of an accepted module.
-fn add_infos(
+/// `types`: adds what is known of each type of an accepted module.
+pub fn add_types(
     session: &Session<PlainTyping>,
     answer: &mut String,
     module: &Module,
@@ -79,75 +80,33 @@ fn add_infos(
     Ok(())
 }
 
-/// Adds what is known of each type, or why the module is refused.
-pub fn add_types(
-    session: &mut Session<PlainTyping>,
-    answer: &mut String,
-    draft: &Draft,
-) -> Result<(), OutOfMemory> {
-    match session.validate(draft) {
-        Ok(_) => add_infos(session, answer, &draft.module),
-        Err(error) => add_error(answer, &error),
-    }
-}
-
-/// Adds what is known of a type of an accepted module.
-fn add_type_info(
+/// `type T`: adds what is known of a type of an accepted module.
+pub fn add_type(
     session: &Session<PlainTyping>,
     answer: &mut String,
     module: &Module,
-    ty: Handle<TypeTag>,
+    words: &[&[u8]],
 ) -> Result<(), OutOfMemory>
     requires references { GlobalReferencesOk (global_lists «module».now) }
     requires infos { length session.now.validator.infos ≡ length «module».now.types }
 {
+    let Some(ty) = only_handle(words) else {
+        return Ok(add_not_applicable(answer, "not an index")?);
+    };
     if ty.index() >= module.types.len() {
-        add_not_applicable(answer, "no such type")?;
-        return Ok(());
+        return Ok(add_not_applicable(answer, "no such type")?);
     }
     let layouter = layouts_of(session.alloc(), module)?;
-    add_info(
-        answer,
-        module,
-        ty,
-        layouter[ty],
-        session.validator.type_info(ty),
-    )?;
+    let info = session.validator.type_info(ty);
+    Ok(add_info(answer, module, ty, layouter[ty], info)?)
+}
+
+/// `expressions`: adds the type of each global expression of an accepted module.
+pub fn add_expressions(answer: &mut String, info: &ModuleInfo) -> Result<(), AllocError> {
+    for (index, ty) in info.const_expression_types().iter().enumerate() {
+        write!(answer, "G{index} {ty:?}\n")?;
+    }
     Ok(())
-}
-
-/// `type T`: adds what is known of a type, or why the module is refused.
-pub fn add_type(
-    session: &mut Session<PlainTyping>,
-    answer: &mut String,
-    draft: &Draft,
-    words: &[&[u8]],
-) -> Result<(), OutOfMemory> {
-    let Some(ty) = only_handle(words) else {
-        add_not_applicable(answer, "not an index")?;
-        return Ok(());
-    };
-    match session.validate(draft) {
-        Ok(_) => add_type_info(session, answer, &draft.module, ty),
-        Err(error) => add_error(answer, &error),
-    }
-}
-
-/// Adds the type of each global expression, or why the module is refused.
-pub fn add_expressions(
-    session: &mut Session<PlainTyping>,
-    answer: &mut String,
-    draft: &Draft,
-) -> Result<(), OutOfMemory> {
-    match session.validate(draft) {
-        Ok(info) => {
-            for (index, ty) in info.const_expression_types().iter().enumerate() {
-                write!(answer, "G{index} {ty:?}\n")?;
-            }
-            Ok(())
-        }
-        Err(error) => add_error(answer, &error),
-    }
 }
 
 /// Whether all of some expressions are among the first `count`.
@@ -214,28 +173,23 @@ fn composition(
     }
 }
 
-/// `compose T E..`: adds whether a type can be composed of global expressions, or why the module is refused.
+/// `compose T E..`: adds whether a type can be composed of global expressions of an accepted module.
 pub fn add_compose(
-    session: &mut Session<PlainTyping>,
+    alloc: Global,
     answer: &mut String,
-    draft: &Draft,
+    module: &Module,
+    info: &ModuleInfo,
     words: &[&[u8]],
-) -> Result<(), OutOfMemory> {
-    let (ty, components) = match composition(session.alloc(), words) {
-        Ok(composition) => composition,
-        Err(Unread::Line) => {
-            add_not_applicable(answer, "not indices")?;
-            return Ok(());
-        }
-        Err(Unread::OutOfMemory) => return Err(OutOfMemory),
-    };
-    match session.validate(draft) {
-        Ok(info) => {
+) -> Result<(), OutOfMemory>
+    requires { GlobalReferencesOk (global_lists «module».now) }
+{
+    match composition(alloc, words) {
+        Ok((ty, components)) => {
             let types = info.const_expression_types();
-            add_composed(answer, &draft.module, ty, components.as_slice(), types)?;
-            Ok(())
+            Ok(add_composed(answer, module, ty, components.as_slice(), types)?)
         }
-        Err(error) => add_error(answer, &error),
+        Err(Unread::Line) => Ok(add_not_applicable(answer, "not indices")?),
+        Err(Unread::OutOfMemory) => Err(OutOfMemory),
     }
 }
 
@@ -243,14 +197,14 @@ pub fn add_compose(
 pub fn add_literal(
     session: &mut Session<PlainTyping>,
     answer: &mut String,
-    draft: &Draft,
+    settings: Settings,
     words: &[&[u8]],
 ) -> Result<(), OutOfMemory> {
     let mut line = words.to_vec(session.alloc())?;
     line.insert(0, b"lit")?;
     match expression(session.alloc(), &line) {
         Ok(Expression::Literal(literal)) => match session
-            .with_settings_of(draft)
+            .with_settings(settings)
             .validate_literal(literal)
         {
             Ok(()) => answer.push_str("ok\n")?,
@@ -275,13 +229,13 @@ fn scalar(words: &[&[u8]]) -> Option<Scalar> {
 pub fn add_width(
     session: &mut Session<PlainTyping>,
     answer: &mut String,
-    draft: &Draft,
+    settings: Settings,
     words: &[&[u8]],
 ) -> Result<(), AllocError> {
     let Some(scalar) = scalar(words) else {
         return add_not_applicable(answer, "not a kind and a width");
     };
-    match session.with_settings_of(draft).check_width(scalar) {
+    match session.with_settings(settings).check_width(scalar) {
         Ok(immediates) => write!(answer, "ok, immediates {immediates:?}\n"),
         Err(error) => write!(answer, "{error:?}\n"),
     }

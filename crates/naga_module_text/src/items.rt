@@ -1,8 +1,12 @@
 //! What the readers of all lines share.
 
 use crate::unread::Unread;
+use naga_ir::arena::Arena;
+use naga_ir::handle::Handle;
+use naga_ir::list::List;
+use naga_ir::span::Span;
+use naga_ir::tags::ExpressionTag;
 use naga_text::number::handle;
-use naga_valid::{Arena, ExpressionTag, Handle, List, Span};
 use std::alloc::Global;
 
 /// The number of items for which an arena has room.

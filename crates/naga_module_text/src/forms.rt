@@ -1,15 +1,16 @@
-//! The forms of expressions beyond those of the line text.
+//! The forms of expressions that the line text doesn't have.
 
 use crate::items::{at_colon, known, only_handle, only_word};
-use crate::tables::MATH_FUNCTIONS;
+use crate::tables::math_function;
 use crate::unread::Unread;
+use naga_ir::expression::{
+    Expression, ImageQuery, RelationalFunction, SampleLevel, SwizzleComponent,
+};
+use naga_ir::handle::Handle;
+use naga_ir::tags::ExpressionTag;
 use naga_text::line::{Line, read_line};
 use naga_text::number::{handle, number, number_up_to, optional_handle};
 use naga_text::words::{chosen, equals, kind, size, truth};
-use naga_valid::{
-    Expression, ExpressionTag, Handle, ImageQuery, RelationalFunction, SampleLevel,
-    SwizzleComponent,
-};
 use std::alloc::Global;
 
 /// A form of expressions that the line text doesn't have.
@@ -273,7 +274,7 @@ fn math(words: &[&[u8]]) -> Option<Expression> {
         return None;
     };
     Some(Expression::Math {
-        fun: chosen(&MATH_FUNCTIONS, fun)?,
+        fun: math_function(fun)?,
         arg: handle(arg)?,
         arg1: optional_handle(arg1)?,
         arg2: optional_handle(arg2)?,

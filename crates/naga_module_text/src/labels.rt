@@ -170,9 +170,8 @@ impl Labels {
         Ok(())
     }
 
-    /// The line without its label, and with indices in place of labels. The label is from then on that of
-    /// the item that the line makes. A label that an earlier line has stays where it is, so that the line
-    /// can't be read.
+    /// The line without its label, and with indices in place of labels. From then on the label names the item that
+    /// the line makes. A label that an earlier line has stays where it is, so that the line can't be read.
     pub fn resolve(&mut self, line: &str) -> Result<String, AllocError> {
         let (label, text) = match labelled(line) {
             (Some(label), _) if self.line(label).is_some() => (None, line),

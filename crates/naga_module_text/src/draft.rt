@@ -1,17 +1,22 @@
 //! A module, and how it is validated, while lines are read.
 
+use crate::declarations::{Callable, Declarations};
 use crate::forms::expression;
-use crate::functions::{Finished, OpenFunction, Part, SaidTypes, part_of};
+use crate::functions::{Finished, OpenFunction, Part, part_of};
 use crate::items::{MOST_ITEMS, append, known, only_handle, only_word};
+use crate::settings::Settings;
 use crate::unread::Unread;
 use bitflags::Flags;
+use naga_flags::flags::ShaderStages;
+use naga_ir::ir::{Constant, DiagnosticFilterNode, GlobalVariable, Module, Override};
+use naga_ir::list::List;
+use naga_ir::memory::OutOfMemory;
+use naga_ir::span::Span;
+use naga_ir::text::Text;
+use naga_ir::types::{Type, TypeInner};
 use naga_text::line::{Line, read_line};
 use naga_text::number::{handle, index, number_up_to, optional_handle};
 use naga_text::words::{chosen, space};
-use naga_valid::{
-    Capabilities, Constant, DiagnosticFilterNode, GlobalVariable, List, Module, OutOfMemory,
-    Override, ShaderStages, Span, Text, Type, TypeInner, ValidationFlags,
-};
 use std::alloc::Global;
 
 /// What a line adds to a module that the line text doesn't have.
@@ -68,11 +73,17 @@ fn set_once<S: Copy>(before: Option<S>, value: S) -> Result<Option<S>, Unread> {
     }
 }
 
-/// A function or an entry point of a module.
-#[derive(Clone, Copy)]
-pub enum Callable {
-    Function(usize),
-    EntryPoint(usize),
+/// What lines have begun.
+#[derive(Drop)]
+struct Unfinished {
+    /// The name of the next item that may have one.
+    name: Option<Text>,
+    /// The function or entry point to which lines still add.
+    open: Option<OpenFunction>,
+    /// Whether literals stand for arguments that a function doesn't have.
+    has_stand_ins: bool,
+    /// The number, from 1, of the line that is read, as a span.
+    span: Span,
 }
 
 /// A module, and how it is validated, as far as lines were read.
@@ -80,26 +91,11 @@ pub enum Callable {
 pub struct Draft {
     alloc: Global,
     pub module: Module,
-    flags: Option<ValidationFlags>,
-    capabilities: Option<Capabilities>,
-    resolved: Option<bool>,
-    /// The stages in which each function's result is available.
-    pub stages: Vec<ShaderStages>,
-    /// The types that the expressions of each function are said to have.
-    pub function_types: Vec<SaidTypes>,
-    /// The same of each entry point.
-    pub entry_types: Vec<SaidTypes>,
+    pub settings: Settings,
+    pub declarations: Declarations,
     /// The number, from 1, of the first line that can't be read.
     pub unreadable: Option<usize>,
-    /// The last function or entry point.
-    pub last: Option<Callable>,
-    /// The name of the next item that may have one.
-    name: Option<Text>,
-    open: Option<OpenFunction>,
-    /// Whether literals stand for arguments that a function doesn't have.
-    has_stand_ins: bool,
-    /// The line that is read, as its number from 1.
-    span: Span,
+    unfinished: Unfinished,
 }
 
 impl Draft {
@@ -108,34 +104,16 @@ impl Draft {
         Draft {
             alloc,
             module: Module::new(alloc),
-            flags: None,
-            capabilities: None,
-            resolved: None,
-            stages: Vec::new(alloc),
-            function_types: Vec::new(alloc),
-            entry_types: Vec::new(alloc),
+            settings: Settings::default(),
+            declarations: Declarations::new(alloc),
             unreadable: None,
-            last: None,
-            name: None,
-            open: None,
-            has_stand_ins,
-            span: Span::default(),
+            unfinished: Unfinished {
+                name: None,
+                open: None,
+                has_stand_ins,
+                span: Span::default(),
+            },
         }
-    }
-
-    /// Which parts of the module are validated: all, unless a line says otherwise.
-    pub fn flags(&self) -> ValidationFlags {
-        self.flags.unwrap_or_default()
-    }
-
-    /// What the module may use: the default, unless a line says otherwise.
-    pub fn capabilities(&self) -> Capabilities {
-        self.capabilities.unwrap_or_default()
-    }
-
-    /// Whether overrides have to have their values, which they haven't unless a line says so.
-    pub fn resolved(&self) -> bool {
-        self.resolved.unwrap_or_default()
     }
 
     /// `name WORD`
@@ -144,7 +122,7 @@ impl Draft {
         let Ok(name) = str::from_utf8(word) else {
             return Err(Unread::Line);
         };
-        self.name = Some(Text::from_string(String::from_str(self.alloc, name)?));
+        self.unfinished.name = Some(Text::from_string(String::from_str(self.alloc, name)?));
         Ok(())
     }
 
@@ -154,8 +132,11 @@ impl Draft {
         if count >= MOST_ITEMS {
             return Err(Unread::Line);
         }
-        let name = self.name.take();
-        let added = self.module.types.insert(Type { name, inner }, self.span)?;
+        let name = self.unfinished.name.take();
+        let added = self
+            .module
+            .types
+            .insert(Type { name, inner }, self.unfinished.span)?;
         if added.index() == count {
             Ok(())
         } else {
@@ -166,27 +147,33 @@ impl Draft {
     /// Adds what a line of the line text says.
     fn add_line(&mut self, line: Line) -> Result<(), Unread> {
         match line {
-            Line::Flags(flags) => self.flags = set_once(self.flags, flags)?,
-            Line::Capabilities(capabilities) => {
-                self.capabilities = set_once(self.capabilities, capabilities)?;
+            Line::Flags(flags) => {
+                self.settings.flags = set_once(self.settings.flags, flags)?;
             }
-            Line::Resolved => self.resolved = set_once(self.resolved, true)?,
+            Line::Capabilities(capabilities) => {
+                self.settings.capabilities = set_once(self.settings.capabilities, capabilities)?;
+            }
+            Line::Resolved => self.settings.resolved = set_once(self.settings.resolved, true)?,
             Line::Type_(inner) => self.add_type(inner)?,
             Line::Expression(expression) => {
-                append(&mut self.module.global_expressions, expression, self.span)?;
+                append(
+                    &mut self.module.global_expressions,
+                    expression,
+                    self.unfinished.span,
+                )?;
             }
             Line::Constant { ty, init } => {
-                let name = self.name.take();
+                let name = self.unfinished.name.take();
                 append(
                     &mut self.module.constants,
                     Constant { name, ty, init },
-                    self.span,
+                    self.unfinished.span,
                 )?;
             }
             Line::Override { ty, init, id } => {
-                let name = self.name.take();
+                let name = self.unfinished.name.take();
                 let item = Override { name, id, ty, init };
-                append(&mut self.module.overrides, item, self.span)?;
+                append(&mut self.module.overrides, item, self.unfinished.span)?;
             }
             Line::Doc { ty, member } => {
                 let comments = &mut self.module.doc_comments.struct_members;
@@ -204,14 +191,18 @@ impl Draft {
         let space = known(space(of))?;
         let ty = known(handle(ty))?;
         let init = known(optional_handle(init))?;
-        let name = self.name.take();
+        let name = self.unfinished.name.take();
         let variable = GlobalVariable {
             name,
             space,
             ty,
             init,
         };
-        append(&mut self.module.global_variables, variable, self.span)
+        append(
+            &mut self.module.global_variables,
+            variable,
+            self.unfinished.span,
+        )
     }
 
     /// `fn STAGES`
@@ -222,8 +213,10 @@ impl Draft {
             return Err(Unread::Line);
         };
         self.close_function()?;
-        self.stages.push(ShaderStages::from_bits_retain(bits))?;
-        self.open = Some(OpenFunction::new(self.alloc, self.name.take()));
+        self.declarations
+            .stages
+            .push(ShaderStages::from_bits_retain(bits))?;
+        self.unfinished.open = Some(OpenFunction::new(self.alloc, self.unfinished.name.take()));
         Ok(())
     }
 
@@ -233,32 +226,32 @@ impl Draft {
             return Err(Unread::Line);
         }
         self.close_function()?;
-        let name = match self.name.take() {
+        let name = match self.unfinished.name.take() {
             Some(name) => name,
             None => Text::new(self.alloc),
         };
-        self.open = Some(OpenFunction::new_entry(self.alloc, name));
+        self.unfinished.open = Some(OpenFunction::new_entry(self.alloc, name));
         Ok(())
     }
 
     /// Adds the function or entry point to which the lines so far belong, if there is one.
     fn close_function(&mut self) -> Result<(), Unread> {
-        let Some(mut open) = self.open.take() else {
+        let Some(mut open) = self.unfinished.open.take() else {
             return Ok(());
         };
-        if self.has_stand_ins {
+        if self.unfinished.has_stand_ins {
             open.replace_missing_arguments();
         }
         match open.finish()? {
-            Finished::Function(function, said) => {
-                self.last = Some(Callable::Function(self.module.functions.len()));
-                append(&mut self.module.functions, function, self.span)?;
-                self.function_types.push(said)?;
+            Finished::Function(function, declared) => {
+                self.declarations.last = Some(Callable::Function(self.module.functions.len()));
+                append(&mut self.module.functions, function, self.unfinished.span)?;
+                self.declarations.functions.push(declared)?;
             }
-            Finished::EntryPoint(entry_point, said) => {
-                self.last = Some(Callable::EntryPoint(self.module.entry_points.len()));
+            Finished::EntryPoint(entry_point, declared) => {
+                self.declarations.last = Some(Callable::EntryPoint(self.module.entry_points.len()));
                 self.module.entry_points.push(entry_point)?;
-                self.entry_types.push(said)?;
+                self.declarations.entry_points.push(declared)?;
             }
         }
         Ok(())
@@ -289,7 +282,11 @@ impl Draft {
     fn add_filter(&mut self, words: &[&[u8]]) -> Result<(), Unread> {
         let parent = known(optional_handle(known(only_word(words))?))?;
         let node = DiagnosticFilterNode { parent };
-        append(&mut self.module.diagnostic_filters, node, self.span)
+        append(
+            &mut self.module.diagnostic_filters,
+            node,
+            self.unfinished.span,
+        )
     }
 
     /// Adds a comment without texts on an item.
@@ -328,7 +325,11 @@ impl Draft {
             Keyword::GlobalVariable => self.add_global_variable(words),
             Keyword::GlobalExpression => {
                 let expression = expression(self.alloc, words)?;
-                append(&mut self.module.global_expressions, expression, self.span)
+                append(
+                    &mut self.module.global_expressions,
+                    expression,
+                    self.unfinished.span,
+                )
             }
             Keyword::Function => self.open_function(words),
             Keyword::EntryPoint => self.open_entry_point(words),
@@ -346,10 +347,10 @@ impl Draft {
     /// Adds what a line says of the last function or entry point.
     fn add_part(&mut self, part: Part, words: &[&[u8]]) -> Result<(), Unread> {
         let name = match part {
-            Part::Argument | Part::Local => self.name.take(),
+            Part::Argument | Part::Local => self.unfinished.name.take(),
             _ => None,
         };
-        match &mut self.open {
+        match &mut self.unfinished.open {
             Some(open) => open.add(part, words, name),
             None => Err(Unread::Line),
         }
@@ -390,7 +391,7 @@ impl Draft {
         for line in text.lines() {
             number = number.saturating_add(1);
             let short = u32::try_from(number).unwrap_or(u32::MAX);
-            self.span = Span::new(short, short);
+            self.unfinished.span = Span::new(short, short);
             match self.read_line(line) {
                 Ok(()) => (),
                 Err(Unread::Line) => {

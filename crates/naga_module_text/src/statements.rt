@@ -2,12 +2,12 @@
 
 use crate::items::{at_colon, expressions, known};
 use crate::unread::Unread;
+use naga_ir::range::Range;
+use naga_ir::statement::{
+    AtomicFunction, GatherMode, RayPipelineFunction, RayQueryFunction, Statement, SubgroupOperation,
+};
 use naga_text::number::{handle, number, optional_handle};
 use naga_text::words::{chosen, equals};
-use naga_valid::{
-    AtomicFunction, GatherMode, Range, RayPipelineFunction, RayQueryFunction, Statement,
-    SubgroupOperation,
-};
 use std::alloc::Global;
 
 /// A kind of statements that contain no others.

@@ -3,9 +3,11 @@
 use crate::items::{known, only_handle};
 use crate::statements::statement;
 use crate::unread::Unread;
+use naga_ir::handle::Handle;
+use naga_ir::statement::{Block, Statement, SwitchCase};
+use naga_ir::tags::ExpressionTag;
 use naga_text::number::optional_handle;
 use naga_text::words::chosen;
-use naga_valid::{Block, ExpressionTag, Handle, Statement, SwitchCase};
 use std::alloc::Global;
 
 /// A word that opens or closes a block.

@@ -1,18 +1,23 @@
 //! A function or entry point while its lines are read.
 
 use crate::blocks::OpenBlocks;
+use crate::declarations::Declared;
 use crate::forms::expression;
 use crate::items::{MOST_ITEMS, append, known, only_handle};
 use crate::unread::Unread;
+use naga_ir::expression::{Expression, Literal};
+use naga_ir::handle::Handle;
+use naga_ir::ir::{
+    EntryPoint, Function, FunctionArgument, FunctionResult, LocalVariable, MeshStageInfo,
+};
+use naga_ir::span::Span;
+use naga_ir::tags::{ExpressionTag, GlobalVariableTag, TypeTag};
+use naga_ir::text::Text;
 use naga_text::number::{handle, optional_handle};
 use naga_text::words::{chosen, equals};
-use naga_valid::{
-    EntryPoint, Expression, ExpressionTag, Function, FunctionArgument, FunctionResult,
-    GlobalVariableTag, Handle, Literal, LocalVariable, MeshStageInfo, Span, Text, TypeTag,
-};
 use std::alloc::Global;
 
-/// What a line says of a function.
+/// What a line adds to a function or an entry point.
 #[derive(Clone, Copy)]
 pub enum Part {
     Argument,
@@ -53,33 +58,21 @@ struct EntryParts {
     mesh: Option<MeshStageInfo>,
 }
 
-/// What lines say of an expression of a function, besides its form.
-#[derive(Clone, Copy, Default)]
-pub struct Said {
-    /// The type that it has.
-    pub ty: Option<Handle<TypeTag>>,
-    /// The argument that it is, if the function has no such argument and a literal stands in its place.
-    pub missing: Option<u32>,
-}
-
-/// What lines say of the expressions of a function, in order.
-pub type SaidTypes = Vec<Said>;
-
 /// A function, or what becomes an entry point, to which lines still add.
 #[derive(Drop)]
 pub struct OpenFunction {
     alloc: Global,
     function: Function,
     blocks: OpenBlocks,
-    said: SaidTypes,
+    declared: Vec<Declared>,
     entry: Option<EntryParts>,
 }
 
 /// A function or entry point, to which no line adds anything more.
 #[derive(Drop)]
 pub enum Finished {
-    Function(Function, SaidTypes),
-    EntryPoint(EntryPoint, SaidTypes),
+    Function(Function, Vec<Declared>),
+    EntryPoint(EntryPoint, Vec<Declared>),
 }
 
 /// `E|- E|- E|-`
@@ -106,7 +99,7 @@ fn mesh_info(words: &[&[u8]]) -> Option<MeshStageInfo> {
     })
 }
 
-/// The words of an expression, and the type that it is said to have behind a colon.
+/// The words of an expression, and the type that is declared behind a colon.
 fn typed<'a, 'b>(words: &'a [&'b [u8]]) -> Option<(&'a [&'b [u8]], Option<Handle<TypeTag>>)> {
     match words {
         [form @ .., colon, ty] if equals(colon, b":") => Some((form, Some(handle(ty)?))),
@@ -123,7 +116,7 @@ impl OpenFunction {
             alloc,
             function,
             blocks: OpenBlocks::new(alloc),
-            said: Vec::new(alloc),
+            declared: Vec::new(alloc),
             entry: None,
         }
     }
@@ -134,7 +127,7 @@ impl OpenFunction {
             alloc,
             function: Function::new(alloc),
             blocks: OpenBlocks::new(alloc),
-            said: Vec::new(alloc),
+            declared: Vec::new(alloc),
             entry: Some(EntryParts {
                 name,
                 workgroup_sizes: None,
@@ -177,14 +170,14 @@ impl OpenFunction {
         };
         let expression = expression(self.alloc, form)?;
         append(&mut self.function.expressions, expression, Span::default())?;
-        self.said.push(Said { ty, missing: None })?;
+        self.declared.push(Declared { ty, missing: None })?;
         Ok(())
     }
 
     /// Puts a literal in the place of each argument that the function doesn't have.
     pub fn replace_missing_arguments(&mut self) {
         let count = self.function.arguments.len();
-        for (place, said) in self.said.iter_mut().enumerate() {
+        for (place, declared) in self.declared.iter_mut().enumerate() {
             if place >= self.function.expressions.len() || place >= MOST_ITEMS {
                 continue;
             }
@@ -192,7 +185,7 @@ impl OpenFunction {
             if let Expression::FunctionArgument(index) = self.function.expressions[handle]
                 && index as usize >= count
             {
-                said.missing = Some(index);
+                declared.missing = Some(index);
                 let literal = Expression::Literal(Literal::Bool(false));
                 self.function.expressions.replace(handle, literal);
             }
@@ -219,7 +212,7 @@ impl OpenFunction {
         known(self.entry.as_mut())
     }
 
-    /// Adds what a line says of the function. An argument or a variable takes the name.
+    /// Adds a part. An argument or a variable takes the name.
     pub fn add(&mut self, part: Part, words: &[&[u8]], name: Option<Text>) -> Result<(), Unread> {
         match part {
             Part::Argument => self.add_argument(words, name)?,
@@ -240,18 +233,18 @@ impl OpenFunction {
         Ok(())
     }
 
-    /// The function or entry point that the lines said.
+    /// The function or entry point that the lines describe.
     pub fn finish(self) -> Result<Finished, Unread> {
         let OpenFunction {
             mut function,
             blocks,
-            said,
+            declared,
             entry,
             ..
         } = self;
         function.body = blocks.finish()?;
         match entry {
-            None => Ok(Finished::Function(function, said)),
+            None => Ok(Finished::Function(function, declared)),
             Some(entry) => Ok(Finished::EntryPoint(
                 EntryPoint {
                     name: entry.name,
@@ -260,7 +253,7 @@ impl OpenFunction {
                     task_payload: entry.payload,
                     mesh_info: entry.mesh,
                 },
-                said,
+                declared,
             )),
         }
     }

@@ -1,9 +1,10 @@
-//! Words that stand for a value of an enum.
+//! The words of mathematical functions.
 
-use naga_valid::MathFunction;
+use naga_ir::expression::MathFunction;
+use naga_text::words::chosen;
 
 /// Mathematical functions, by their names in lower case.
-pub const MATH_FUNCTIONS: [(&str, MathFunction); 58] = [
+const MATH_FUNCTIONS: [(&str, MathFunction); 58] = [
     ("abs", MathFunction::Abs),
     ("min", MathFunction::Min),
     ("max", MathFunction::Max),
@@ -63,3 +64,8 @@ pub const MATH_FUNCTIONS: [(&str, MathFunction); 58] = [
     ("pack2x16float", MathFunction::Pack2x16float),
     ("unpack2x16float", MathFunction::Unpack2x16float),
 ];
+
+/// The mathematical function of a word.
+pub fn math_function(word: &[u8]) -> Option<MathFunction> {
+    chosen(&MATH_FUNCTIONS, word)
+}

@@ -1,6 +1,6 @@
 //! Why a line was not read.
 
-use naga_valid::OutOfMemory;
+use naga_ir::memory::OutOfMemory;
 use std::alloc::{AllocError, AllocFailed};
 
 /// Why a line was not read.
