@@ -6,8 +6,6 @@
 mod arena;
 mod ir_types;
 mod operands;
-mod triangle;
-mod walk;
 
 use naga_arena::text::Text;
 use std::fmt::{Debug, Display};
@@ -17,11 +15,6 @@ use std::process::Abort;
 /// is proved once.
 pub(crate) fn assert_same<T: Debug + PartialEq>(rt: &impl Abort, of: &str, got: &T, expected: &T) {
     assert!(rt; *got == *expected, "{of}: {got:?}, and not {expected:?}");
-}
-
-/// Checks that something holds.
-pub(crate) fn assert_holds(rt: &impl Abort, of: &str, holds: bool) {
-    assert!(rt; holds, "{of}");
 }
 
 /// Checks that a value is shown as this text.

@@ -1,6 +1,6 @@
 //! Examples of arenas and their items, and the texts that no clause states.
 
-use super::{assert_debugged, assert_holds, assert_same, assert_shown, text};
+use super::{assert_debugged, assert_same, assert_shown, text};
 use naga_arena::arena::Arena;
 use naga_arena::handle::{BadHandle, Handle, Kind};
 use naga_arena::list::List;
@@ -14,69 +14,54 @@ use naga_arena::tags::{
 use naga_arena::text::{StaticText, Text};
 use std::process::Abort;
 
-/// Checks that two strings are the same.
-fn assert_reads(rt: &impl Abort, got: &str, expected: &str) {
-    assert!(rt; got == expected, "{got}, and not {expected}");
-}
-
-#[test]
-fn handles_are_shown_by_their_index(rt: HostRuntime) {
-    let handle: Handle<TypeTag> = Handle::new(3);
-    assert_same(&rt, "the place", &handle.index(), &3);
-    assert_debugged(&rt, &handle, "[3]");
-}
-
 #[test]
 fn texts_keep_their_bytes(rt: HostRuntime) {
     let whole = text(&rt, "größe");
     let copy = whole.try_clone().expect(&rt, "memory");
-    assert_reads(&rt, copy.as_str(), "größe");
+    assert_same(&rt, "the copy", &copy.as_str(), &"größe");
     let empty = Text::new(rt.alloc());
-    assert_holds(&rt, "the copy", copy == whole && empty != whole);
-    assert_reads(&rt, empty.as_str(), "");
+    assert_same(&rt, "the copy", &copy, &whole);
+    assert_same(&rt, "another", &(empty == whole), &false);
+    assert_same(&rt, "none", &empty.as_str(), &"");
     assert_shown(&rt, &whole, "größe");
-    assert_reads(&rt, whole.into_string().as_str(), "größe");
-}
-
-#[test]
-fn static_texts_keep_their_bytes(rt: HostRuntime) {
+    assert_same(&rt, "the string", &whole.into_string().as_str(), &"größe");
     let text = StaticText::new("f16");
-    assert_reads(&rt, text.as_str(), "f16");
+    assert_same(&rt, "static", &text.as_str(), &"f16");
     let copy = text.clone().expect(&rt, "memory");
-    assert_holds(&rt, "the copy", copy == text);
-    assert_holds(&rt, "another", StaticText::new("f64") != text);
+    assert_same(&rt, "the copy", &copy, &text);
+    assert_same(&rt, "another", &(StaticText::new("f64") == text), &false);
     assert_shown(&rt, &text, "f16");
-}
-
-#[test]
-fn refused_memory_is_named(rt: HostRuntime) {
     assert_shown(&rt, &OutOfMemory, "Out of memory");
     assert_debugged(&rt, &OutOfMemory, "OutOfMemory");
 }
 
-/// Checks which spans are defined.
-fn assert_defined(rt: &impl Abort, rows: &[(Span, bool)]) {
-    for (span, expected) in rows {
-        assert!(rt; span.is_defined() == *expected, "{span:?}");
+#[test]
+fn kinds_have_names(rt: HostRuntime) {
+    for (name, expected) in [
+        (TypeTag::name(), "Type"),
+        (ConstantTag::name(), "Constant"),
+        (OverrideTag::name(), "Override"),
+        (GlobalVariableTag::name(), "GlobalVariable"),
+        (ExpressionTag::name(), "Expression"),
+        (LocalVariableTag::name(), "LocalVariable"),
+        (FunctionTag::name(), "Function"),
+        (DiagnosticFilterNodeTag::name(), "DiagnosticFilterNode"),
+    ] {
+        assert_same(&rt, "a kind", &name.as_str(), &expected);
     }
 }
 
 #[test]
-fn only_the_span_from_0_to_0_is_undefined(rt: HostRuntime) {
-    assert_defined(
-        &rt,
-        &[
-            (Span::new(0, 0), false),
-            (Span::new(0, 1), true),
-            (Span::new(5, 5), true),
-            (Span::new(5, 0), true),
-            (Span::default(), false),
-        ],
-    );
-}
-
-#[test]
 fn errors_take_the_last_known_span(rt: HostRuntime) {
+    for (span, is_defined) in [
+        (Span::new(0, 0), false),
+        (Span::new(0, 1), true),
+        (Span::new(5, 5), true),
+        (Span::new(5, 0), true),
+        (Span::default(), false),
+    ] {
+        assert_same(&rt, "a span", &span.is_defined(), &is_defined);
+    }
     let error = WithSpan::new(7_u8);
     assert_same(&rt, "at first", &error.span(), &None);
     let error = error.with_span(Span::default());
@@ -86,27 +71,6 @@ fn errors_take_the_last_known_span(rt: HostRuntime) {
     assert_same(&rt, "of one", &error.span(), &Some(expected));
     assert_same(&rt, "the error", error.as_inner(), &7);
     assert_same(&rt, "the error", &error.into_inner(), &7);
-}
-
-#[test]
-fn an_arena_gives_back_its_items(rt: HostRuntime) {
-    let mut arena: Arena<u16, TypeTag> = Arena::new(rt.alloc());
-    assert!(rt; arena.is_empty());
-    let first = arena.append(10, Span::new(1, 2)).expect(&rt, "memory");
-    assert!(rt; arena.len() == 1);
-    let second = arena.append(20, Span::new(3, 4)).expect(&rt, "memory");
-    assert!(rt; arena.len() == 2);
-    assert_holds(&rt, "two items", !arena.is_empty());
-    assert_same(&rt, "places", &(first.index(), second.index()), &(0, 1));
-    assert_same(&rt, "first", arena.get(first), &10);
-    assert_same(&rt, "second", &arena[second], &20);
-    arena.replace(first, 30);
-    assert!(rt; arena.len() == 2);
-    assert_same(&rt, "after", &(arena[first], arena[second]), &(30, 20));
-    let expected = Span { start: 1, end: 2 };
-    assert_same(&rt, "the first span", &arena.get_span(first), &expected);
-    let expected = Span { start: 3, end: 4 };
-    assert_same(&rt, "the second span", &arena.get_span(second), &expected);
 }
 
 /// An arena of these items.
@@ -120,44 +84,33 @@ fn arena_of<K>(rt: &(impl AllocGlobal + Abort), items: &[u16]) -> Arena<u16, K> 
 }
 
 #[test]
-fn an_arena_is_iterated_in_order(rt: HostRuntime) {
+fn an_arena_gives_back_its_items_in_order(rt: HostRuntime) {
+    let mut arena: Arena<u16, TypeTag> = Arena::new(rt.alloc());
+    assert!(rt; arena.is_empty());
+    let first = arena.append(10, Span::new(1, 2)).expect(&rt, "memory");
+    assert!(rt; arena.len() == 1);
+    let second = arena.append(20, Span::new(3, 4)).expect(&rt, "memory");
+    assert!(rt; arena.len() == 2);
+    assert_same(&rt, "two items", &arena.is_empty(), &false);
+    assert_same(&rt, "places", &(first.index(), second.index()), &(0, 1));
+    assert_debugged(&rt, &second, "[1]");
+    assert_same(&rt, "first", arena.get(first), &10);
+    assert_same(&rt, "second", &arena[second], &20);
+    arena.replace(first, 30);
+    assert!(rt; arena.len() == 2);
+    assert_same(&rt, "after", &(arena[first], arena[second]), &(30, 20));
+    let spans = (arena.get_span(first), arena.get_span(second));
+    let expected = (Span { start: 1, end: 2 }, Span { start: 3, end: 4 });
+    assert_same(&rt, "the spans", &spans, &expected);
+    let range = arena.range_from(1);
+    assert_same(&rt, "its ends", &(range.start, range.end), &(1, 2));
+    assert_debugged(&rt, &range, "[1..2]");
     let arena: Arena<u16, TypeTag> = arena_of(&rt, &[30, 10, 20]);
     let mut seen = Vec::new(rt.alloc());
     for (handle, item) in arena.iter() {
         seen.push((handle.index(), *item)).expect(&rt, "memory");
     }
     assert_debugged(&rt, &seen, "[(0, 30), (1, 10), (2, 20)]");
-}
-
-#[test]
-fn kinds_have_names(rt: HostRuntime) {
-    assert_reads(&rt, TypeTag::name().as_str(), "Type");
-    assert_reads(&rt, ConstantTag::name().as_str(), "Constant");
-    assert_reads(&rt, OverrideTag::name().as_str(), "Override");
-    assert_reads(&rt, GlobalVariableTag::name().as_str(), "GlobalVariable");
-    assert_reads(&rt, ExpressionTag::name().as_str(), "Expression");
-    assert_reads(&rt, LocalVariableTag::name().as_str(), "LocalVariable");
-    assert_reads(&rt, FunctionTag::name().as_str(), "Function");
-    assert_reads(
-        &rt,
-        DiagnosticFilterNodeTag::name().as_str(),
-        "DiagnosticFilterNode",
-    );
-}
-
-#[test]
-fn handles_past_the_end_are_missing(rt: HostRuntime) {
-    let arena: Arena<u16, FunctionTag> = arena_of(&rt, &[10]);
-    let result = arena.check_contains_handle(Handle::new(0));
-    assert_same(&rt, "the first", &result, &Ok(()));
-    let missing = BadHandle {
-        kind: StaticText::new("Function"),
-        index: 1,
-    };
-    let expected = "Handle 1 of Function is either not present, or inaccessible yet";
-    assert_shown(&rt, &missing, expected);
-    let result = arena.check_contains_handle(Handle::new(1));
-    assert_same(&rt, "the second", &result, &Err(missing));
 }
 
 /// Checks which ranges an arena has.
@@ -173,7 +126,18 @@ fn assert_ranges(
 }
 
 #[test]
-fn ranges_exist_if_they_are_empty_or_end_in_the_arena(rt: HostRuntime) {
+fn handles_and_ranges_past_the_end_are_missing(rt: HostRuntime) {
+    let arena: Arena<u16, FunctionTag> = arena_of(&rt, &[10]);
+    let result = arena.check_contains_handle(Handle::new(0));
+    assert_same(&rt, "the first", &result, &Ok(()));
+    let missing = BadHandle {
+        kind: StaticText::new("Function"),
+        index: 1,
+    };
+    let expected = "Handle 1 of Function is either not present, or inaccessible yet";
+    assert_shown(&rt, &missing, expected);
+    let result = arena.check_contains_handle(Handle::new(1));
+    assert_same(&rt, "the second", &result, &Err(missing));
     let arena = arena_of(&rt, &[10, 20]);
     assert_ranges(
         &rt,
@@ -200,18 +164,6 @@ fn ranges_exist_if_they_are_empty_or_end_in_the_arena(rt: HostRuntime) {
 }
 
 #[test]
-fn ranges_begin_at_an_earlier_length(rt: HostRuntime) {
-    let mut arena: Arena<u16, ExpressionTag> = arena_of(&rt, &[10]);
-    let earlier = arena.len();
-    assert!(rt; earlier < 2);
-    arena.append(20, Span::default()).expect(&rt, "memory");
-    assert!(rt; earlier <= arena.len());
-    let range = arena.range_from(earlier);
-    assert_same(&rt, "its ends", &(range.start, range.end), &(1, 2));
-    assert_debugged(&rt, &range, "[1..2]");
-}
-
-#[test]
 fn lists_keep_their_items(rt: HostRuntime) {
     let mut items = Vec::new(rt.alloc());
     items.push(3_u8).expect(&rt, "memory");
@@ -221,6 +173,7 @@ fn lists_keep_their_items(rt: HostRuntime) {
     assert_same(&rt, "items", &list.len(), &2);
     let copy = list.try_clone().expect(&rt, "memory");
     let empty = List::new(rt.alloc());
-    assert_holds(&rt, "the copy", copy == list && copy != empty);
+    assert_same(&rt, "the copy", &copy, &list);
+    assert_same(&rt, "another", &(copy == empty), &false);
     assert_debugged(&rt, &list.into_vec(), "[3, 5]");
 }

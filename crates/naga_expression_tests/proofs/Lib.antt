@@ -1,2 +1,0 @@
-mod HoldsBefore
-mod JudgeableExpressions

@@ -1,5 +1,0 @@
-//! The tests of `naga_immediates`.
-#![tactic(auto)]
-
-#[cfg(test)]
-mod tests;

@@ -1,5 +1,0 @@
-//! The tests of `naga_leaves`.
-#![tactic(auto)]
-
-#[cfg(test)]
-mod tests;

@@ -1,0 +1,21 @@
+//! The texts of errors.
+
+use naga_valid::{ExpressionError, FunctionError, Handle};
+use std::process::Abort;
+
+#[test]
+fn errors_of_functions_read_so(rt: HostRuntime) {
+    for (error, want) in [
+        (
+            FunctionError::Expression {
+                handle: Handle::new(3),
+                source: ExpressionError::InvalidDerivative,
+            },
+            "Expression [3] is invalid",
+        ),
+        (FunctionError::OutOfMemory, "Out of memory"),
+    ] {
+        let shown = format!(in rt.alloc(); "{error}").expect(&rt, "memory");
+        assert!(&rt; shown.as_str() == want, "{shown}");
+    }
+}

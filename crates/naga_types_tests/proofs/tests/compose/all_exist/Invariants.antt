@@ -1,7 +1,0 @@
-use Rattle.naga_types_tests.proofs.HoldsBefore.{HoldsBefore}
-use Rattle.naga_types_tests.proofs.tests.compose.all_exist.Given as goal
-use Rattle.naga_typing.specs.Resolutions.{TypesExist}
-
--- what those so far name is there
-abbrev pub invariant-loop-index : goal.invariant-loop-index
-invariant-loop-index l = HoldsBefore (TypesExist l.types) l.resolutions l.index

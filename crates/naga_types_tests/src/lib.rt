@@ -1,5 +1,0 @@
-//! The tests of `naga_types`.
-#![tactic(auto)]
-
-#[cfg(test)]
-mod tests;
