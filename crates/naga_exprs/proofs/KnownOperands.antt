@@ -9,7 +9,7 @@ use Rattle.naga_ir.specs.References.{named_type, operands}
 use Rattle.naga_ir.specs.declared.expression.Expression.{Expression}
 use Rattle.naga_ir.specs.declared.expression.Expression.TheVariants as form
 use Rattle.naga_ir.specs.declared.reference.Reference.TheVariants as to
-use Rattle.naga_operands.specs.Surroundings.{CanJudge, ExpressionSurroundings}
+use Rattle.naga_info.specs.Surroundings.{CanJudge, ExpressionSurroundings}
 
 operands_of_access : (base index : ℕ) → operands (form.Access base index) ≡ base ∷ index ∷ []
 unfolding operands

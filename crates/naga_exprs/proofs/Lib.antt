@@ -1,1 +1,3 @@
 mod KnownOperands
+mod Operands
+pub mod OverrideValues

@@ -1,24 +1,24 @@
 -- The rule of an expression of a function, by its form.
 use Rattle.std.specs.Prelude.{◌≡◌, Result, Ok}
-use Rattle.naga_access_exprs.specs.Accesses.{IsAccessMeant, access_index_rule}
-use Rattle.naga_access_exprs.specs.Memory.{array_length_rule, cooperative_load_rule, load_rule}
-use Rattle.naga_access_exprs.specs.RayQueries.{ray_query_get_intersection_rule, ray_query_vertex_positions_rule}
-use Rattle.naga_access_exprs.specs.Vectors.{swizzle_rule}
+use Rattle.naga_exprs.specs.Accesses.{IsAccessMeant, access_index_rule}
+use Rattle.naga_exprs.specs.Memory.{array_length_rule, cooperative_load_rule, load_rule}
+use Rattle.naga_exprs.specs.RayQueries.{ray_query_get_intersection_rule, ray_query_vertex_positions_rule}
+use Rattle.naga_exprs.specs.Vectors.{swizzle_rule}
 use Rattle.naga_flags.specs.declared.flags.ShaderStages.{ShaderStages}
 use Rattle.naga_image_exprs.specs.Loads.{image_load_rule}
 use Rattle.naga_image_exprs.specs.Queries.{image_query_rule}
 use Rattle.naga_image_exprs.specs.Samples.{IsImageSampleMeant}
 use Rattle.naga_ir.specs.declared.expression.Expression.{Expression}
 use Rattle.naga_ir.specs.declared.expression.Expression.TheVariants as form
-use Rattle.naga_math_exprs.specs.Math.{MathTyping, math_rule}
-use Rattle.naga_operands.specs.Results.{IsReturned}
-use Rattle.naga_operands.specs.Stages.{every_stage}
-use Rattle.naga_operands.specs.Surroundings.{ExpressionSurroundings}
-use Rattle.naga_operands.specs.declared.error.ExpressionError.{ExpressionError}
+use Rattle.naga_exprs.specs.Math.{MathTyping, math_rule}
+use Rattle.naga_info.specs.Results.{IsReturned}
+use Rattle.naga_info.specs.Stages.{every_stage}
+use Rattle.naga_info.specs.Surroundings.{ExpressionSurroundings}
+use Rattle.naga_info.specs.declared.expression_error.ExpressionError.{ExpressionError}
 use Rattle.naga_operator_exprs.specs.Binary.{IsBinaryMeant}
 use Rattle.naga_operator_exprs.specs.Cooperative.{cooperative_multiply_add_rule}
 use Rattle.naga_operator_exprs.specs.Operators.{as_rule, derivative_rule, relational_rule, select_rule, unary_rule}
-use Rattle.naga_value_exprs.specs.Values.{argument_rule, call_stages, composition_rule, literal_value_rule, splat_rule, workgroup_load_rule, zero_value_rule}
+use Rattle.naga_exprs.specs.Values.{argument_rule, call_stages, composition_rule, literal_value_rule, splat_rule, workgroup_load_rule, zero_value_rule}
 
 -- by what a typing says of mathematical functions, the stages that may use an expression, or the first condition of its form that it breaks
 abbrev pub IsMeant : MathTyping → ExpressionSurroundings → Expression → Result ShaderStages ExpressionError → Type 0

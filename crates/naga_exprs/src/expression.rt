@@ -1,26 +1,27 @@
 //! The rule of one expression of a function (naga's `Validator::validate_expression`).
 
 ghost use Rattle.naga_exprs.specs.ExpressionRule.{IsExpressionReturned};
-ghost use Rattle.naga_operands.specs.Surroundings.{CanJudge, IsJudgeable, surroundings};
+ghost use Rattle.naga_info.specs.Surroundings.{CanJudge, IsJudgeable, surroundings};
 
-use naga_access_exprs::access::{validate_access, validate_access_index, validate_swizzle};
-use naga_access_exprs::memory::{validate_array_length, validate_cooperative_load, validate_load};
-use naga_access_exprs::ray_query::{
-    validate_ray_query_get_intersection, validate_ray_query_vertex_positions,
+use crate::access::{validate_access, validate_access_index, validate_swizzle};
+use crate::math::validate_math;
+use crate::memory::{validate_array_length, validate_cooperative_load, validate_load};
+use crate::ray_query::{validate_ray_query_get_intersection, validate_ray_query_vertex_positions};
+use crate::value::{
+    validate_call_result, validate_composition, validate_function_argument, validate_literal_value,
+    validate_splat, validate_workgroup_uniform_load_result, validate_zero_value,
 };
 use naga_flags::flags::ShaderStages;
 use naga_image_exprs::load::validate_image_load;
 use naga_image_exprs::query::validate_image_query;
 use naga_image_exprs::sample::{Sample, validate_image_sample};
-use naga_infos::context::ExprContext;
-use naga_infos::module_info::{FunctionInfo, ModuleInfo};
+use naga_info::context::{ExprContext, FunctionContext, every_stage};
+use naga_info::expression_error::ExpressionError;
+use naga_info::module_info::{FunctionInfo, ModuleInfo};
 use naga_ir::expression::Expression;
 use naga_ir::handle::Handle;
 use naga_ir::ir::{Function, Module};
 use naga_ir::tags::ExpressionTag;
-use naga_math_exprs::math::validate_math;
-use naga_operands::context::{FunctionContext, every_stage};
-use naga_operands::error::ExpressionError;
 use naga_operator_exprs::binary::validate_binary;
 use naga_operator_exprs::cooperative::validate_cooperative_multiply_add;
 use naga_operator_exprs::operators::{
@@ -28,10 +29,6 @@ use naga_operator_exprs::operators::{
 };
 use naga_typing::expression_kind::ExpressionKindTracker;
 use naga_typing::typing::Typing;
-use naga_value_exprs::value::{
-    validate_call_result, validate_composition, validate_function_argument, validate_literal_value,
-    validate_splat, validate_workgroup_uniform_load_result, validate_zero_value,
-};
 use std::alloc::Global;
 
 /// The stages that may use an expression, by the rule of its form.

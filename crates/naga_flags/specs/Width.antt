@@ -1,7 +1,7 @@
 -- The widths that scalars may have.
 use Rattle.std.specs.Prelude.{◌==◌, ◌&&◌, ◌||◌, ℕ, Bool as Truth, false, Result, Ok, Err, codes, if◌then◌else◌}
-use Rattle.naga_ir_types.specs.declared.types.Scalar.{Scalar}
-use Rattle.naga_ir_types.specs.declared.types.ScalarKind.TheVariants.{Sint, Uint, Float, Bool, AbstractInt, AbstractFloat}
+use Rattle.naga_ir.specs.declared.types.Scalar.{Scalar}
+use Rattle.naga_ir.specs.declared.types.ScalarKind.TheVariants.{Sint, Uint, Float, Bool, AbstractInt, AbstractFloat}
 use Rattle.naga_flags.specs.Bits.{FLOAT64, SHADER_FLOAT16, SHADER_INT16, SHADER_INT64}
 use Rattle.naga_flags.specs.Flags.{has}
 use Rattle.naga_flags.specs.declared.width.ImmediateError.{ImmediateError}

@@ -5,7 +5,7 @@ use Rattle.std.proofs.lemmas.List.Elements.{All-append, All-contains, Contains-a
 use Rattle.naga_ir.specs.Handles.{Counts, Exists, GoBack, HandlesAccepted, MemberExists, NamesType, OrderedInModule, OrderedReference, SizeGatesHold, among_globals, parent_filter, calls_function, function_counts, in_function, initialiser_at, initialiser_of, module_counts, place_of, size_initialiser, sized_by}
 use Rattle.naga_ir.specs.ItemReferences.{all_functions, body_references, constant_references, expression_references, function_references, global_lists, local_references, local_variable_references, named_references, other_references, override_references, signature_references, type_references}
 use Rattle.naga_ir.specs.References.{operands}
-use Rattle.naga_ir_types.specs.Parts.{parts, size_override}
+use Rattle.naga_ir.specs.Parts.{parts, size_override}
 use Rattle.naga_ir.specs.declared.expression.Expression.{Expression}
 use Rattle.naga_ir.specs.declared.ir.EntryPoint.{EntryPoint}
 use Rattle.naga_ir.specs.declared.ir.FunctionArgument.{FunctionArgument}
@@ -15,7 +15,7 @@ use Rattle.naga_ir.specs.declared.ir.Function.{Function}
 use Rattle.naga_ir.specs.declared.ir.Module.{Module}
 use Rattle.naga_ir.specs.declared.reference.Reference.{Reference}
 use Rattle.naga_ir.specs.declared.reference.Reference.TheVariants as to
-use Rattle.naga_ir_types.specs.declared.types.«Type».{«Type»}
+use Rattle.naga_ir.specs.declared.types.«Type».{«Type»}
 use Rattle.naga_ir.proofs.ReferencesOfItems.{item_in, only, type_in, within_all}
 use Rattle.naga_handles.specs.Faults.{IsFault, IsHandleFault, IsOrderFault, PlainReference, VisitedReference, forward_in_module, in_entry_point, initialiser, invalid, item, missing_member, no_entry_point, not_back, not_gated, not_there, not_visited, of_constant, of_override, on_walk, other, plain_references, size, type_}
 use Rattle.naga_handles.specs.Faults as faults

@@ -6,7 +6,7 @@ use Rattle.naga_arena.specs.Memory.{UnlessOutOfMemory}
 use Rattle.naga_ir.specs.Handles.{Exists, HandlesAccepted, module_counts}
 use Rattle.naga_ir.specs.ItemReferences.{expression_references, type_references}
 use Rattle.naga_ir.specs.declared.ir.Module.{Module}
-use Rattle.naga_ir_types.specs.declared.types.«Type».{«Type»}
+use Rattle.naga_ir.specs.declared.types.«Type».{«Type»}
 use Rattle.naga_handles.specs.Faults.{IsFault, MayRequestMemory}
 use Rattle.naga_handles.specs.Order.{CanBeOrdered}
 use Rattle.naga_handles.specs.steps.OtherItems.{IsHandleRefusal, OtherItemsOk}

@@ -12,9 +12,9 @@ use Rattle.naga_ir.specs.declared.ir.Override.{Override}
 use Rattle.naga_ir.specs.declared.ir.Module.{Module}
 use Rattle.naga_ir.specs.declared.reference.Reference.{Reference}
 use Rattle.naga_ir.specs.declared.reference.Reference.TheVariants as to
-use Rattle.naga_ir_types.specs.Parts.{parts, size_override}
-use Rattle.naga_ir_types.specs.declared.types.TypeInner.{TypeInner}
-use Rattle.naga_ir_types.specs.declared.types.«Type».{«Type»}
+use Rattle.naga_ir.specs.Parts.{parts, size_override}
+use Rattle.naga_ir.specs.declared.types.TypeInner.{TypeInner}
+use Rattle.naga_ir.specs.declared.types.«Type».{«Type»}
 use Rattle.naga_handles.specs.Faults.{IsOrderFault, VisitedReference, forward, missing, not_back, not_visited}
 use Rattle.naga_handles.specs.steps.VisitState.{ItemOk, NamesLate, SizeOk, constant_value, named_initialiser}
 use Rattle.naga_handles.specs.declared.error.InvalidHandleError.{InvalidHandleError}

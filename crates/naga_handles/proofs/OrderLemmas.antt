@@ -14,8 +14,8 @@ use Rattle.naga_ir.specs.declared.expression.Expression.TheVariants as form
 use Rattle.naga_ir.specs.declared.ir.Module.{Module}
 use Rattle.naga_ir.specs.declared.reference.Reference.{Reference}
 use Rattle.naga_ir.specs.declared.reference.Reference.TheVariants as to
-use Rattle.naga_ir_types.specs.Parts.{parts, size_override}
-use Rattle.naga_ir_types.specs.declared.types.«Type».{«Type»}
+use Rattle.naga_ir.specs.Parts.{parts, size_override}
+use Rattle.naga_ir.specs.declared.types.«Type».{«Type»}
 use Rattle.naga_handles.specs.Faults.{IsOrderFault, VisitedReference, initialiser, item, not_back, not_gated, not_visited, size, type_}
 use Rattle.naga_handles.specs.Order.{CanBeOrdered}
 use Rattle.naga_handles.specs.steps.VisitState.{AllBefore, ExpressionOk, NamesBefore, Reached, Seen, TypeOk, constant_value, named_initialiser}

@@ -8,7 +8,7 @@ use Rattle.naga_ir.specs.Handles.{Counts, Exists, MemberExists, OrderedOperands,
 use Rattle.naga_ir.specs.ItemReferences.{all_functions, body_references, comment_references, constant_references, entry_point_references, expression_references, function_references, global_variable_references, local_references, local_variable_references, named_references, other_references, override_references, signature_references, special_types}
 use Rattle.naga_ir.specs.References.{operands}
 use Rattle.naga_ir.specs.FirstFailure.{ChecksEach}
-use Rattle.naga_ir_types.specs.declared.types.«Type».{«Type»}
+use Rattle.naga_ir.specs.declared.types.«Type».{«Type»}
 use Rattle.naga_ir.specs.declared.expression.Expression.{Expression}
 use Rattle.naga_ir.specs.declared.ir.DiagnosticFilterNode.{DiagnosticFilterNode}
 use Rattle.naga_ir.specs.declared.ir.EntryPoint.{EntryPoint}

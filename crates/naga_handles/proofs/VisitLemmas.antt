@@ -10,7 +10,7 @@ use Rattle.naga_ir.specs.Ranks.{reach, top_before}
 use Rattle.naga_ir.specs.declared.expression.Expression.{Expression}
 use Rattle.naga_ir.specs.declared.ir.Module.{Module}
 use Rattle.naga_ir.specs.declared.reference.Reference.TheVariants as to
-use Rattle.naga_ir_types.specs.declared.types.«Type».{«Type»}
+use Rattle.naga_ir.specs.declared.types.«Type».{«Type»}
 use Rattle.naga_handles.specs.Faults.{IsOrderFault, forward, not_gated}
 use Rattle.naga_handles.specs.steps.VisitState.{ExpressionOk, NamesBefore, Reached, Seen, SeenUpTo, TypeOk}
 use Rattle.naga_handles.specs.declared.error.InvalidHandleError.{InvalidHandleError}

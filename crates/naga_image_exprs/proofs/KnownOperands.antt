@@ -12,7 +12,7 @@ use Rattle.naga_ir.specs.declared.expression.Expression.{Expression}
 use Rattle.naga_ir.specs.declared.expression.Expression.TheVariants as form
 use Rattle.naga_ir.specs.declared.expression.ImageQuery.{ImageQuery}
 use Rattle.naga_ir.specs.declared.reference.Reference.TheVariants as to
-use Rattle.naga_operands.specs.Surroundings.{CanJudge, ExpressionSurroundings}
+use Rattle.naga_info.specs.Surroundings.{CanJudge, ExpressionSurroundings}
 
 operands_of_sample : (s : Sample) → operands (expression_of s) ≡ s.image ∷ s.sampler ∷ s.coordinate ∷ option_to_list s.array_index ++ (option_to_list s.offset ++ (level_operands s.level ++ option_to_list s.depth_ref))
 unfolding operands

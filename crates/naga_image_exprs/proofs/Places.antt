@@ -14,12 +14,12 @@ use Rattle.naga_ir.specs.declared.ir.FunctionArgument.{FunctionArgument}
 use Rattle.naga_ir.specs.declared.ir.GlobalVariable.{GlobalVariable}
 use Rattle.naga_ir.specs.declared.reference.Reference.{Reference}
 use Rattle.naga_ir.specs.declared.reference.Reference.TheVariants as to
-use Rattle.naga_ir_types.specs.Parts.{parts, size_override}
-use Rattle.naga_ir_types.specs.declared.types.«Type».{«Type»}
-use Rattle.naga_ir_types.specs.declared.types.ArraySize.{ArraySize}
-use Rattle.naga_ir_types.specs.declared.types.TypeInner.{TypeInner}
-use Rattle.naga_ir_types.specs.declared.types.TypeInner.TheVariants.{BindingArray}
-use Rattle.naga_operands.specs.Surroundings.{AreSound, ExpressionSurroundings}
+use Rattle.naga_ir.specs.Parts.{parts, size_override}
+use Rattle.naga_ir.specs.declared.types.«Type».{«Type»}
+use Rattle.naga_ir.specs.declared.types.ArraySize.{ArraySize}
+use Rattle.naga_ir.specs.declared.types.TypeInner.{TypeInner}
+use Rattle.naga_ir.specs.declared.types.TypeInner.TheVariants.{BindingArray}
+use Rattle.naga_info.specs.Surroundings.{AreSound, ExpressionSurroundings}
 use Rattle.naga_typing.proofs.Existence.{references_exist}
 use Rattle.naga_typing.proofs.FormOperands.{of_access, of_access_index}
 use Rattle.naga_typing.specs.Context.{ReferencesExist}

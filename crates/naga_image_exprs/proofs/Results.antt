@@ -10,10 +10,10 @@ use Rattle.naga_image_exprs.specs.Samples.{IsImageSampleReturned, bad_clamp, ima
 use Rattle.naga_image_exprs.specs.declared.resource.ImageType.{ImageType}
 use Rattle.naga_image_exprs.specs.declared.sample.Sample.{Sample}
 use Rattle.naga_image_exprs.specs.steps.Clamps.{IsClampResult}
-use Rattle.naga_operands.specs.Stages.{every_stage}
-use Rattle.naga_operands.specs.Surroundings.{ExpressionSurroundings}
-use Rattle.naga_operands.specs.declared.error.ExpressionError.{ExpressionError}
-use Rattle.naga_operands.specs.declared.error.ExpressionError.TheVariants.{InvalidSampleClampCoordinateToEdge, OutOfMemory}
+use Rattle.naga_info.specs.Stages.{every_stage}
+use Rattle.naga_info.specs.Surroundings.{ExpressionSurroundings}
+use Rattle.naga_info.specs.declared.expression_error.ExpressionError.{ExpressionError}
+use Rattle.naga_info.specs.declared.expression_error.ExpressionError.TheVariants.{InvalidSampleClampCoordinateToEdge, OutOfMemory}
 use Rattle.naga_types.specs.Judging.{granted, judged}
 
 -- a load from an image is judged by its conditions

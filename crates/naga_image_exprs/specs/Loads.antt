@@ -4,14 +4,14 @@ use Rattle.naga_flags.specs.declared.flags.ShaderStages.{ShaderStages}
 use Rattle.naga_image_exprs.specs.Coordinates.{bad_layer, is_index}
 use Rattle.naga_image_exprs.specs.Resources.{and_then, image_at}
 use Rattle.naga_image_exprs.specs.declared.resource.ImageType.{ImageType}
-use Rattle.naga_ir_types.specs.TypeWords.{is_mipmapped, is_multisampled}
-use Rattle.naga_ir_types.specs.contracts.types.ImageDimensionPartialEq.TheImpl as of_dimension
-use Rattle.naga_ir_types.specs.declared.types.ImageDimension.{ImageDimension}
-use Rattle.naga_operands.specs.Stages.{every_stage}
-use Rattle.naga_operands.specs.Words.{is_integer_scalar}
-use Rattle.naga_operands.specs.Surroundings.{ExpressionSurroundings, form_at}
-use Rattle.naga_operands.specs.declared.error.ExpressionError.{ExpressionError}
-use Rattle.naga_operands.specs.declared.error.ExpressionError.TheVariants as refusal
+use Rattle.naga_ir.specs.TypeWords.{is_mipmapped, is_multisampled}
+use Rattle.naga_ir.specs.contracts.types.ImageDimensionPartialEq.TheImpl as of_dimension
+use Rattle.naga_ir.specs.declared.types.ImageDimension.{ImageDimension}
+use Rattle.naga_info.specs.Stages.{every_stage}
+use Rattle.naga_info.specs.Words.{is_integer_scalar}
+use Rattle.naga_info.specs.Surroundings.{ExpressionSurroundings, form_at}
+use Rattle.naga_info.specs.declared.expression_error.ExpressionError.{ExpressionError}
+use Rattle.naga_info.specs.declared.expression_error.ExpressionError.TheVariants as refusal
 use Rattle.naga_types.specs.Judging.{judged, unless}
 use Rattle.naga_types.specs.TypeMethods.{image_storage_coordinates}
 

@@ -6,11 +6,11 @@ use Rattle.naga_image_exprs.specs.Resources.{and_then, image_at}
 use Rattle.naga_image_exprs.specs.declared.resource.ImageType.{ImageType}
 use Rattle.naga_ir.specs.declared.expression.ImageQuery.{ImageQuery}
 use Rattle.naga_ir.specs.declared.expression.ImageQuery.TheVariants.{Size, NumLevels, NumLayers, NumSamples}
-use Rattle.naga_ir_types.specs.TypeWords.{is_mipmapped, is_multisampled}
-use Rattle.naga_operands.specs.Stages.{every_stage}
-use Rattle.naga_operands.specs.Surroundings.{ExpressionSurroundings, form_at}
-use Rattle.naga_operands.specs.declared.error.ExpressionError.{ExpressionError}
-use Rattle.naga_operands.specs.declared.error.ExpressionError.TheVariants as refusal
+use Rattle.naga_ir.specs.TypeWords.{is_mipmapped, is_multisampled}
+use Rattle.naga_info.specs.Stages.{every_stage}
+use Rattle.naga_info.specs.Surroundings.{ExpressionSurroundings, form_at}
+use Rattle.naga_info.specs.declared.expression_error.ExpressionError.{ExpressionError}
+use Rattle.naga_info.specs.declared.expression_error.ExpressionError.TheVariants as refusal
 use Rattle.naga_types.specs.Judging.{first, granted, unless}
 
 -- the refusal of the size of a level, unless its index is an integer of 32 bits, and the image may have several

@@ -13,18 +13,18 @@ use Rattle.naga_ir.specs.declared.expression.SampleLevel.{SampleLevel}
 use Rattle.naga_ir.specs.declared.expression.SampleLevel.TheVariants.{Auto, Zero, Exact, Bias, Gradient}
 use Rattle.naga_ir.specs.declared.expression.SwizzleComponent.{SwizzleComponent}
 use Rattle.naga_ir.specs.declared.expression.SwizzleComponent.TheVariants.{X, Y, Z, W}
-use Rattle.naga_ir_types.specs.declared.types.ImageClass.{ImageClass}
-use Rattle.naga_ir_types.specs.declared.types.ImageClass.TheVariants.{Sampled, Depth, Storage, External}
-use Rattle.naga_ir_types.specs.declared.types.ImageDimension.{ImageDimension}
-use Rattle.naga_ir_types.specs.declared.types.ImageDimension.TheVariants.{D1, D2, D3, Cube}
-use Rattle.naga_ir_types.specs.declared.types.ScalarKind.TheVariants.{Float, Sint}
-use Rattle.naga_ir_types.specs.declared.types.TypeInner.{TypeInner}
-use Rattle.naga_operands.specs.Results.{IsReturned}
-use Rattle.naga_operands.specs.Stages.{every_stage, fragment_stage}
-use Rattle.naga_operands.specs.Surroundings.{ExpressionSurroundings, form_at}
-use Rattle.naga_operands.specs.Words.{is_integer_scalar}
-use Rattle.naga_operands.specs.declared.error.ExpressionError.{ExpressionError}
-use Rattle.naga_operands.specs.declared.error.ExpressionError.TheVariants as refusal
+use Rattle.naga_ir.specs.declared.types.ImageClass.{ImageClass}
+use Rattle.naga_ir.specs.declared.types.ImageClass.TheVariants.{Sampled, Depth, Storage, External}
+use Rattle.naga_ir.specs.declared.types.ImageDimension.{ImageDimension}
+use Rattle.naga_ir.specs.declared.types.ImageDimension.TheVariants.{D1, D2, D3, Cube}
+use Rattle.naga_ir.specs.declared.types.ScalarKind.TheVariants.{Float, Sint}
+use Rattle.naga_ir.specs.declared.types.TypeInner.{TypeInner}
+use Rattle.naga_info.specs.Results.{IsReturned}
+use Rattle.naga_info.specs.Stages.{every_stage, fragment_stage}
+use Rattle.naga_info.specs.Surroundings.{ExpressionSurroundings, form_at}
+use Rattle.naga_info.specs.Words.{is_integer_scalar}
+use Rattle.naga_info.specs.declared.expression_error.ExpressionError.{ExpressionError}
+use Rattle.naga_info.specs.declared.expression_error.ExpressionError.TheVariants as refusal
 use Rattle.naga_types.specs.Judging.{first, judged, unless}
 use Rattle.naga_types.specs.TypeRule.{is_external, is_flat, is_float, is_integer}
 use Rattle.naga_typing.specs.Kinds.{is_const}

@@ -7,10 +7,10 @@ ghost use Rattle.naga_image_exprs.specs.steps.Clamps.{IsClampResult};
 
 use crate::resource::ImageType;
 use crate::sample::Sample;
+use naga_info::expression_error::ExpressionError;
 use naga_ir::expression::SampleLevel;
 use naga_ir::memory::OutOfMemory;
 use naga_ir::types::{ImageClass, ImageDimension, ScalarKind};
-use naga_operands::error::ExpressionError;
 use std::alloc::Global;
 use std::fmt;
 

@@ -2,16 +2,16 @@
 
 ghost use Rattle.std.specs.Prelude.{◌≡◌, ◌<◌, IfSome, length};
 ghost use Rattle.naga_image_exprs.specs.Coordinates as rule;
-ghost use Rattle.naga_operands.specs.Surroundings.{AreSound, surroundings};
-ghost use Rattle.naga_operands.specs.Words as words;
+ghost use Rattle.naga_info.specs.Surroundings.{AreSound, surroundings};
+ghost use Rattle.naga_info.specs.Words as words;
 ghost use Rattle.naga_types.specs.Judging.{granted};
 
+use naga_info::context::FunctionContext;
+use naga_info::expression_error::ExpressionError;
+use naga_info::type_methods::{component_count, is_integer_scalar};
 use naga_ir::handle::Handle;
 use naga_ir::tags::ExpressionTag;
 use naga_ir::types::{ImageDimension, Scalar, ScalarKind, TypeInner};
-use naga_operands::context::FunctionContext;
-use naga_operands::error::ExpressionError;
-use naga_operands::type_methods::{component_count, is_integer_scalar};
 
 /// How many numbers the coordinates of an image of this dimension are.
 pub(crate) fn coordinate_count(dim: ImageDimension) -> u8

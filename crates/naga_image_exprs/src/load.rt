@@ -3,19 +3,19 @@
 ghost use Rattle.std.specs.Prelude.{◌≡◌, ◌<◌, IfSome, length};
 ghost use Rattle.naga_image_exprs.specs.Loads as rule;
 ghost use Rattle.naga_ir.specs.declared.expression.Expression.TheVariants as form;
-ghost use Rattle.naga_ir_types.specs.TypeWords.{is_mipmapped, is_multisampled};
-ghost use Rattle.naga_operands.specs.Surroundings.{AreSound, IsJudgeable, surroundings};
+ghost use Rattle.naga_ir.specs.TypeWords.{is_mipmapped, is_multisampled};
+ghost use Rattle.naga_info.specs.Surroundings.{AreSound, IsJudgeable, surroundings};
 ghost use Rattle.naga_types.specs.Judging.{granted};
 
 use crate::coordinates::{check_loaded_layer, is_index};
 use crate::resource::image_at;
 use naga_flags::flags::ShaderStages;
+use naga_info::context::{FunctionContext, every_stage};
+use naga_info::expression_error::ExpressionError;
+use naga_info::type_methods::is_integer_scalar;
 use naga_ir::handle::Handle;
 use naga_ir::tags::ExpressionTag;
 use naga_ir::types::{ImageClass, ImageDimension};
-use naga_operands::context::{FunctionContext, every_stage};
-use naga_operands::error::ExpressionError;
-use naga_operands::type_methods::is_integer_scalar;
 use naga_types::type_methods::image_storage_coordinates;
 
 /// Checks that coordinates are those of an image of this dimension, in texels.

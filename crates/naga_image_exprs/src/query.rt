@@ -4,17 +4,17 @@ ghost use Rattle.std.specs.Prelude.{◌≡◌, ◌<◌, All, length};
 ghost use Rattle.naga_image_exprs.specs.Queries as rule;
 ghost use Rattle.naga_ir.specs.References.{query_operands};
 ghost use Rattle.naga_ir.specs.declared.expression.Expression.TheVariants as form;
-ghost use Rattle.naga_operands.specs.Surroundings.{AreSound, IsJudgeable, surroundings};
+ghost use Rattle.naga_info.specs.Surroundings.{AreSound, IsJudgeable, surroundings};
 ghost use Rattle.naga_types.specs.Judging.{granted};
 
 use crate::coordinates::is_index;
 use crate::resource::{ImageType, image_at};
 use naga_flags::flags::ShaderStages;
+use naga_info::context::{FunctionContext, every_stage};
+use naga_info::expression_error::ExpressionError;
 use naga_ir::expression::ImageQuery;
 use naga_ir::handle::Handle;
 use naga_ir::tags::ExpressionTag;
-use naga_operands::context::{FunctionContext, every_stage};
-use naga_operands::error::ExpressionError;
 
 /// Checks that the size of a level is only asked of an image that may have several, and by an integer of 32
 /// bits.

@@ -3,14 +3,14 @@
 ghost use Rattle.std.specs.Prelude.{◌≡◌, ◌<◌, IfOk, length};
 ghost use Rattle.naga_image_exprs.specs.Resources as rule;
 ghost use Rattle.naga_image_exprs.specs.steps.KnownResources.{CanLookUp};
-ghost use Rattle.naga_operands.specs.Surroundings.{AreSound, surroundings};
+ghost use Rattle.naga_info.specs.Surroundings.{AreSound, surroundings};
 
+use naga_info::context::FunctionContext;
+use naga_info::expression_error::ExpressionError;
 use naga_ir::expression::Expression;
 use naga_ir::handle::Handle;
 use naga_ir::tags::{ExpressionTag, GlobalVariableTag, TypeTag};
 use naga_ir::types::{ImageClass, ImageDimension, TypeInner};
-use naga_operands::context::FunctionContext;
-use naga_operands::error::ExpressionError;
 
 /// What the rules of images read of the type of one.
 #[derive(Clone, Copy, Debug)]

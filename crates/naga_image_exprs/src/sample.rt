@@ -4,8 +4,8 @@ ghost use Rattle.std.specs.Prelude.{◌≡◌, ◌<◌, All, IfSome, length};
 ghost use Rattle.naga_image_exprs.specs.Samples as rule;
 ghost use Rattle.naga_image_exprs.specs.steps.KnownResources.{CanLookUp};
 ghost use Rattle.naga_ir.specs.References.{level_operands};
-ghost use Rattle.naga_operands.specs.Surroundings.{AreSound, IsJudgeable, surroundings};
-ghost use Rattle.naga_operands.specs.Words.{is_scalar_that};
+ghost use Rattle.naga_info.specs.Surroundings.{AreSound, IsJudgeable, surroundings};
+ghost use Rattle.naga_info.specs.Words.{is_scalar_that};
 ghost use Rattle.naga_types.specs.Judging.{granted};
 ghost use Rattle.naga_types.specs.TypeRule.{is_integer};
 
@@ -13,13 +13,13 @@ use crate::clamp::{check_clamp, is_filtered};
 use crate::coordinates::{are_coordinates, check_sampled_layer, coordinate_count, is_of_kind};
 use crate::resource::{ImageType, global_var_ty, image_type, sampler_comparison};
 use naga_flags::flags::ShaderStages;
+use naga_info::context::{FunctionContext, every_stage};
+use naga_info::expression_error::ExpressionError;
+use naga_info::type_methods::is_integer_scalar;
 use naga_ir::expression::{SampleLevel, SwizzleComponent};
 use naga_ir::handle::Handle;
 use naga_ir::tags::ExpressionTag;
 use naga_ir::types::{ImageClass, ImageDimension, ScalarKind, TypeInner};
-use naga_operands::context::{FunctionContext, every_stage};
-use naga_operands::error::ExpressionError;
-use naga_operands::type_methods::is_integer_scalar;
 use std::alloc::Global;
 
 /// A sample of an image: the fields of `Expression::ImageSample`. Handles are those of operands.

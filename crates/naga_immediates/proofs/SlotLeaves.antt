@@ -7,11 +7,11 @@ use Rattle.naga_immediates.specs.Slots.{AreExactly, HasPart, HasSlot, SharesByte
 use Rattle.naga_immediates.specs.Slots.HasPart.{itself, in_member}
 use Rattle.naga_immediates.specs.declared.immediates.ImmediateSlots.{ImmediateSlots}
 use Rattle.naga_ir.specs.ItemReferences.{GlobalLists}
-use Rattle.naga_ir_types.specs.TypeWords.{IsNoStruct}
-use Rattle.naga_ir_types.specs.declared.types.ArraySize.{ArraySize}
-use Rattle.naga_ir_types.specs.declared.types.StructMember.{StructMember}
-use Rattle.naga_ir_types.specs.declared.types.TypeInner.{TypeInner}
-use Rattle.naga_ir_types.specs.declared.types.TypeInner.TheVariants.{Array, Struct}
+use Rattle.naga_ir.specs.TypeWords.{IsNoStruct}
+use Rattle.naga_ir.specs.declared.types.ArraySize.{ArraySize}
+use Rattle.naga_ir.specs.declared.types.StructMember.{StructMember}
+use Rattle.naga_ir.specs.declared.types.TypeInner.{TypeInner}
+use Rattle.naga_ir.specs.declared.types.TypeInner.TheVariants.{Array, Struct}
 use Rattle.naga_typing.proofs.LeafAlignments.{place-in}
 use Rattle.naga_typing.proofs.LeafLemmas.{all_of, leaf-by_part, leaf-form, leaf-from_part, leaf-here, leaf-is_whole, leaf-whole, member_part, struct-has_part, struct-part}
 use Rattle.naga_typing.specs.Layout.{size_of}

@@ -19,13 +19,13 @@ use Rattle.naga_ir.proofs.ReferencesOfItems.{parts_come_before}
 use Rattle.naga_ir.specs.Handles.{ExistsGlobally, GlobalReferencesOk}
 use Rattle.naga_ir.specs.ItemReferences.{GlobalLists, type_references}
 use Rattle.naga_ir.specs.declared.reference.Reference.TheVariants as to
-use Rattle.naga_ir_types.proofs.PartLemmas.{members_are}
-use Rattle.naga_ir_types.specs.Parts.{parts}
-use Rattle.naga_ir_types.specs.TypeWords.{IsNoStruct}
-use Rattle.naga_ir_types.specs.declared.types.«Type».{«Type»}
-use Rattle.naga_ir_types.specs.declared.types.StructMember.{StructMember}
-use Rattle.naga_ir_types.specs.declared.types.TypeInner.{TypeInner}
-use Rattle.naga_ir_types.specs.declared.types.TypeInner.TheVariants.{Struct}
+use Rattle.naga_ir.proofs.PartLemmas.{members_are}
+use Rattle.naga_ir.specs.Parts.{parts}
+use Rattle.naga_ir.specs.TypeWords.{IsNoStruct}
+use Rattle.naga_ir.specs.declared.types.«Type».{«Type»}
+use Rattle.naga_ir.specs.declared.types.StructMember.{StructMember}
+use Rattle.naga_ir.specs.declared.types.TypeInner.{TypeInner}
+use Rattle.naga_ir.specs.declared.types.TypeInner.TheVariants.{Struct}
 use Rattle.naga_typing.specs.Context.{ReferencesExist}
 use Rattle.naga_typing.specs.Layout.{size_of}
 use Rattle.naga_typing.specs.Leaves.{inner_at}

@@ -3,8 +3,8 @@ use Rattle.std.specs.Prelude.{◌≡◌, ◌+◌, ◌≤◌, ◌↔◌, ℕ, Lis
 use Rattle.naga_immediates.specs.Slots.{AreExactly, HasSlot, SharesByte, byte_count}
 use Rattle.naga_immediates.specs.declared.immediates.ImmediateSlots.{ImmediateSlots}
 use Rattle.naga_ir.specs.ItemReferences.{GlobalLists}
-use Rattle.naga_ir_types.specs.declared.types.ArraySize.{ArraySize}
-use Rattle.naga_ir_types.specs.declared.types.TypeInner.TheVariants.{Array}
+use Rattle.naga_ir.specs.declared.types.ArraySize.{ArraySize}
+use Rattle.naga_ir.specs.declared.types.TypeInner.TheVariants.{Array}
 use Rattle.naga_typing.specs.Leaves.{IsInside, LeafBytes, elements, end_of, inner_at, leaf_at}
 
 -- no array is inside a type

@@ -7,7 +7,7 @@ ghost use Rattle.naga_immediates.specs.Slots.{AccessesMember, AreExactly, HasSlo
 ghost use Rattle.naga_immediates.specs.steps.SlotWalk.{Gains, KnowsNoted, byte_of, note_count, place_of};
 ghost use Rattle.naga_ir.specs.Handles.{GlobalReferencesOk, HandlesAccepted};
 ghost use Rattle.naga_ir.specs.ItemReferences.{global_lists};
-ghost use Rattle.naga_ir_types.specs.declared.types.«Type».{«Type»};
+ghost use Rattle.naga_ir.specs.declared.types.«Type».{«Type»};
 ghost use Rattle.naga_typing.specs.Context.{ReferencesExist, lists_of};
 ghost use Rattle.naga_typing.specs.Layout.{layout_results, size_of};
 

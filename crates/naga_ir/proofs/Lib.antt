@@ -1,6 +1,11 @@
 pub mod FirstFailure
 pub mod Handles
+pub mod Keys
 pub mod ModuleItems
+pub mod PartLemmas
+pub mod Powers
 pub mod ReferencesOfItems
+pub mod SameInner
+pub mod SameType
 pub mod StatementLemmas
 pub mod WorkedModules

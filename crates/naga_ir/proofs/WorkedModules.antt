@@ -5,12 +5,12 @@ use Rattle.std.proofs.lemmas.List.Elements.{All-nil, All-cons}
 use Rattle.naga_ir.specs.Handles.{Exists, EverythingExists, GoBack, HandlesAccepted, MemberExists, OrderedInModule, OrderedReference, SizeGatesHold, among_globals, parent_filter, calls_function, constant, function_counts, in_function, module_counts, operand, override, part, place_of, size_initialiser, size_type}
 use Rattle.naga_ir.specs.ItemReferences.{GlobalLists, function_references, global_lists}
 use Rattle.naga_ir.specs.References.{named_item, named_type, operands}
-use Rattle.naga_ir_types.specs.Parts.{parts, size_override}
+use Rattle.naga_ir.specs.Parts.{parts, size_override}
 use Rattle.naga_ir.specs.Ranks.{gate, least, rank_of_expression, rank_of_type, top_before}
-use Rattle.naga_ir_types.specs.declared.types.«Type».{«Type»}
-use Rattle.naga_ir_types.specs.declared.types.ArraySize.TheVariants.{Pending}
-use Rattle.naga_ir_types.specs.declared.types.ScalarKind.TheVariants.{Uint}
-use Rattle.naga_ir_types.specs.declared.types.TypeInner.TheVariants.{Array, Scalar}
+use Rattle.naga_ir.specs.declared.types.«Type».{«Type»}
+use Rattle.naga_ir.specs.declared.types.ArraySize.TheVariants.{Pending}
+use Rattle.naga_ir.specs.declared.types.ScalarKind.TheVariants.{Uint}
+use Rattle.naga_ir.specs.declared.types.TypeInner.TheVariants.{Array, Scalar}
 use Rattle.naga_ir.specs.declared.expression.Expression.{Expression}
 use Rattle.naga_ir.specs.declared.expression.Expression.TheVariants.{Constant, ZeroValue, Override as Over}
 use Rattle.naga_ir.specs.declared.ir.Override.{Override}

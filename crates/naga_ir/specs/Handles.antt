@@ -4,10 +4,10 @@ use Rattle.std.specs.List.{flat_map}
 use Rattle.naga_arena.specs.Existence.{IsGoodRange}
 use Rattle.naga_ir.specs.ItemReferences.{GlobalLists, all_functions, expression_references, filter_references, function_references, global_lists, global_references, other_references}
 use Rattle.naga_ir.specs.References.{named_type, operands}
-use Rattle.naga_ir_types.specs.Parts.{parts, size_override}
-use Rattle.naga_ir_types.specs.declared.types.«Type».{«Type»}
-use Rattle.naga_ir_types.specs.declared.types.StructMember.{StructMember}
-use Rattle.naga_ir_types.specs.declared.types.TypeInner.TheVariants.{Struct}
+use Rattle.naga_ir.specs.Parts.{parts, size_override}
+use Rattle.naga_ir.specs.declared.types.«Type».{«Type»}
+use Rattle.naga_ir.specs.declared.types.StructMember.{StructMember}
+use Rattle.naga_ir.specs.declared.types.TypeInner.TheVariants.{Struct}
 use Rattle.naga_ir.specs.declared.expression.Expression.{Expression}
 use Rattle.naga_ir.specs.declared.expression.Expression.TheVariants as expression
 use Rattle.naga_ir.specs.declared.ir.Constant.{Constant}

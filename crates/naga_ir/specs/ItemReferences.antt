@@ -2,10 +2,10 @@
 use Rattle.std.specs.Prelude.{ℕ, List, [], ◌∷◌, ◌++◌, map, Option, Some, None, option_to_list}
 use Rattle.std.specs.List.{flat_map}
 use Rattle.naga_ir.specs.References.{named_item, named_type, operands}
-use Rattle.naga_ir_types.specs.Parts.{parts, size_override}
+use Rattle.naga_ir.specs.Parts.{parts, size_override}
 use Rattle.naga_ir.specs.Statements.{block_references}
-use Rattle.naga_ir_types.specs.declared.types.«Type».{«Type»}
-use Rattle.naga_ir_types.specs.declared.types.TypeInner.{TypeInner}
+use Rattle.naga_ir.specs.declared.types.«Type».{«Type»}
+use Rattle.naga_ir.specs.declared.types.TypeInner.{TypeInner}
 use Rattle.naga_ir.specs.declared.expression.Expression.{Expression}
 use Rattle.naga_ir.specs.declared.ir.Constant.{Constant}
 use Rattle.naga_ir.specs.declared.ir.Override.{Override}

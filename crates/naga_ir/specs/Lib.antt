@@ -1,4 +1,8 @@
 -- To read first:
+-- Parts.parts, size_override: the types that a type names, and the override that sizes it
+-- TypeWords.scalar_of: the type of the components of a scalar, vector or matrix
+-- Sizes.components, vector_alignment: the number of components of a vector, and their alignment
+-- Distinct.AllDistinct: no two items of a list are equal
 -- References.operands, named_type, named_item: what an expression refers to
 -- Statements.block_references: what a block refers to, at any depth
 -- ItemReferences.function_references, global_references, other_references: what all other items refer to
@@ -10,13 +14,17 @@
 -- Handles.ExpressionReferencesOk: the same of the arguments and expressions of a function
 -- Handles.FunctionReferencesOk: and of its variables
 -- Ranks.rank_of_type, rank_of_expression: the index of each in the order of visits
+pub mod Distinct
 pub mod FirstFailure
 pub mod Handles
 pub mod ItemReferences
 pub mod Literals
 pub mod OnlyTypes
 pub mod Operands
+pub mod Parts
 pub mod Ranks
 pub mod References
+pub mod Sizes
 pub mod Statements
+pub mod TypeWords
 pub mod steps

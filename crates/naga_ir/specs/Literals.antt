@@ -1,8 +1,8 @@
 -- What a literal is.
 use Rattle.naga_ir.specs.declared.expression.Literal.{Literal}
 use Rattle.naga_ir.specs.declared.expression.Literal.TheVariants.{F64, F32, F16, U16, I16, U32, I32, U64, I64, Bool, AbstractInt, AbstractFloat}
-use Rattle.naga_ir_types.specs.declared.types.Scalar.{Scalar}
-use Rattle.naga_ir_types.specs.declared.types.ScalarKind.TheVariants as kind
+use Rattle.naga_ir.specs.declared.types.Scalar.{Scalar}
+use Rattle.naga_ir.specs.declared.types.ScalarKind.TheVariants as kind
 
 -- the type of a literal
 abbrev pub literal_scalar : Literal → Scalar

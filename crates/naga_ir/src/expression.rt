@@ -3,13 +3,13 @@
 ghost use Rattle.std.specs.Prelude.{◌≡◌};
 ghost use Rattle.naga_ir.specs.Literals.{literal_scalar};
 
+use crate::types::{Scalar, ScalarKind, VectorSize};
 use naga_arena::handle::Handle;
 use naga_arena::list::List;
 use naga_arena::tags::{
     ConstantTag, ExpressionTag, FunctionTag, GlobalVariableTag, LocalVariableTag, OverrideTag,
     TypeTag,
 };
-use naga_ir_types::types::{Scalar, ScalarKind, VectorSize};
 
 /// A literal. Floating-point numbers are kept as their bits, so two literals are equal exactly if
 /// their bits are.

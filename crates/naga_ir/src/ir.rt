@@ -5,6 +5,8 @@ ghost use Rattle.naga_ir.specs.OnlyTypes.{HasNoComments, HasNoSpecialTypes, HasO
 
 use crate::expression::Expression;
 use crate::statement::Block;
+use crate::types::{AddressSpace, Binding};
+use crate::unique_arena::UniqueArena;
 use naga_arena::arena::Arena;
 use naga_arena::handle::Handle;
 use naga_arena::list::List;
@@ -13,8 +15,6 @@ use naga_arena::tags::{
     LocalVariableTag, OverrideTag, TypeTag,
 };
 use naga_arena::text::Text;
-use naga_ir_types::types::{AddressSpace, Binding};
-use naga_ir_types::unique_arena::UniqueArena;
 use std::alloc::Global;
 
 /// A value with a name, known when the shader is compiled.

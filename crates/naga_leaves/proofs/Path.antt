@@ -6,8 +6,8 @@ use Rattle.std.proofs.lemmas.Option.{cond_some}
 use Rattle.naga_arena.specs.Numbers.{largest_u64}
 use Rattle.naga_ir.specs.Handles.{GlobalReferencesOk}
 use Rattle.naga_ir.specs.ItemReferences.{GlobalLists}
-use Rattle.naga_ir_types.specs.declared.types.«Type».{«Type»}
-use Rattle.naga_ir_types.specs.declared.types.TypeInner.{TypeInner}
+use Rattle.naga_ir.specs.declared.types.«Type».{«Type»}
+use Rattle.naga_ir.specs.declared.types.TypeInner.{TypeInner}
 use Rattle.naga_leaves.proofs.Parts.{part_comes_before}
 use Rattle.naga_typing.specs.Layout.{alignment_of, size_of}
 use Rattle.naga_typing.specs.Leaves.{Elements, LeafBytes, Part, is_leaf, leaf_at, moved, part_at, whole_leaf}

@@ -10,10 +10,10 @@ use Rattle.std.proofs.lemmas.Option.{none-some, slice_get_past, slice_get_within
 use Rattle.naga_arena.specs.Numbers.{largest_u32}
 use Rattle.naga_ir.specs.Handles.{GlobalReferencesOk}
 use Rattle.naga_ir.specs.ItemReferences.{GlobalLists}
-use Rattle.naga_ir_types.specs.declared.types.«Type».{«Type»}
-use Rattle.naga_ir_types.specs.declared.types.StructMember.{StructMember}
-use Rattle.naga_ir_types.specs.declared.types.TypeInner.{TypeInner}
-use Rattle.naga_ir_types.specs.declared.types.TypeInner.TheVariants.{Array, Struct}
+use Rattle.naga_ir.specs.declared.types.«Type».{«Type»}
+use Rattle.naga_ir.specs.declared.types.StructMember.{StructMember}
+use Rattle.naga_ir.specs.declared.types.TypeInner.{TypeInner}
+use Rattle.naga_ir.specs.declared.types.TypeInner.TheVariants.{Array, Struct}
 use Rattle.naga_leaves.proofs.Members.{member_part}
 use Rattle.naga_leaves.proofs.Parts.{part_comes_before}
 use Rattle.naga_leaves.proofs.Path.{moved_by_none, moved_twice}

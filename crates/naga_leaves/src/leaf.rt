@@ -5,7 +5,7 @@ ghost use Rattle.std.specs.Prelude.{length as length_of};
 ghost use Rattle.naga_arena.specs.Numbers.{largest_u64};
 ghost use Rattle.naga_ir.specs.Handles.{GlobalReferencesOk};
 ghost use Rattle.naga_ir.specs.ItemReferences.{global_lists};
-ghost use Rattle.naga_ir_types.specs.Parts.{pending};
+ghost use Rattle.naga_ir.specs.Parts.{pending};
 ghost use Rattle.naga_leaves.specs.Leaf.{bytes_of};
 ghost use Rattle.naga_leaves.specs.steps.Parts.{part_of};
 ghost use Rattle.naga_typing.specs.Context.{ReferencesExist, lists_of};

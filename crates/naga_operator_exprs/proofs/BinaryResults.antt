@@ -4,12 +4,12 @@ use Rattle.std.proofs.lemmas.Option.{same_Some}
 use Rattle.std.specs.Prelude.{Result, Ok, Err}
 use Rattle.naga_flags.specs.declared.flags.ShaderStages.{ShaderStages}
 use Rattle.naga_ir.specs.declared.expression.BinaryOperator.{BinaryOperator}
-use Rattle.naga_ir_types.specs.declared.types.TypeInner.{TypeInner}
-use Rattle.naga_operands.specs.Results.{IsReturned}
-use Rattle.naga_operands.specs.Stages.{every_stage}
-use Rattle.naga_operands.specs.Surroundings.{ExpressionSurroundings, form_at}
-use Rattle.naga_operands.specs.declared.error.ExpressionError.{ExpressionError}
-use Rattle.naga_operands.specs.declared.error.ExpressionError.TheVariants.{InvalidBinaryOperandTypes}
+use Rattle.naga_ir.specs.declared.types.TypeInner.{TypeInner}
+use Rattle.naga_info.specs.Results.{IsReturned}
+use Rattle.naga_info.specs.Stages.{every_stage}
+use Rattle.naga_info.specs.Surroundings.{ExpressionSurroundings, form_at}
+use Rattle.naga_info.specs.declared.expression_error.ExpressionError.{ExpressionError}
+use Rattle.naga_info.specs.declared.expression_error.ExpressionError.TheVariants.{InvalidBinaryOperandTypes}
 use Rattle.naga_operator_exprs.specs.Binary.{IsBinaryReturned, accepted, forbidden_constant, forbidden_on_right, misfit, operands_fit, refusal_of}
 use Rattle.naga_operator_exprs.specs.Integers.{HasForbidden}
 use Rattle.naga_operator_exprs.specs.declared.integers.Forbidden.{Forbidden}

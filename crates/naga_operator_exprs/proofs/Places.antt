@@ -13,7 +13,7 @@ use Rattle.naga_ir.specs.declared.ir.Function.{Function}
 use Rattle.naga_ir.specs.declared.ir.Module.{Module}
 use Rattle.naga_ir.specs.declared.reference.Reference.{Reference}
 use Rattle.naga_ir.specs.declared.reference.Reference.TheVariants as to
-use Rattle.naga_operands.specs.Surroundings.{AreSound, ExpressionSurroundings}
+use Rattle.naga_info.specs.Surroundings.{AreSound, ExpressionSurroundings}
 use Rattle.naga_operator_exprs.specs.Integers.{beside, expression_at}
 use Rattle.naga_operator_exprs.specs.declared.integers.Place.{Place}
 use Rattle.naga_operator_exprs.specs.declared.integers.Place.TheVariants.{InFunction, InModule}

@@ -4,8 +4,8 @@ use Rattle.naga_ir.specs.References.{operands}
 use Rattle.naga_ir.specs.declared.expression.Expression.{Expression}
 use Rattle.naga_ir.specs.declared.expression.Expression.TheVariants as form
 use Rattle.naga_ir.specs.declared.ir.Constant.{Constant}
-use Rattle.naga_ir_types.specs.declared.types.VectorSize.{VectorSize}
-use Rattle.naga_operands.specs.Surroundings.{AreSound, ExpressionSurroundings}
+use Rattle.naga_ir.specs.declared.types.VectorSize.{VectorSize}
+use Rattle.naga_info.specs.Surroundings.{AreSound, ExpressionSurroundings}
 use Rattle.naga_operator_exprs.proofs.Places.{initialiser_before, initialiser_there, operand_before, operand_exists}
 use Rattle.naga_operator_exprs.specs.Integers.{HasInteger, IsOwnInteger, beside, component, expression_at, initialiser, itself, literal_value, splatted, zero_value}
 use Rattle.naga_operator_exprs.specs.declared.integers.Place.{Place}

@@ -1,15 +1,15 @@
 -- The rule of `a * b + c` of cooperative matrices.
 use Rattle.std.specs.Prelude.{ℕ, Bool as Truth, false, [], ◌∷◌, Option, Result}
 use Rattle.naga_flags.specs.declared.flags.ShaderStages.{ShaderStages}
-use Rattle.naga_ir_types.specs.contracts.types.CooperativeRolePartialEq.TheImpl as of_role
-use Rattle.naga_ir_types.specs.declared.types.CooperativeRole.{CooperativeRole}
-use Rattle.naga_ir_types.specs.declared.types.CooperativeRole.TheVariants.{A, B, C}
-use Rattle.naga_ir_types.specs.declared.types.TypeInner.{TypeInner}
-use Rattle.naga_ir_types.specs.declared.types.TypeInner.TheVariants.{Scalar, Vector, Matrix, CooperativeMatrix, Atomic, Pointer, ValuePointer, Array, Struct, Image, Sampler, AccelerationStructure, RayQuery, BindingArray}
-use Rattle.naga_operands.specs.Stages.{compute_stage}
-use Rattle.naga_operands.specs.Surroundings.{ExpressionSurroundings, form_at}
-use Rattle.naga_operands.specs.declared.error.ExpressionError.{ExpressionError}
-use Rattle.naga_operands.specs.declared.error.ExpressionError.TheVariants.{InvalidCooperativeOperand}
+use Rattle.naga_ir.specs.contracts.types.CooperativeRolePartialEq.TheImpl as of_role
+use Rattle.naga_ir.specs.declared.types.CooperativeRole.{CooperativeRole}
+use Rattle.naga_ir.specs.declared.types.CooperativeRole.TheVariants.{A, B, C}
+use Rattle.naga_ir.specs.declared.types.TypeInner.{TypeInner}
+use Rattle.naga_ir.specs.declared.types.TypeInner.TheVariants.{Scalar, Vector, Matrix, CooperativeMatrix, Atomic, Pointer, ValuePointer, Array, Struct, Image, Sampler, AccelerationStructure, RayQuery, BindingArray}
+use Rattle.naga_info.specs.Stages.{compute_stage}
+use Rattle.naga_info.specs.Surroundings.{ExpressionSurroundings, form_at}
+use Rattle.naga_info.specs.declared.expression_error.ExpressionError.{ExpressionError}
+use Rattle.naga_info.specs.declared.expression_error.ExpressionError.TheVariants.{InvalidCooperativeOperand}
 use Rattle.naga_types.specs.Judging.{judged, unless}
 
 -- a form is a cooperative matrix of a role

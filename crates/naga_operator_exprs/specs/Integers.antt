@@ -5,9 +5,9 @@ use Rattle.naga_ir.specs.declared.expression.Expression.TheVariants as form
 use Rattle.naga_ir.specs.declared.expression.Literal.{Literal}
 use Rattle.naga_ir.specs.declared.expression.Literal.TheVariants as literal
 use Rattle.naga_ir.specs.declared.ir.Constant.{Constant}
-use Rattle.naga_ir_types.specs.declared.types.VectorSize.{VectorSize}
-use Rattle.naga_operands.specs.Surroundings.{ExpressionSurroundings, form_in}
-use Rattle.naga_operands.specs.Words.{consists_of}
+use Rattle.naga_ir.specs.declared.types.VectorSize.{VectorSize}
+use Rattle.naga_info.specs.Surroundings.{ExpressionSurroundings, form_in}
+use Rattle.naga_info.specs.Words.{consists_of}
 use Rattle.naga_operator_exprs.specs.declared.integers.Forbidden.{Forbidden}
 use Rattle.naga_operator_exprs.specs.declared.integers.Forbidden.TheVariants.{AtLeast, Zero}
 use Rattle.naga_operator_exprs.specs.declared.integers.Place.{Place}

@@ -6,19 +6,19 @@ use Rattle.naga_ir.specs.declared.expression.RelationalFunction.{RelationalFunct
 use Rattle.naga_ir.specs.declared.expression.RelationalFunction.TheVariants.{All, Any, IsNan, IsInf}
 use Rattle.naga_ir.specs.declared.expression.UnaryOperator.{UnaryOperator}
 use Rattle.naga_ir.specs.declared.expression.UnaryOperator.TheVariants.{Negate, LogicalNot, BitwiseNot}
-use Rattle.naga_ir_types.specs.TypeWords.{vector_size_and_scalar}
-use Rattle.naga_ir_types.specs.contracts.types.VectorSizePartialEq.TheImpl as of_size
-use Rattle.naga_ir_types.specs.declared.types.Scalar.{Scalar as ScalarType}
-use Rattle.naga_ir_types.specs.declared.types.ScalarKind.{ScalarKind}
-use Rattle.naga_ir_types.specs.declared.types.ScalarKind.TheVariants.{Sint, Uint, Float, Bool, AbstractInt, AbstractFloat}
-use Rattle.naga_ir_types.specs.declared.types.TypeInner.{TypeInner}
-use Rattle.naga_ir_types.specs.declared.types.TypeInner.TheVariants.{Scalar, Vector, Matrix, CooperativeMatrix, Atomic, Pointer, ValuePointer, Array, Struct, Image, Sampler, AccelerationStructure, RayQuery, BindingArray}
-use Rattle.naga_ir_types.specs.declared.types.VectorSize.{VectorSize}
-use Rattle.naga_operands.specs.Stages.{every_stage, fragment_stage}
-use Rattle.naga_operands.specs.Surroundings.{ExpressionSurroundings, form_at}
-use Rattle.naga_operands.specs.Words.{are_equal, consists_of, is_bool}
-use Rattle.naga_operands.specs.declared.error.ExpressionError.{ExpressionError}
-use Rattle.naga_operands.specs.declared.error.ExpressionError.TheVariants as refusal
+use Rattle.naga_ir.specs.TypeWords.{vector_size_and_scalar}
+use Rattle.naga_ir.specs.contracts.types.VectorSizePartialEq.TheImpl as of_size
+use Rattle.naga_ir.specs.declared.types.Scalar.{Scalar as ScalarType}
+use Rattle.naga_ir.specs.declared.types.ScalarKind.{ScalarKind}
+use Rattle.naga_ir.specs.declared.types.ScalarKind.TheVariants.{Sint, Uint, Float, Bool, AbstractInt, AbstractFloat}
+use Rattle.naga_ir.specs.declared.types.TypeInner.{TypeInner}
+use Rattle.naga_ir.specs.declared.types.TypeInner.TheVariants.{Scalar, Vector, Matrix, CooperativeMatrix, Atomic, Pointer, ValuePointer, Array, Struct, Image, Sampler, AccelerationStructure, RayQuery, BindingArray}
+use Rattle.naga_ir.specs.declared.types.VectorSize.{VectorSize}
+use Rattle.naga_info.specs.Stages.{every_stage, fragment_stage}
+use Rattle.naga_info.specs.Surroundings.{ExpressionSurroundings, form_at}
+use Rattle.naga_info.specs.Words.{are_equal, consists_of, is_bool}
+use Rattle.naga_info.specs.declared.expression_error.ExpressionError.{ExpressionError}
+use Rattle.naga_info.specs.declared.expression_error.ExpressionError.TheVariants as refusal
 use Rattle.naga_types.specs.Judging.{granted, judged, unless}
 use Rattle.naga_types.specs.TypeRule.{is_float, is_integer}
 

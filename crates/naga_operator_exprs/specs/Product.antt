@@ -1,12 +1,12 @@
 -- Which types multiply.
 use Rattle.std.specs.Prelude.{◌==◌, ◌&&◌, ◌||◌, ℕ, Bool as Truth, true, false, Option, Some, None}
-use Rattle.naga_ir_types.specs.Sizes.{components}
-use Rattle.naga_ir_types.specs.TypeWords.{scalar_of}
-use Rattle.naga_ir_types.specs.contracts.types.ScalarPartialEq.TheImpl as of_scalar
-use Rattle.naga_ir_types.specs.declared.types.Scalar.{Scalar as ScalarType}
-use Rattle.naga_ir_types.specs.declared.types.TypeInner.{TypeInner}
-use Rattle.naga_ir_types.specs.declared.types.TypeInner.TheVariants.{Scalar, Vector, Matrix, CooperativeMatrix, Atomic, Pointer, ValuePointer, Array, Struct, Image, Sampler, AccelerationStructure, RayQuery, BindingArray}
-use Rattle.naga_operands.specs.Words.{is_number}
+use Rattle.naga_ir.specs.Sizes.{components}
+use Rattle.naga_ir.specs.TypeWords.{scalar_of}
+use Rattle.naga_ir.specs.contracts.types.ScalarPartialEq.TheImpl as of_scalar
+use Rattle.naga_ir.specs.declared.types.Scalar.{Scalar as ScalarType}
+use Rattle.naga_ir.specs.declared.types.TypeInner.{TypeInner}
+use Rattle.naga_ir.specs.declared.types.TypeInner.TheVariants.{Scalar, Vector, Matrix, CooperativeMatrix, Atomic, Pointer, ValuePointer, Array, Struct, Image, Sampler, AccelerationStructure, RayQuery, BindingArray}
+use Rattle.naga_info.specs.Words.{is_number}
 use Rattle.naga_types.specs.Composing.{is_vector_of}
 use Rattle.naga_types.specs.Judging.{only_if}
 use Rattle.naga_types.specs.TypeRule.{is_float}

@@ -1,24 +1,24 @@
 //! The rule of operators on two values.
 
 ghost use Rattle.std.specs.Prelude.{◌≡◌, ◌<◌, Err, length};
-ghost use Rattle.naga_operands.specs.Results.{IsReturned};
-ghost use Rattle.naga_operands.specs.Surroundings.{AreSound, surroundings};
-ghost use Rattle.naga_ir_types.specs.TypeWords.{vector_size_and_scalar};
-ghost use Rattle.naga_operands.specs.Words.{consists_of, is_bool, is_number};
-ghost use Rattle.naga_operands.specs.declared.error.ExpressionError.TheVariants as refusal;
+ghost use Rattle.naga_info.specs.Results.{IsReturned};
+ghost use Rattle.naga_info.specs.Surroundings.{AreSound, surroundings};
+ghost use Rattle.naga_ir.specs.TypeWords.{vector_size_and_scalar};
+ghost use Rattle.naga_info.specs.Words.{consists_of, is_bool, is_number};
+ghost use Rattle.naga_info.specs.declared.expression_error.ExpressionError.TheVariants as refusal;
 ghost use Rattle.naga_operator_exprs.specs.Binary as rule;
 ghost use Rattle.naga_types.specs.TypeRule.{is_integer};
 
 use crate::integers::{Forbidden, Place, has_forbidden};
 use crate::product::can_multiply;
 use naga_flags::flags::ShaderStages;
+use naga_info::context::{FunctionContext, every_stage};
+use naga_info::expression_error::ExpressionError;
+use naga_info::type_methods::{is_integer, is_number};
 use naga_ir::expression::BinaryOperator;
 use naga_ir::handle::Handle;
 use naga_ir::tags::ExpressionTag;
 use naga_ir::types::{Scalar, ScalarKind, TypeInner};
-use naga_operands::context::{FunctionContext, every_stage};
-use naga_operands::error::ExpressionError;
-use naga_operands::type_methods::{is_integer, is_number};
 use naga_types::type_methods::is_sized;
 
 /// Whether a type is a scalar that is a number with a width of its own, or a vector of such.

@@ -1,15 +1,15 @@
 //! The rule of `a * b + c` of cooperative matrices.
 
 ghost use Rattle.std.specs.Prelude.{◌≡◌, ◌<◌, length};
-ghost use Rattle.naga_operands.specs.Surroundings.{AreSound, surroundings};
+ghost use Rattle.naga_info.specs.Surroundings.{AreSound, surroundings};
 ghost use Rattle.naga_operator_exprs.specs.Cooperative as rule;
 
 use naga_flags::flags::ShaderStages;
+use naga_info::context::FunctionContext;
+use naga_info::expression_error::ExpressionError;
 use naga_ir::handle::Handle;
 use naga_ir::tags::ExpressionTag;
 use naga_ir::types::{CooperativeRole, TypeInner};
-use naga_operands::context::FunctionContext;
-use naga_operands::error::ExpressionError;
 
 /// Whether a type is that of cooperative matrices of a role.
 fn has_role(inner: &TypeInner, wanted: CooperativeRole) -> bool

@@ -2,16 +2,16 @@
 
 ghost use Rattle.std.specs.Prelude.{◌≡◌, ◌↔◌, ◌<◌, IfNone, IfSome, IsTrue, length, pos};
 ghost use Rattle.naga_ir.specs.References.{named_type};
-ghost use Rattle.naga_operands.specs.Surroundings.{AreSound, surroundings};
+ghost use Rattle.naga_info.specs.Surroundings.{AreSound, surroundings};
 ghost use Rattle.naga_operator_exprs.specs.Integers as spec;
 ghost use Rattle.naga_operator_exprs.specs.Integers.{HasForbidden, expression_at};
 ghost use Rattle.naga_operator_exprs.specs.steps.Places.{AreComponents, HasNoSourceAt, IsSource, IsSourceOrItself, OwnForbidden, PlaceExists, is_forbidden_found};
 
+use naga_info::context::FunctionContext;
+use naga_info::type_methods::is_integer;
 use naga_ir::expression::{Expression, Literal};
 use naga_ir::handle::Handle;
 use naga_ir::tags::{ExpressionTag, TypeTag};
-use naga_operands::context::FunctionContext;
-use naga_operands::type_methods::is_integer;
 
 /// What a constant on the right of an operator must not be.
 #[derive(Clone, Copy, Debug, PartialEq, Eq)]

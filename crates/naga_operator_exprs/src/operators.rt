@@ -1,19 +1,19 @@
 //! The rules of operators on one value, of selections, derivatives, queries and conversions.
 
 ghost use Rattle.std.specs.Prelude.{◌≡◌, ◌<◌, length};
-ghost use Rattle.naga_operands.specs.Results.{IsReturned};
-ghost use Rattle.naga_operands.specs.Surroundings.{AreSound, surroundings};
+ghost use Rattle.naga_info.specs.Results.{IsReturned};
+ghost use Rattle.naga_info.specs.Surroundings.{AreSound, surroundings};
 ghost use Rattle.naga_operator_exprs.specs.Operators as rule;
 ghost use Rattle.naga_types.specs.Judging.{granted};
 
 use naga_flags::flags::ShaderStages;
 use naga_flags::width::check_width;
+use naga_info::context::{FunctionContext, every_stage};
+use naga_info::expression_error::ExpressionError;
 use naga_ir::expression::{RelationalFunction, UnaryOperator};
 use naga_ir::handle::Handle;
 use naga_ir::tags::ExpressionTag;
 use naga_ir::types::{Scalar, ScalarKind, TypeInner, VectorSize};
-use naga_operands::context::{FunctionContext, every_stage};
-use naga_operands::error::ExpressionError;
 
 /// Whether an operator on one value takes values of a kind.
 fn takes(op: UnaryOperator, kind: ScalarKind) -> bool

@@ -1,15 +1,15 @@
 //! Which types multiply.
 
 ghost use Rattle.std.specs.Prelude.{◌≡◌, ◌||◌};
-ghost use Rattle.naga_ir_types.specs.declared.types.CooperativeRole.{CooperativeRole};
-ghost use Rattle.naga_ir_types.specs.declared.types.CooperativeSize.{CooperativeSize};
-ghost use Rattle.naga_ir_types.specs.declared.types.Scalar.{Scalar};
-ghost use Rattle.naga_ir_types.specs.declared.types.TypeInner.TheVariants as form;
-ghost use Rattle.naga_ir_types.specs.declared.types.VectorSize.{VectorSize};
+ghost use Rattle.naga_ir.specs.declared.types.CooperativeRole.{CooperativeRole};
+ghost use Rattle.naga_ir.specs.declared.types.CooperativeSize.{CooperativeSize};
+ghost use Rattle.naga_ir.specs.declared.types.Scalar.{Scalar};
+ghost use Rattle.naga_ir.specs.declared.types.TypeInner.TheVariants as form;
+ghost use Rattle.naga_ir.specs.declared.types.VectorSize.{VectorSize};
 ghost use Rattle.naga_operator_exprs.specs.Product as rule;
 
+use naga_info::type_methods::is_number;
 use naga_ir::types::{Scalar, ScalarKind, TypeInner, VectorSize};
-use naga_operands::type_methods::is_number;
 
 /// Whether a scalar on the left and a form on the right multiply, widths aside.
 fn scalar_times(scalar: Scalar, right: &TypeInner) -> bool

@@ -2,7 +2,7 @@
 use Rattle.std.proofs.Common.{◌≤◌, ◌∙◌, length, ap}
 use Rattle.std.specs.Prelude.{Err, IfOk, List, Ok, Result}
 use Rattle.naga_arena.specs.Memory.{UnlessOutOfMemory}
-use Rattle.naga_infos.specs.ModuleInfo.{ModuleInfoLists}
+use Rattle.naga_info.specs.ModuleInfo.{ModuleInfoLists}
 use Rattle.naga_ir.proofs.Handles.{global_references_ok}
 use Rattle.naga_ir.specs.Handles.{HandlesAccepted}
 use Rattle.naga_ir.specs.declared.ir.Module.{Module}

@@ -4,7 +4,7 @@ use Rattle.std.specs.List.{flat_map}
 use Rattle.std.proofs.lemmas.List.Elements.{All-contains, All-nil}
 use Rattle.std.proofs.lemmas.Option.{slice_get_within}
 use Rattle.naga_arena.proofs.Elements.{all-of}
-use Rattle.naga_infos.specs.ModuleInfo.{ModuleInfoLists}
+use Rattle.naga_info.specs.ModuleInfo.{ModuleInfoLists}
 use Rattle.naga_ir.proofs.ReferencesOfItems.{within_all}
 use Rattle.naga_ir.specs.Handles.{Exists, ExpressionReferencesOk, function_counts, own_operand}
 use Rattle.naga_ir.specs.ItemReferences.{expression_references, global_lists}
@@ -14,7 +14,7 @@ use Rattle.naga_ir.specs.declared.expression.Expression.TheVariants as form
 use Rattle.naga_ir.specs.declared.ir.Function.{Function}
 use Rattle.naga_ir.specs.declared.ir.Module.{Module}
 use Rattle.naga_ir.specs.declared.reference.Reference.{Reference}
-use Rattle.naga_operands.specs.Surroundings.{AreSound, CanJudge, ExpressionSurroundings}
+use Rattle.naga_info.specs.Surroundings.{AreSound, CanJudge, ExpressionSurroundings}
 use Rattle.naga_query.specs.Accepted.{CanValidateIn, IsKnownBefore, IsThereOrArgument}
 use Rattle.naga_typing.proofs.ExpressionTypes.{Typed, next_place}
 use Rattle.naga_typing.proofs.Iteration.{accepts_all, next_item}

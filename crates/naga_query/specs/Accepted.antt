@@ -1,7 +1,7 @@
 -- What is known of modules that are accepted, and when expressions of their functions can be validated.
 use Rattle.std.specs.Prelude.{◌≡◌, ◌⊎◌, ◌<◌, ◌≤◌, ℕ, Bool as Truth, List, [], All, IsOk, Some, length, slice_get}
 use Rattle.naga_immediates.specs.Slots.{IsTyped}
-use Rattle.naga_infos.specs.ModuleInfo.{ModuleInfoLists, ModuleInfoWithRoom}
+use Rattle.naga_info.specs.ModuleInfo.{ModuleInfoLists, ModuleInfoWithRoom}
 use Rattle.naga_ir.specs.Handles.{GlobalReferencesOk, HandlesAccepted}
 use Rattle.naga_ir.specs.ItemReferences.{GlobalLists, global_lists}
 use Rattle.naga_ir.specs.declared.expression.Expression.{Expression}

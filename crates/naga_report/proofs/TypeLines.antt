@@ -3,7 +3,7 @@ use Rattle.std.proofs.Common.{◌≡◌, ℕ, ◌+◌, ◌<◌, List, [], ◌∷
 use Rattle.std.specs.List.{enumerate_from}
 use Rattle.std.proofs.lemmas.Option.{same_Some, slice_get_within}
 use Rattle.naga_arena.proofs.Progress.{slice_get-seam}
-use Rattle.naga_ir_types.specs.declared.types.«Type».{«Type»}
+use Rattle.naga_ir.specs.declared.types.«Type».{«Type»}
 use Rattle.naga_types.specs.declared.info.TypeInfo.{TypeInfo}
 use Rattle.naga_report.specs.Report.{type_line, type_lines}
 

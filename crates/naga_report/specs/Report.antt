@@ -5,8 +5,8 @@ use Rattle.naga_types.specs.declared.error.Disalignment.{Disalignment}
 use Rattle.naga_types.specs.declared.error.Disalignment.TheVariants.{ArrayStride, StructSpan, MemberOffset, MemberOffsetAfterStruct, UnsizedMember, NonHostShareable}
 use Rattle.naga_handles.specs.declared.error.InvalidHandleError.{InvalidHandleError}
 use Rattle.naga_handles.specs.declared.error.InvalidHandleError.TheVariants.{BadHandle, ForwardDependency, BadRange}
-use Rattle.naga_infos.specs.declared.error.ConstExpressionError.{ConstExpressionError}
-use Rattle.naga_infos.specs.declared.error.ConstExpressionError.TheVariants as expression_error
+use Rattle.naga_info.specs.declared.const_expression_error.ConstExpressionError.{ConstExpressionError}
+use Rattle.naga_info.specs.declared.const_expression_error.ConstExpressionError.TheVariants as expression_error
 use Rattle.naga_types.specs.declared.error.TypeError.{TypeError}
 use Rattle.naga_types.specs.declared.error.TypeError.TheVariants.{MissingCapability, InvalidAtomicWidth, InvalidPointerBase, InvalidPointerToUnsized, InvalidData, InvalidArrayBaseType, MatrixElementNotFloat, UnsupportedSpecializedArrayLength, UnsupportedImageType, InvalidArrayStride, InvalidDynamicArray, BindingArrayBaseTypeNotStruct, BindingArrayBaseExternalTextures, MemberOverlap, MemberOutOfBounds, EmptyStruct, InvalidBlendSrc, WidthError, UnresolvedOverride, InvalidArraySize, OutOfMemory as TypeOutOfMemory}
 use Rattle.naga_types.specs.declared.info.TypeInfo.{TypeInfo}

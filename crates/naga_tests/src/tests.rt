@@ -41,7 +41,7 @@ use naga_ir::unique_arena::UniqueArena;
 use naga_text::text::read_text;
 use naga_types::error::TypeError;
 use naga_types::info::{TypeContext, TypeInfo, TypeInfos};
-use naga_types::validate::validate_type;
+use naga_types::type_rule::validate_type;
 use naga_typing::context::to_ctx;
 use naga_typing::layouter::{LayoutErrorInner, Layouter};
 use naga_typing::typifier::TypeResolution;

@@ -5,7 +5,7 @@ use Rattle.std.proofs.lemmas.Option.{get_or_from_slice_get, slice_get-get_or, sl
 use Rattle.std.specs.List.{cons_option}
 use Rattle.naga_arena.proofs.InOrder.{get_stays}
 use Rattle.naga_arena.proofs.Progress.{slice_get-seam}
-use Rattle.naga_ir_types.specs.Distinct.{AllDistinct}
+use Rattle.naga_ir.specs.Distinct.{AllDistinct}
 
 -- an item of a list that grew was there before, or is the one that came
 slice_get_push : {X : Type 0} (xs : List X) (x : X) (i : ℕ) (y : X) → slice_get (xs ++ x ∷ []) i ≡ Some y → (slice_get xs i ≡ Some y) ⊎ ((i ≡ length xs) × (x ≡ y))

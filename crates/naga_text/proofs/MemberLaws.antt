@@ -1,9 +1,9 @@
 -- The reader of a member returns the one member with these pieces.
 use Rattle.std.proofs.Common.{◌≡◌, ℕ, List, [], ◌∷◌, Option, None, Some, refl, subst}
 use Rattle.std.proofs.lemmas.Option.{option_and_then_some, same_Some}
-use Rattle.naga_ir_types.specs.declared.types.Binding.{Binding}
-use Rattle.naga_ir_types.specs.declared.types.Binding.TheVariants.{BuiltIn, Location}
-use Rattle.naga_ir_types.specs.declared.types.StructMember.{StructMember}
+use Rattle.naga_ir.specs.declared.types.Binding.{Binding}
+use Rattle.naga_ir.specs.declared.types.Binding.TheVariants.{BuiltIn, Location}
+use Rattle.naga_ir.specs.declared.types.StructMember.{StructMember}
 use Rattle.naga_text.specs.Words.{handle_of, number_of, pieces_of}
 use Rattle.naga_text.specs.Forms.{Fill, binding_parts, handle, member_part, of_32_bits}
 use Rattle.naga_text.specs.WordForms.{binding_of, member_in, member_of}

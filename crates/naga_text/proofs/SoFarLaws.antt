@@ -11,9 +11,9 @@ use Rattle.naga_ir.specs.declared.expression.Expression.{Expression as Expressio
 use Rattle.naga_ir.specs.declared.ir.Constant.{Constant as ConstantType}
 use Rattle.naga_ir.specs.declared.ir.Module.{Module}
 use Rattle.naga_ir.specs.declared.ir.Override.{Override as OverrideType}
-use Rattle.naga_ir_types.specs.Distinct.{AllDistinct}
-use Rattle.naga_ir_types.specs.declared.types.«Type».{«Type»}
-use Rattle.naga_ir_types.specs.declared.types.TypeInner.{TypeInner}
+use Rattle.naga_ir.specs.Distinct.{AllDistinct}
+use Rattle.naga_ir.specs.declared.types.«Type».{«Type»}
+use Rattle.naga_ir.specs.declared.types.TypeInner.{TypeInner}
 use Rattle.naga_text.specs.Text.{AreConsistent, capabilities_in, comment_in, constant_in, expression_in, first_in, flags_in, module_of, override_in, resolved_in, type_in}
 use Rattle.naga_text.specs.steps.SoFar.{CanAdd, IsAdded, IsNewItem, IsNewType, IsSetOnce, ReadSoFar, so_far}
 use Rattle.naga_text.specs.declared.line.Line.{Line}

@@ -10,14 +10,14 @@ use Rattle.std.specs.Str.{all_ascii_digits}
 use Rattle.std.specs.declared.num.NonZeroU32.{NonZeroU32}
 use borrow.Author.Tests.{eqb-true}
 use Rattle.naga_arena.specs.Numbers.{largest_handle, largest_u32}
-use Rattle.naga_ir_types.proofs.SameInner.{non_zero_same}
-use Rattle.naga_ir_types.specs.Sizes.{components, cooperative_components}
-use Rattle.naga_ir_types.specs.declared.types.ArraySize.{ArraySize}
-use Rattle.naga_ir_types.specs.declared.types.ArraySize.TheVariants.{Constant, Pending, Dynamic}
-use Rattle.naga_ir_types.specs.declared.types.CooperativeSize.{CooperativeSize}
-use Rattle.naga_ir_types.specs.declared.types.CooperativeSize.TheVariants.{Eight, Sixteen}
-use Rattle.naga_ir_types.specs.declared.types.VectorSize.{VectorSize}
-use Rattle.naga_ir_types.specs.declared.types.VectorSize.TheVariants.{Bi, Tri, Quad}
+use Rattle.naga_ir.proofs.SameInner.{non_zero_same}
+use Rattle.naga_ir.specs.Sizes.{components, cooperative_components}
+use Rattle.naga_ir.specs.declared.types.ArraySize.{ArraySize}
+use Rattle.naga_ir.specs.declared.types.ArraySize.TheVariants.{Constant, Pending, Dynamic}
+use Rattle.naga_ir.specs.declared.types.CooperativeSize.{CooperativeSize}
+use Rattle.naga_ir.specs.declared.types.CooperativeSize.TheVariants.{Eight, Sixteen}
+use Rattle.naga_ir.specs.declared.types.VectorSize.{VectorSize}
+use Rattle.naga_ir.specs.declared.types.VectorSize.TheVariants.{Bi, Tri, Quad}
 use Rattle.naga_text.specs.Bytes.{letter_o, minus}
 use Rattle.naga_text.specs.Words.{handle_of, largest_u16, most_digits, number_of, number_up_to, value_after}
 use Rattle.naga_text.specs.Forms.{array_size_part, handle, number, optional, pointed_components}

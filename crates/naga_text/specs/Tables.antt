@@ -4,16 +4,16 @@ use Rattle.naga_ir.specs.declared.expression.BinaryOperator.{BinaryOperator}
 use Rattle.naga_ir.specs.declared.expression.BinaryOperator.TheVariants as binary
 use Rattle.naga_ir.specs.declared.expression.UnaryOperator.{UnaryOperator}
 use Rattle.naga_ir.specs.declared.expression.UnaryOperator.TheVariants as unary
-use Rattle.naga_ir_types.specs.declared.types.AddressSpace.{AddressSpace}
-use Rattle.naga_ir_types.specs.declared.types.AddressSpace.TheVariants as space
-use Rattle.naga_ir_types.specs.declared.types.CooperativeRole.{CooperativeRole}
-use Rattle.naga_ir_types.specs.declared.types.CooperativeRole.TheVariants as role
-use Rattle.naga_ir_types.specs.declared.types.ImageClass.{ImageClass}
-use Rattle.naga_ir_types.specs.declared.types.ImageClass.TheVariants as class
-use Rattle.naga_ir_types.specs.declared.types.ImageDimension.{ImageDimension}
-use Rattle.naga_ir_types.specs.declared.types.ImageDimension.TheVariants.{D1, D2, D3, Cube}
-use Rattle.naga_ir_types.specs.declared.types.ScalarKind.{ScalarKind}
-use Rattle.naga_ir_types.specs.declared.types.ScalarKind.TheVariants.{Sint, Uint, Float, Bool, AbstractInt, AbstractFloat}
+use Rattle.naga_ir.specs.declared.types.AddressSpace.{AddressSpace}
+use Rattle.naga_ir.specs.declared.types.AddressSpace.TheVariants as space
+use Rattle.naga_ir.specs.declared.types.CooperativeRole.{CooperativeRole}
+use Rattle.naga_ir.specs.declared.types.CooperativeRole.TheVariants as role
+use Rattle.naga_ir.specs.declared.types.ImageClass.{ImageClass}
+use Rattle.naga_ir.specs.declared.types.ImageClass.TheVariants as class
+use Rattle.naga_ir.specs.declared.types.ImageDimension.{ImageDimension}
+use Rattle.naga_ir.specs.declared.types.ImageDimension.TheVariants.{D1, D2, D3, Cube}
+use Rattle.naga_ir.specs.declared.types.ScalarKind.{ScalarKind}
+use Rattle.naga_ir.specs.declared.types.ScalarKind.TheVariants.{Sint, Uint, Float, Bool, AbstractInt, AbstractFloat}
 
 -- the value beside a word in a table, if it is there: that of the first row with the word
 abbrev pub chosen : {A : Type 0} → List (List ℕ × A) → List ℕ → Option A

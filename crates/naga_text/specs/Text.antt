@@ -9,8 +9,8 @@ use Rattle.naga_ir.specs.declared.expression.Expression.{Expression as Expressio
 use Rattle.naga_ir.specs.declared.ir.Constant.{Constant as ConstantType}
 use Rattle.naga_ir.specs.declared.ir.Module.{Module}
 use Rattle.naga_ir.specs.declared.ir.Override.{Override as OverrideType}
-use Rattle.naga_ir_types.specs.Distinct.{AllDistinct}
-use Rattle.naga_ir_types.specs.declared.types.«Type».{«Type»}
+use Rattle.naga_ir.specs.Distinct.{AllDistinct}
+use Rattle.naga_ir.specs.declared.types.«Type».{«Type»}
 use Rattle.naga_text.specs.Bytes.{hash}
 use Rattle.naga_text.specs.Forms.{IsForm}
 use Rattle.naga_text.specs.Words.{words_of}

@@ -4,10 +4,10 @@ use Rattle.std.proofs.lemmas.Option.{same_Some}
 use Rattle.naga_flags.specs.Bits.{SIZED}
 use Rattle.naga_flags.specs.Flags.{has}
 use Rattle.naga_ir.specs.ItemReferences.{GlobalLists}
-use Rattle.naga_ir_types.specs.declared.types.ArraySize.{ArraySize}
-use Rattle.naga_ir_types.specs.declared.types.StructMember.{StructMember}
-use Rattle.naga_ir_types.specs.declared.types.TypeInner.{TypeInner}
-use Rattle.naga_ir_types.specs.declared.types.TypeInner.TheVariants.{Array, Struct}
+use Rattle.naga_ir.specs.declared.types.ArraySize.{ArraySize}
+use Rattle.naga_ir.specs.declared.types.StructMember.{StructMember}
+use Rattle.naga_ir.specs.declared.types.TypeInner.{TypeInner}
+use Rattle.naga_ir.specs.declared.types.TypeInner.TheVariants.{Array, Struct}
 use Rattle.naga_types.specs.HostLayouts.{IsStorageAligned, IsUniformAligned, OfLeafAlignment, uniform_alignment}
 use Rattle.naga_types.specs.Layouts.{Layout, rounded_up}
 use Rattle.naga_types.specs.Surroundings.{info_in}

@@ -4,7 +4,7 @@ use Rattle.std.specs.List.{list_all}
 use Rattle.std.proofs.lemmas.List.Folds.{list_all-map}
 use Rattle.naga_flags.proofs.HasLemmas.{has-intersection}
 use Rattle.naga_flags.specs.Flags.{has}
-use Rattle.naga_ir_types.specs.declared.types.StructMember.{StructMember}
+use Rattle.naga_ir.specs.declared.types.StructMember.{StructMember}
 use Rattle.naga_types.specs.FormFlags.{unshared_flags}
 use Rattle.naga_types.specs.StructRule.{common_flags}
 use Rattle.naga_types.specs.Surroundings.{Surroundings, flags_at}

@@ -7,14 +7,14 @@ use Rattle.std.proofs.lemmas.List.Sums.{sum_by_more}
 use Rattle.std.proofs.lemmas.Option.{get_or_from_slice_get, same_Some, slice_get-get_or, slice_get-map, slice_get_within}
 use Rattle.naga_arena.proofs.Elements.{all_at}
 use Rattle.naga_arena.specs.Numbers.{largest_u32}
-use Rattle.naga_ir_types.proofs.PartLemmas.{base_is, members_are}
-use Rattle.naga_ir_types.specs.Sizes.{components}
-use Rattle.naga_ir_types.specs.declared.types.«Type».{«Type»}
-use Rattle.naga_ir_types.specs.declared.types.ArraySize.{ArraySize}
-use Rattle.naga_ir_types.specs.declared.types.StructMember.{StructMember}
-use Rattle.naga_ir_types.specs.declared.types.TypeInner.TheVariants.{Array, Struct}
-use Rattle.naga_ir_types.specs.declared.types.VectorSize.{VectorSize}
-use Rattle.naga_ir_types.specs.declared.types.VectorSize.TheVariants.{Bi, Tri, Quad}
+use Rattle.naga_ir.proofs.PartLemmas.{base_is, members_are}
+use Rattle.naga_ir.specs.Sizes.{components}
+use Rattle.naga_ir.specs.declared.types.«Type».{«Type»}
+use Rattle.naga_ir.specs.declared.types.ArraySize.{ArraySize}
+use Rattle.naga_ir.specs.declared.types.StructMember.{StructMember}
+use Rattle.naga_ir.specs.declared.types.TypeInner.TheVariants.{Array, Struct}
+use Rattle.naga_ir.specs.declared.types.VectorSize.{VectorSize}
+use Rattle.naga_ir.specs.declared.types.VectorSize.TheVariants.{Bi, Tri, Quad}
 use Rattle.naga_types.proofs.FirstLemmas.{passed, refused}
 use Rattle.naga_types.specs.Composing.{all_parts, first_misfit, misfit, miscount, parts_in, resolution_in, resolutions_at}
 use Rattle.naga_types.specs.Judging.{first, unless}

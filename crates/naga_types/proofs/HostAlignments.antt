@@ -2,10 +2,10 @@
 use Rattle.std.proofs.Common.{◌≡◌, ◌<◌, ℕ, zero, suc, true, Contains, Some, get_or, length, refl, sym, subst, ap, ◌∙◌, arith}
 use Rattle.naga_flags.specs.Flags.{has}
 use Rattle.naga_ir.specs.ItemReferences.{GlobalLists}
-use Rattle.naga_ir_types.proofs.PartLemmas.{base_is, members_are}
-use Rattle.naga_ir_types.specs.Parts.{parts}
-use Rattle.naga_ir_types.specs.declared.types.TypeInner.{TypeInner}
-use Rattle.naga_ir_types.specs.declared.types.TypeInner.TheVariants as form
+use Rattle.naga_ir.proofs.PartLemmas.{base_is, members_are}
+use Rattle.naga_ir.specs.Parts.{parts}
+use Rattle.naga_ir.specs.declared.types.TypeInner.{TypeInner}
+use Rattle.naga_ir.specs.declared.types.TypeInner.TheVariants as form
 use Rattle.naga_types.proofs.JudgedTypes.{JudgedTypes, alignment_is, alignment_of_type, info_of, known, known_is, own_form, parts_before}
 use Rattle.naga_types.proofs.HostForms.{HostForm, host-form, leaf, array, struct, struct-has_members}
 use Rattle.naga_types.specs.HostLayouts.{IsForHosts, data_for_hosts}

@@ -4,12 +4,12 @@ use Rattle.std.specs.Prelude.{◌==◌, not}
 use Rattle.std.proofs.lemmas.Bool.{not-true, eqb-false}
 use Rattle.naga_flags.specs.Bits.{ARGUMENT, COPY, CREATION_RESOLVED, SIZED, union_of}
 use Rattle.naga_flags.specs.Flags.{has}
-use Rattle.naga_ir_types.specs.declared.types.AddressSpace.{AddressSpace}
-use Rattle.naga_ir_types.specs.declared.types.ArraySize.{ArraySize}
-use Rattle.naga_ir_types.specs.declared.types.ArraySize.TheVariants.{Constant, Pending, Dynamic}
-use Rattle.naga_ir_types.specs.declared.types.StructMember.{StructMember}
-use Rattle.naga_ir_types.specs.declared.types.TypeInner.{TypeInner}
-use Rattle.naga_ir_types.specs.declared.types.TypeInner.TheVariants as form
+use Rattle.naga_ir.specs.declared.types.AddressSpace.{AddressSpace}
+use Rattle.naga_ir.specs.declared.types.ArraySize.{ArraySize}
+use Rattle.naga_ir.specs.declared.types.ArraySize.TheVariants.{Constant, Pending, Dynamic}
+use Rattle.naga_ir.specs.declared.types.StructMember.{StructMember}
+use Rattle.naga_ir.specs.declared.types.TypeInner.{TypeInner}
+use Rattle.naga_ir.specs.declared.types.TypeInner.TheVariants as form
 use Rattle.naga_typing.specs.Layout.{alignment_at}
 use Rattle.naga_typing.specs.Leaves.{is_leaf}
 use Rattle.naga_types.proofs.KeptConditions.{granted-none, granted-value, neither, unless-kept}

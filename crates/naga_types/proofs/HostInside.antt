@@ -2,9 +2,9 @@
 use Rattle.std.proofs.Common.{◌≡◌, ◌<◌, ℕ, true, List, Some, Contains, length, refl, sym, ap, ◌∙◌, arith}
 use Rattle.naga_arena.proofs.Elements.{all_at}
 use Rattle.naga_flags.specs.Flags.{has}
-use Rattle.naga_ir_types.specs.declared.types.ArraySize.{ArraySize}
-use Rattle.naga_ir_types.specs.declared.types.StructMember.{StructMember}
-use Rattle.naga_ir_types.specs.declared.types.TypeInner.TheVariants.{Array, Struct}
+use Rattle.naga_ir.specs.declared.types.ArraySize.{ArraySize}
+use Rattle.naga_ir.specs.declared.types.StructMember.{StructMember}
+use Rattle.naga_ir.specs.declared.types.TypeInner.TheVariants.{Array, Struct}
 use Rattle.naga_types.proofs.JudgedTypes.{Judged, JudgedTypes, alignment_of_type, array_has, base_before, info_of, known, known_is, member_before, rule_is}
 use Rattle.naga_types.proofs.HostAlignments.{leaf-alignment}
 use Rattle.naga_types.proofs.HostForms.{struct_info}

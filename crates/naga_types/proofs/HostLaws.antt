@@ -6,8 +6,8 @@ use Rattle.naga_flags.specs.Flags.{has}
 use Rattle.naga_flags.specs.declared.flags.Capabilities.{Capabilities}
 use Rattle.naga_ir.specs.ItemReferences.{GlobalLists, global_lists}
 use Rattle.naga_ir.specs.declared.ir.Module.{Module}
-use Rattle.naga_ir_types.specs.declared.types.StructMember.{StructMember}
-use Rattle.naga_ir_types.specs.declared.types.TypeInner.TheVariants.{Struct}
+use Rattle.naga_ir.specs.declared.types.StructMember.{StructMember}
+use Rattle.naga_ir.specs.declared.types.TypeInner.TheVariants.{Struct}
 use Rattle.naga_types.proofs.HostForms.{struct_info}
 use Rattle.naga_types.proofs.HostInside.{leaf-alignments_inside}
 use Rattle.naga_types.proofs.JudgedTypes.{JudgedTypes, accepted_types, info_of, known, known_is, member_before, rule_is}

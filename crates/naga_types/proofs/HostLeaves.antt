@@ -13,7 +13,7 @@ use Rattle.naga_flags.specs.declared.flags.Capabilities.{Capabilities}
 use Rattle.naga_ir.specs.Handles.{GlobalReferencesOk}
 use Rattle.naga_ir.specs.ItemReferences.{GlobalLists, global_lists}
 use Rattle.naga_ir.specs.declared.ir.Module.{Module}
-use Rattle.naga_ir_types.specs.declared.types.«Type».{«Type»}
+use Rattle.naga_ir.specs.declared.types.«Type».{«Type»}
 use Rattle.naga_types.proofs.HostInside.{IsHostType}
 use Rattle.naga_types.proofs.JudgedTypes.{JudgedTypes, accepted_types, info_of, judged_with_next}
 use Rattle.naga_types.proofs.LeafPlaces.{leaves_aligned, leaves_contained, leaves_disjoint}

@@ -6,7 +6,7 @@ use Rattle.std.proofs.lemmas.Bool.{eq-eqb, eqb-true}
 use Rattle.std.proofs.lemmas.Option.{get_or_from_slice_get, slice_get_within}
 use Rattle.naga_flags.specs.Bits.{HOST_SHAREABLE}
 use Rattle.naga_flags.specs.Flags.{has}
-use Rattle.naga_ir_types.specs.declared.types.StructMember.{StructMember}
+use Rattle.naga_ir.specs.declared.types.StructMember.{StructMember}
 use Rattle.naga_types.proofs.GreatestLemmas.{same_greatest}
 use Rattle.naga_types.proofs.KeptConditions.{first-none, granted-none, granted-value, granted_ok, neither, none-first, unless-kept}
 use Rattle.naga_types.specs.Judging.{first, granted, unless}

@@ -7,8 +7,8 @@ use Rattle.std.proofs.lemmas.Nat.Gcd.{dvd_trans, dvd-zero}
 use Rattle.std.proofs.Math.Nat.{dvd-add}
 use Prim.Native.Nat.{◌∣◌}
 use Rattle.naga_ir.specs.ItemReferences.{GlobalLists}
-use Rattle.naga_ir_types.specs.declared.types.TypeInner.{TypeInner}
-use Rattle.naga_ir_types.specs.declared.types.TypeInner.TheVariants.{Array, Struct}
+use Rattle.naga_ir.specs.declared.types.TypeInner.{TypeInner}
+use Rattle.naga_ir.specs.declared.types.TypeInner.TheVariants.{Array, Struct}
 use Rattle.naga_typing.specs.Layout.{alignment_of, size_of}
 use Rattle.naga_typing.specs.Leaves.{Elements, LeafBytes, Part, ShareNoByte, end_of, inner_at, is_leaf, leaf_at, moved, part_at, whole_leaf}
 

@@ -5,9 +5,9 @@ use Rattle.std.proofs.lemmas.Option.{same_Some}
 use Rattle.naga_flags.specs.declared.flags.Capabilities.{Capabilities}
 use Rattle.naga_ir.specs.ItemReferences.{global_lists}
 use Rattle.naga_ir.specs.declared.ir.Module.{Module}
-use Rattle.naga_ir_types.specs.declared.types.«Type».{«Type»}
-use Rattle.naga_ir_types.specs.declared.types.TypeInner.{TypeInner}
-use Rattle.naga_ir_types.specs.declared.types.TypeInner.TheVariants as form
+use Rattle.naga_ir.specs.declared.types.«Type».{«Type»}
+use Rattle.naga_ir.specs.declared.types.TypeInner.{TypeInner}
+use Rattle.naga_ir.specs.declared.types.TypeInner.TheVariants as form
 use Rattle.naga_types.specs.AcceptedTypes.{AreTypesAccepted, judged_by, types_rule}
 use Rattle.naga_types.specs.Judging.{judged}
 use Rattle.naga_types.specs.TypeRule.{type_rule}

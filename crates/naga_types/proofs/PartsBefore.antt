@@ -3,12 +3,12 @@ use Rattle.std.proofs.Common.{◌≡◌, ◌<◌, ℕ, Some, Contains, slice_get
 use Rattle.naga_ir.proofs.ReferencesOfItems.{parts_come_before}
 use Rattle.naga_ir.specs.Handles.{GlobalReferencesOk}
 use Rattle.naga_ir.specs.ItemReferences.{GlobalLists}
-use Rattle.naga_ir_types.proofs.PartLemmas.{parts_of_binding_array, parts_of_pointer}
-use Rattle.naga_ir_types.specs.Parts.{parts}
-use Rattle.naga_ir_types.specs.declared.types.«Type».{«Type»}
-use Rattle.naga_ir_types.specs.declared.types.AddressSpace.{AddressSpace}
-use Rattle.naga_ir_types.specs.declared.types.ArraySize.{ArraySize}
-use Rattle.naga_ir_types.specs.declared.types.TypeInner.TheVariants.{BindingArray, Pointer}
+use Rattle.naga_ir.proofs.PartLemmas.{parts_of_binding_array, parts_of_pointer}
+use Rattle.naga_ir.specs.Parts.{parts}
+use Rattle.naga_ir.specs.declared.types.«Type».{«Type»}
+use Rattle.naga_ir.specs.declared.types.AddressSpace.{AddressSpace}
+use Rattle.naga_ir.specs.declared.types.ArraySize.{ArraySize}
+use Rattle.naga_ir.specs.declared.types.TypeInner.TheVariants.{BindingArray, Pointer}
 
 module _ (g : GlobalLists) (ok : GlobalReferencesOk g) (t : ℕ) (ty : «Type») (at : slice_get g.types t ≡ Some ty) where
   pub before : (p : ℕ) → Contains (parts ty.inner) p → p < t

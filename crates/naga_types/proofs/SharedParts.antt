@@ -13,11 +13,11 @@ use Rattle.naga_flags.proofs.HasLemmas.{has-trans}
 use Rattle.naga_flags.specs.Bits.{HOST_SHAREABLE, SIZED}
 use Rattle.naga_flags.specs.Flags.{has}
 use Rattle.naga_ir.specs.ItemReferences.{GlobalLists}
-use Rattle.naga_ir_types.specs.declared.types.ArraySize.{ArraySize}
-use Rattle.naga_ir_types.specs.declared.types.ArraySize.TheVariants.{Constant, Pending, Dynamic}
-use Rattle.naga_ir_types.specs.declared.types.StructMember.{StructMember}
-use Rattle.naga_ir_types.specs.declared.types.TypeInner.{TypeInner}
-use Rattle.naga_ir_types.specs.declared.types.TypeInner.TheVariants.{Array, Struct}
+use Rattle.naga_ir.specs.declared.types.ArraySize.{ArraySize}
+use Rattle.naga_ir.specs.declared.types.ArraySize.TheVariants.{Constant, Pending, Dynamic}
+use Rattle.naga_ir.specs.declared.types.StructMember.{StructMember}
+use Rattle.naga_ir.specs.declared.types.TypeInner.{TypeInner}
+use Rattle.naga_ir.specs.declared.types.TypeInner.TheVariants.{Array, Struct}
 use Rattle.naga_types.proofs.GreatestLemmas.{at_most_greatest}
 use Rattle.naga_types.proofs.HostAlignments.{leaf-alignment}
 use Rattle.naga_types.proofs.HostInside.{IsHostType, inside}

@@ -7,7 +7,7 @@ use Rattle.std.proofs.lemmas.List.{take_more}
 use Rattle.std.proofs.lemmas.List.Elements.{All-tail}
 use Rattle.naga_flags.specs.Bits.{DUAL_SOURCE_BLENDING}
 use Rattle.naga_flags.specs.Flags.{has}
-use Rattle.naga_ir_types.specs.declared.types.StructMember.{StructMember}
+use Rattle.naga_ir.specs.declared.types.StructMember.{StructMember}
 use Rattle.naga_types.specs.Judging.{first, only_if, unless}
 use Rattle.naga_types.specs.StructRule.{has_source, source_conditions, source_of, source_type, type_of_source}
 use Rattle.naga_types.specs.steps.Structs.{is_noted, sources_of, with_member}

@@ -7,7 +7,7 @@ use Rattle.std.proofs.lemmas.Nat.{and_or_apart}
 use Rattle.naga_flags.proofs.HasLemmas.{has-bit_and}
 use Rattle.naga_flags.specs.Bits.{HOST_SHAREABLE, IO_SHAREABLE, all_type_flags}
 use Rattle.naga_flags.specs.Flags.{has}
-use Rattle.naga_ir_types.specs.declared.types.StructMember.{StructMember}
+use Rattle.naga_ir.specs.declared.types.StructMember.{StructMember}
 use Rattle.naga_types.proofs.CommonFlags.{has-common_flags}
 use Rattle.naga_types.proofs.KeptConditions.{all-pass}
 use Rattle.naga_types.specs.FormFlags.{unshared_flags}

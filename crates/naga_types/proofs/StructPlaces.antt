@@ -9,7 +9,7 @@ use Rattle.naga_arena.proofs.InOrder.{found_at}
 use Rattle.naga_flags.proofs.HasLemmas.{has-bit_and}
 use Rattle.naga_flags.specs.Bits.{HOST_SHAREABLE, SIZED, all_type_flags}
 use Rattle.naga_flags.specs.Flags.{has}
-use Rattle.naga_ir_types.specs.declared.types.StructMember.{StructMember}
+use Rattle.naga_ir.specs.declared.types.StructMember.{StructMember}
 use Rattle.naga_types.proofs.HostForms.{struct_info}
 use Rattle.naga_types.proofs.KeptConditions.{granted_ok, none-first, none_stands, unless-kept}
 use Rattle.naga_types.proofs.StructFlags.{has-struct_flags, without_sources}

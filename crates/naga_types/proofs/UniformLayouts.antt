@@ -6,11 +6,11 @@ use Rattle.naga_flags.specs.Bits.{HOST_SHAREABLE, SIZED}
 use Rattle.naga_flags.specs.Flags.{has}
 use Rattle.naga_flags.specs.declared.flags.Capabilities.{Capabilities}
 use Rattle.naga_ir.specs.ItemReferences.{GlobalLists}
-use Rattle.naga_ir_types.proofs.PartLemmas.{base_is, members_are}
-use Rattle.naga_ir_types.specs.declared.types.ArraySize.{ArraySize}
-use Rattle.naga_ir_types.specs.declared.types.StructMember.{StructMember}
-use Rattle.naga_ir_types.specs.declared.types.TypeInner.{TypeInner}
-use Rattle.naga_ir_types.specs.declared.types.TypeInner.TheVariants as form
+use Rattle.naga_ir.proofs.PartLemmas.{base_is, members_are}
+use Rattle.naga_ir.specs.declared.types.ArraySize.{ArraySize}
+use Rattle.naga_ir.specs.declared.types.StructMember.{StructMember}
+use Rattle.naga_ir.specs.declared.types.TypeInner.{TypeInner}
+use Rattle.naga_ir.specs.declared.types.TypeInner.TheVariants as form
 use Rattle.naga_types.proofs.ByLeaves.{IsExactly, of-leaf_alignment, same-layout, uniform-array, uniform-leaf, uniform-struct}
 use Rattle.naga_types.proofs.HostAlignments.{PartsBefore, leaf-alignment}
 use Rattle.naga_types.proofs.HostForms.{HostForm, host-form, leaf, array, struct, struct_info}

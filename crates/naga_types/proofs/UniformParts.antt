@@ -5,10 +5,10 @@ use Rattle.std.specs.Prelude.{leb}
 use Rattle.std.proofs.lemmas.Bool.{le-leb, leb-true}
 use Rattle.naga_flags.specs.Bits.{SIZED}
 use Rattle.naga_flags.specs.Flags.{has}
-use Rattle.naga_ir_types.specs.declared.types.«Type».{«Type»}
-use Rattle.naga_ir_types.specs.declared.types.StructMember.{StructMember}
-use Rattle.naga_ir_types.specs.declared.types.TypeInner.{TypeInner}
-use Rattle.naga_ir_types.specs.declared.types.TypeInner.TheVariants.{Struct}
+use Rattle.naga_ir.specs.declared.types.«Type».{«Type»}
+use Rattle.naga_ir.specs.declared.types.StructMember.{StructMember}
+use Rattle.naga_ir.specs.declared.types.TypeInner.{TypeInner}
+use Rattle.naga_ir.specs.declared.types.TypeInner.TheVariants.{Struct}
 use Rattle.naga_types.proofs.KeptConditions.{first-none, granted-none, granted-value, last-none, neither, none-first, none-last, unless-kept}
 use Rattle.naga_types.proofs.LayoutParts.{IsWhole, span-kept, span-whole}
 use Rattle.naga_types.specs.Judging.{first, granted, unless}

@@ -1,8 +1,8 @@
 -- What forms may be used for at most, as the numbers that reports show.
 use Rattle.std.proofs.Common.{◌≡◌, refl}
-use Rattle.naga_ir_types.specs.declared.types.AddressSpace.TheVariants.{Function, Uniform}
-use Rattle.naga_ir_types.specs.declared.types.ArraySize.TheVariants.{Dynamic, Pending}
-use Rattle.naga_ir_types.specs.declared.types.ScalarKind.TheVariants.{Bool, Sint}
+use Rattle.naga_ir.specs.declared.types.AddressSpace.TheVariants.{Function, Uniform}
+use Rattle.naga_ir.specs.declared.types.ArraySize.TheVariants.{Dynamic, Pending}
+use Rattle.naga_ir.specs.declared.types.ScalarKind.TheVariants.{Bool, Sint}
 use Rattle.naga_types.specs.FormFlags.{array_flags, atomic_flags, binding_array_flags, element_flags, member_flags, opaque_flags, pointer_flags, ray_query_flags, scalar_flags, unshared_flags}
 use Rattle.naga_types.specs.HostLayouts.{data_for_hosts}
 use Rattle.naga_types.specs.HostLeaves.{resolved_for_hosts, sized_for_hosts}

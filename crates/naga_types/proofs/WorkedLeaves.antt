@@ -1,13 +1,13 @@
 -- Leaves of small types, and types whose leaves share bytes.
 use Rattle.std.proofs.Common.{◌≡◌, ◌≤◌, ◌+◌, ◌%◌, ⊎_elim, ℕ, [], ◌∷◌, Some, None, refl, arith}
 use Rattle.naga_ir.specs.ItemReferences.{GlobalLists}
-use Rattle.naga_ir_types.specs.declared.types.«Type».{«Type»}
-use Rattle.naga_ir_types.specs.declared.types.ArraySize.TheVariants.{Dynamic}
-use Rattle.naga_ir_types.specs.declared.types.ScalarKind.TheVariants.{Float}
-use Rattle.naga_ir_types.specs.declared.types.StructMember.{StructMember}
-use Rattle.naga_ir_types.specs.declared.types.TypeInner.{TypeInner}
-use Rattle.naga_ir_types.specs.declared.types.TypeInner.TheVariants.{Array, Scalar, Struct, Vector}
-use Rattle.naga_ir_types.specs.declared.types.VectorSize.TheVariants.{Quad}
+use Rattle.naga_ir.specs.declared.types.«Type».{«Type»}
+use Rattle.naga_ir.specs.declared.types.ArraySize.TheVariants.{Dynamic}
+use Rattle.naga_ir.specs.declared.types.ScalarKind.TheVariants.{Float}
+use Rattle.naga_ir.specs.declared.types.StructMember.{StructMember}
+use Rattle.naga_ir.specs.declared.types.TypeInner.{TypeInner}
+use Rattle.naga_ir.specs.declared.types.TypeInner.TheVariants.{Array, Scalar, Struct, Vector}
+use Rattle.naga_ir.specs.declared.types.VectorSize.TheVariants.{Quad}
 use Rattle.naga_types.specs.HostLeaves.{AlignsLeaves}
 use Rattle.naga_typing.specs.Leaves.{AreSeparate, EndsInArray, ShareNoByte, array, elements, leaf_at}
 

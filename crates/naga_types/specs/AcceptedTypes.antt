@@ -5,7 +5,7 @@ use Rattle.naga_flags.specs.declared.flags.Capabilities.{Capabilities}
 use Rattle.naga_ir.specs.Handles.{HandlesAccepted}
 use Rattle.naga_ir.specs.ItemReferences.{GlobalLists, global_lists}
 use Rattle.naga_ir.specs.declared.ir.Module.{Module}
-use Rattle.naga_ir_types.specs.declared.types.«Type».{«Type»}
+use Rattle.naga_ir.specs.declared.types.«Type».{«Type»}
 use Rattle.naga_types.specs.Surroundings.{Surroundings, form_at}
 use Rattle.naga_types.specs.TypeRule.{type_rule}
 use Rattle.naga_types.specs.declared.error.TypeError.{TypeError}

@@ -1,16 +1,16 @@
 -- The rule of composing.
 use Rattle.std.specs.Prelude.{◌==◌, ◌&&◌, ℕ, Bool as Truth, false, List, [], ◌∷◌, Option, Some, None, Result, length, map, slice_get, sum_by}
 use Rattle.std.specs.List.{enumerate_from}
-use Rattle.naga_ir_types.specs.Sizes.{components}
-use Rattle.naga_ir_types.specs.contracts.types.ScalarPartialEq.TheImpl as of_scalar
-use Rattle.naga_ir_types.specs.contracts.types.VectorSizePartialEq.TheImpl as of_size
-use Rattle.naga_ir_types.specs.declared.types.«Type».{«Type»}
-use Rattle.naga_ir_types.specs.declared.types.ArraySize.TheVariants.{Constant, Pending, Dynamic}
-use Rattle.naga_ir_types.specs.declared.types.Scalar.{Scalar as ScalarType}
-use Rattle.naga_ir_types.specs.declared.types.StructMember.{StructMember}
-use Rattle.naga_ir_types.specs.declared.types.TypeInner.{TypeInner}
-use Rattle.naga_ir_types.specs.declared.types.TypeInner.TheVariants.{Scalar, Vector, Matrix, CooperativeMatrix, Atomic, Pointer, ValuePointer, Array, Struct, Image, Sampler, AccelerationStructure, RayQuery, BindingArray}
-use Rattle.naga_ir_types.specs.declared.types.VectorSize.{VectorSize}
+use Rattle.naga_ir.specs.Sizes.{components}
+use Rattle.naga_ir.specs.contracts.types.ScalarPartialEq.TheImpl as of_scalar
+use Rattle.naga_ir.specs.contracts.types.VectorSizePartialEq.TheImpl as of_size
+use Rattle.naga_ir.specs.declared.types.«Type».{«Type»}
+use Rattle.naga_ir.specs.declared.types.ArraySize.TheVariants.{Constant, Pending, Dynamic}
+use Rattle.naga_ir.specs.declared.types.Scalar.{Scalar as ScalarType}
+use Rattle.naga_ir.specs.declared.types.StructMember.{StructMember}
+use Rattle.naga_ir.specs.declared.types.TypeInner.{TypeInner}
+use Rattle.naga_ir.specs.declared.types.TypeInner.TheVariants.{Scalar, Vector, Matrix, CooperativeMatrix, Atomic, Pointer, ValuePointer, Array, Struct, Image, Sampler, AccelerationStructure, RayQuery, BindingArray}
+use Rattle.naga_ir.specs.declared.types.VectorSize.{VectorSize}
 use Rattle.naga_typing.specs.Resolutions.{inner_in}
 use Rattle.naga_typing.specs.Sameness.{are_same}
 use Rattle.naga_typing.specs.declared.typifier.TypeResolution.{TypeResolution}

@@ -1,12 +1,12 @@
 -- What types of each form may be used for at most, and what flags parts of types must have.
 use Rattle.std.specs.Prelude.{ℕ, Bool as Truth, true, false, [], ◌∷◌, if◌then◌else◌}
 use Rattle.naga_flags.specs.Bits.{ARGUMENT, CONSTRUCTIBLE, COPY, CREATION_RESOLVED, DATA, HOST_SHAREABLE, SIZED, all_type_flags, union_of}
-use Rattle.naga_ir_types.specs.Sizes.{is_numeric}
-use Rattle.naga_ir_types.specs.declared.types.AddressSpace.{AddressSpace}
-use Rattle.naga_ir_types.specs.declared.types.AddressSpace.TheVariants.{Function, Private, WorkGroup, Uniform, Storage, Handle, Immediate, TaskPayload, RayPayload, IncomingRayPayload}
-use Rattle.naga_ir_types.specs.declared.types.ArraySize.{ArraySize}
-use Rattle.naga_ir_types.specs.declared.types.ArraySize.TheVariants.{Constant, Pending, Dynamic}
-use Rattle.naga_ir_types.specs.declared.types.ScalarKind.{ScalarKind}
+use Rattle.naga_ir.specs.Sizes.{is_numeric}
+use Rattle.naga_ir.specs.declared.types.AddressSpace.{AddressSpace}
+use Rattle.naga_ir.specs.declared.types.AddressSpace.TheVariants.{Function, Private, WorkGroup, Uniform, Storage, Handle, Immediate, TaskPayload, RayPayload, IncomingRayPayload}
+use Rattle.naga_ir.specs.declared.types.ArraySize.{ArraySize}
+use Rattle.naga_ir.specs.declared.types.ArraySize.TheVariants.{Constant, Pending, Dynamic}
+use Rattle.naga_ir.specs.declared.types.ScalarKind.{ScalarKind}
 
 -- what truth values and their vectors may be used for: everything but to be shared by stages or with hosts
 abbrev pub value_flags : ℕ

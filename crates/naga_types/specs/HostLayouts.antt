@@ -3,10 +3,10 @@ use Rattle.std.specs.Prelude.{◌≡◌, ◌+◌, ◌%◌, ◌≤◌, ◌↔◌,
 use Rattle.naga_flags.specs.Bits.{DATA, HOST_SHAREABLE, IO_SHAREABLE, SIZED, union_of}
 use Rattle.naga_flags.specs.Flags.{has}
 use Rattle.naga_ir.specs.ItemReferences.{GlobalLists}
-use Rattle.naga_ir_types.specs.declared.types.ArraySize.{ArraySize}
-use Rattle.naga_ir_types.specs.declared.types.StructMember.{StructMember}
-use Rattle.naga_ir_types.specs.declared.types.TypeInner.{TypeInner}
-use Rattle.naga_ir_types.specs.declared.types.TypeInner.TheVariants as form
+use Rattle.naga_ir.specs.declared.types.ArraySize.{ArraySize}
+use Rattle.naga_ir.specs.declared.types.StructMember.{StructMember}
+use Rattle.naga_ir.specs.declared.types.TypeInner.{TypeInner}
+use Rattle.naga_ir.specs.declared.types.TypeInner.TheVariants as form
 use Rattle.naga_types.specs.Layouts.{min_uniform, rounded_up}
 use Rattle.naga_types.specs.Surroundings.{info_in}
 use Rattle.naga_types.specs.declared.info.TypeInfo.{TypeInfo}

@@ -6,9 +6,9 @@ use Rattle.std.specs.Result.{result_unwrap_or}
 use Rattle.naga_arena.specs.Numbers.{largest_u32}
 use Rattle.naga_flags.specs.Bits.{HOST_SHAREABLE, SIZED}
 use Rattle.naga_flags.specs.Flags.{has}
-use Rattle.naga_ir_types.specs.declared.types.StructMember.{StructMember}
-use Rattle.naga_ir_types.specs.declared.types.TypeInner.{TypeInner}
-use Rattle.naga_ir_types.specs.declared.types.TypeInner.TheVariants as form
+use Rattle.naga_ir.specs.declared.types.StructMember.{StructMember}
+use Rattle.naga_ir.specs.declared.types.TypeInner.{TypeInner}
+use Rattle.naga_ir.specs.declared.types.TypeInner.TheVariants as form
 use Rattle.naga_typing.specs.Layout.{alignment_at, greatest}
 use Rattle.naga_types.specs.Judging.{first, judged, last, unless}
 use Rattle.naga_types.specs.Surroundings.{Surroundings, flags_at, form_at, info_at}

@@ -5,11 +5,11 @@ use Rattle.std.specs.Result.{result_err}
 use Rattle.naga_flags.specs.Bits.{DUAL_SOURCE_BLENDING, HOST_SHAREABLE, IO_SHAREABLE, SIZED, all_type_flags}
 use Rattle.naga_flags.specs.Flags.{has}
 use Rattle.naga_flags.specs.declared.width.ImmediateError.{ImmediateError}
-use Rattle.naga_ir_types.specs.declared.types.Binding.{Binding}
-use Rattle.naga_ir_types.specs.declared.types.Binding.TheVariants.{BuiltIn, Location}
-use Rattle.naga_ir_types.specs.declared.types.StructMember.{StructMember}
-use Rattle.naga_ir_types.specs.declared.types.TypeInner.{TypeInner}
-use Rattle.naga_ir_types.specs.declared.types.TypeInner.TheVariants as form
+use Rattle.naga_ir.specs.declared.types.Binding.{Binding}
+use Rattle.naga_ir.specs.declared.types.Binding.TheVariants.{BuiltIn, Location}
+use Rattle.naga_ir.specs.declared.types.StructMember.{StructMember}
+use Rattle.naga_ir.specs.declared.types.TypeInner.{TypeInner}
+use Rattle.naga_ir.specs.declared.types.TypeInner.TheVariants as form
 use Rattle.naga_typing.specs.declared.typifier.TypeResolution.TheVariants.{Handle}
 use Rattle.naga_typing.specs.Sameness.{are_same}
 use Rattle.naga_types.specs.FormFlags.{member_flags, unshared_flags}

@@ -1,8 +1,8 @@
 -- What a type is judged by.
 use Rattle.std.specs.Prelude.{ℕ, Bool, List, Option, Some, None, Ok, slice_get}
 use Rattle.naga_ir.specs.ItemReferences.{GlobalLists}
-use Rattle.naga_ir_types.specs.declared.types.«Type».{«Type»}
-use Rattle.naga_ir_types.specs.declared.types.TypeInner.{TypeInner}
+use Rattle.naga_ir.specs.declared.types.«Type».{«Type»}
+use Rattle.naga_ir.specs.declared.types.TypeInner.{TypeInner}
 use Rattle.naga_typing.specs.declared.layouter.TypeLayout.{TypeLayout}
 use Rattle.naga_typing.specs.Context.{lists_of}
 use Rattle.naga_typing.specs.declared.context.GlobalCtx.{GlobalCtx}

@@ -1,13 +1,13 @@
 -- What forms of types are.
 use Rattle.std.specs.Prelude.{Bool, true, false, Option, Some, None}
-use Rattle.naga_ir_types.specs.declared.types.ArraySize.{ArraySize}
-use Rattle.naga_ir_types.specs.declared.types.ArraySize.TheVariants.{Constant, Pending, Dynamic}
-use Rattle.naga_ir_types.specs.declared.types.ImageDimension.{ImageDimension}
-use Rattle.naga_ir_types.specs.declared.types.ImageDimension.TheVariants.{D1, D2, D3}
-use Rattle.naga_ir_types.specs.declared.types.TypeInner.{TypeInner}
-use Rattle.naga_ir_types.specs.declared.types.TypeInner.TheVariants as form
-use Rattle.naga_ir_types.specs.declared.types.VectorSize.{VectorSize}
-use Rattle.naga_ir_types.specs.declared.types.VectorSize.TheVariants.{Bi, Tri, Quad}
+use Rattle.naga_ir.specs.declared.types.ArraySize.{ArraySize}
+use Rattle.naga_ir.specs.declared.types.ArraySize.TheVariants.{Constant, Pending, Dynamic}
+use Rattle.naga_ir.specs.declared.types.ImageDimension.{ImageDimension}
+use Rattle.naga_ir.specs.declared.types.ImageDimension.TheVariants.{D1, D2, D3}
+use Rattle.naga_ir.specs.declared.types.TypeInner.{TypeInner}
+use Rattle.naga_ir.specs.declared.types.TypeInner.TheVariants as form
+use Rattle.naga_ir.specs.declared.types.VectorSize.{VectorSize}
+use Rattle.naga_ir.specs.declared.types.VectorSize.TheVariants.{Bi, Tri, Quad}
 use Rattle.naga_types.specs.Judging.{only_if}
 use Rattle.naga_types.specs.TypeRule.{is_integer}
 

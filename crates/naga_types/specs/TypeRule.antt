@@ -4,19 +4,19 @@ use Rattle.naga_flags.specs.Bits.{COOPERATIVE_MATRIX, CREATION_RESOLVED, CUBE_AR
 use Rattle.naga_flags.specs.Flags.{has}
 use Rattle.naga_flags.specs.Width.{immediates_of, is_good_width, width_16, width_32, width_64, width_refusal}
 use Rattle.naga_ir.specs.ItemReferences.{GlobalLists}
-use Rattle.naga_ir_types.specs.declared.types.AddressSpace.{AddressSpace}
-use Rattle.naga_ir_types.specs.declared.types.AddressSpace.TheVariants.{Function, Private, WorkGroup, Uniform, Storage, Handle, Immediate, TaskPayload, RayPayload, IncomingRayPayload}
-use Rattle.naga_ir_types.specs.declared.types.ArraySize.{ArraySize}
-use Rattle.naga_ir_types.specs.declared.types.ArraySize.TheVariants.{Constant, Pending, Dynamic}
-use Rattle.naga_ir_types.specs.declared.types.ImageClass.{ImageClass}
-use Rattle.naga_ir_types.specs.declared.types.ImageClass.TheVariants as image
-use Rattle.naga_ir_types.specs.declared.types.ImageDimension.{ImageDimension}
-use Rattle.naga_ir_types.specs.declared.types.ImageDimension.TheVariants.{D1, D2, D3, Cube}
-use Rattle.naga_ir_types.specs.declared.types.Scalar.{Scalar}
-use Rattle.naga_ir_types.specs.declared.types.ScalarKind.{ScalarKind}
-use Rattle.naga_ir_types.specs.declared.types.ScalarKind.TheVariants.{Sint, Uint, Float, Bool, AbstractInt, AbstractFloat}
-use Rattle.naga_ir_types.specs.declared.types.TypeInner.{TypeInner}
-use Rattle.naga_ir_types.specs.declared.types.TypeInner.TheVariants as form
+use Rattle.naga_ir.specs.declared.types.AddressSpace.{AddressSpace}
+use Rattle.naga_ir.specs.declared.types.AddressSpace.TheVariants.{Function, Private, WorkGroup, Uniform, Storage, Handle, Immediate, TaskPayload, RayPayload, IncomingRayPayload}
+use Rattle.naga_ir.specs.declared.types.ArraySize.{ArraySize}
+use Rattle.naga_ir.specs.declared.types.ArraySize.TheVariants.{Constant, Pending, Dynamic}
+use Rattle.naga_ir.specs.declared.types.ImageClass.{ImageClass}
+use Rattle.naga_ir.specs.declared.types.ImageClass.TheVariants as image
+use Rattle.naga_ir.specs.declared.types.ImageDimension.{ImageDimension}
+use Rattle.naga_ir.specs.declared.types.ImageDimension.TheVariants.{D1, D2, D3, Cube}
+use Rattle.naga_ir.specs.declared.types.Scalar.{Scalar}
+use Rattle.naga_ir.specs.declared.types.ScalarKind.{ScalarKind}
+use Rattle.naga_ir.specs.declared.types.ScalarKind.TheVariants.{Sint, Uint, Float, Bool, AbstractInt, AbstractFloat}
+use Rattle.naga_ir.specs.declared.types.TypeInner.{TypeInner}
+use Rattle.naga_ir.specs.declared.types.TypeInner.TheVariants as form
 use Rattle.naga_typing.specs.Constants.{override_count}
 use Rattle.naga_typing.specs.Layout.{alignment_at}
 use Rattle.naga_types.specs.FormFlags.{array_flags, atomic_flags, binding_array_flags, element_flags, opaque_flags, pointer_flags, ray_query_flags, scalar_flags, unshared_flags}

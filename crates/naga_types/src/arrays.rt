@@ -2,7 +2,7 @@
 
 ghost use Rattle.std.specs.Prelude.{◌≡◌, ◌<◌, ◌≤◌, IfSome, bit_and, length};
 ghost use Rattle.naga_ir.specs.Handles.{GlobalReferencesOk};
-ghost use Rattle.naga_ir_types.specs.Parts.{pending};
+ghost use Rattle.naga_ir.specs.Parts.{pending};
 ghost use Rattle.naga_types.specs.Judging.{judged};
 ghost use Rattle.naga_types.specs.FormFlags as form;
 ghost use Rattle.naga_types.specs.Surroundings.{flags_at, shared, surroundings};

@@ -2,7 +2,7 @@
 
 ghost use Rattle.std.specs.Prelude.{◌≡◌, ◌<◌, [], ◌∷◌, All, Some, length, slice_get};
 ghost use Rattle.naga_ir.specs.Handles.{GlobalReferencesOk};
-ghost use Rattle.naga_ir_types.specs.Sizes as sizes;
+ghost use Rattle.naga_ir.specs.Sizes as sizes;
 ghost use Rattle.naga_types.specs.Composing as rule;
 ghost use Rattle.naga_types.specs.Judging.{granted, judged};
 ghost use Rattle.naga_types.specs.Layouts as layouts;

@@ -3,7 +3,7 @@
 ghost use Rattle.std.specs.Prelude.{◌≡◌, ◌<◌, All, IfNone, IfSome, Some, false, length};
 ghost use Rattle.std.specs.Fn.{FnOnceReturnsAt, FnOnceTakesAt};
 ghost use Rattle.std.specs.Option.{ForSome};
-ghost use Rattle.naga_ir_types.specs.declared.types.StructMember as member;
+ghost use Rattle.naga_ir.specs.declared.types.StructMember as member;
 ghost use Rattle.naga_types.specs.Exchange as spec;
 ghost use Rattle.naga_types.specs.Exchange.{old_value_form};
 

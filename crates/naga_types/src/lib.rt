@@ -8,4 +8,4 @@ pub mod exchange;
 pub mod info;
 mod structs;
 pub mod type_methods;
-pub mod validate;
+pub mod type_rule;

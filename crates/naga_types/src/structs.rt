@@ -3,7 +3,7 @@
 ghost use Rattle.std.specs.Prelude.{◌≡◌, ◌+◌, ◌<◌, All, OnOk, Some, length, slice_get, take};
 ghost use Rattle.std.specs.List.{enumerate_from, list_any};
 ghost use Rattle.naga_ir.specs.Handles.{GlobalReferencesOk};
-ghost use Rattle.naga_ir_types.specs.declared.types.StructMember as member;
+ghost use Rattle.naga_ir.specs.declared.types.StructMember as member;
 ghost use Rattle.naga_types.specs.RuleResults.{IsRuleResult};
 ghost use Rattle.naga_types.specs.Judging.{granted, judged};
 ghost use Rattle.naga_types.specs.Layouts as layouts;
@@ -15,7 +15,7 @@ ghost use Rattle.naga_typing.specs.Context.{lists_of};
 
 use crate::error::{Disalignment, TypeError, VaryingError, saturated};
 use crate::info::{LayoutCompatibility, TypeContext, TypeInfo};
-use crate::validate::{require_type_capability, unshared_flags};
+use crate::type_rule::{require_type_capability, unshared_flags};
 use bitflags::Flags;
 use naga_flags::flags::{Capabilities, TypeFlags};
 use naga_flags::width::ImmediateCompatibility;

@@ -15,8 +15,8 @@ use Rattle.naga_ir.specs.declared.ir.Function.{Function}
 use Rattle.naga_ir.specs.declared.ir.Module.{Module}
 use Rattle.naga_ir.specs.declared.reference.Reference.{Reference}
 use Rattle.naga_ir.specs.declared.reference.Reference.TheVariants as to
-use Rattle.naga_ir_types.specs.declared.types.«Type».{«Type»}
-use Rattle.naga_ir_types.specs.declared.types.TypeInner.{TypeInner}
+use Rattle.naga_ir.specs.declared.types.«Type».{«Type»}
+use Rattle.naga_ir.specs.declared.types.TypeInner.{TypeInner}
 use Rattle.naga_typing.specs.PlainLaws.{all_parts_exist, parts_exist, types_exist}
 use Rattle.naga_typing.specs.Resolutions.{PartsExist, ResolutionExists, inner_in, operand as type_of_operand}
 use Rattle.naga_typing.specs.Typings.{CanResolve, counts_in_sight}

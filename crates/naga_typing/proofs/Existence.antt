@@ -12,12 +12,12 @@ use Rattle.naga_ir.specs.declared.ir.Constant.{Constant}
 use Rattle.naga_ir.specs.declared.ir.Override.{Override}
 use Rattle.naga_ir.specs.declared.reference.Reference.{Reference}
 use Rattle.naga_ir.specs.declared.reference.Reference.TheVariants as to
-use Rattle.naga_ir_types.specs.Parts.{parts, pending, size_override}
-use Rattle.naga_ir_types.specs.declared.types.«Type».{«Type»}
-use Rattle.naga_ir_types.specs.declared.types.ArraySize.{ArraySize}
-use Rattle.naga_ir_types.specs.declared.types.TypeInner.{TypeInner}
-use Rattle.naga_ir_types.specs.declared.types.TypeInner.TheVariants.{Array, BindingArray}
-use Rattle.naga_ir_types.specs.declared.types.ArraySize.TheVariants.{Pending}
+use Rattle.naga_ir.specs.Parts.{parts, pending, size_override}
+use Rattle.naga_ir.specs.declared.types.«Type».{«Type»}
+use Rattle.naga_ir.specs.declared.types.ArraySize.{ArraySize}
+use Rattle.naga_ir.specs.declared.types.TypeInner.{TypeInner}
+use Rattle.naga_ir.specs.declared.types.TypeInner.TheVariants.{Array, BindingArray}
+use Rattle.naga_ir.specs.declared.types.ArraySize.TheVariants.{Pending}
 use Rattle.naga_typing.specs.Constants.{NamedItemsExist, NamedItemExists}
 use Rattle.naga_typing.specs.Context.{ReferencesExist}
 

@@ -9,8 +9,8 @@ use Rattle.naga_ir.specs.declared.expression.RelationalFunction.{RelationalFunct
 use Rattle.naga_ir.specs.declared.expression.SampleLevel.{SampleLevel}
 use Rattle.naga_ir.specs.declared.expression.SwizzleComponent.{SwizzleComponent}
 use Rattle.naga_ir.specs.declared.expression.UnaryOperator.{UnaryOperator}
-use Rattle.naga_ir_types.specs.declared.types.ScalarKind.{ScalarKind}
-use Rattle.naga_ir_types.specs.declared.types.VectorSize.{VectorSize}
+use Rattle.naga_ir.specs.declared.types.ScalarKind.{ScalarKind}
+use Rattle.naga_ir.specs.declared.types.VectorSize.{VectorSize}
 
 module _ (x : Expression) where
   abbrev Has : ℕ → Type 0

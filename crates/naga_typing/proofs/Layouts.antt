@@ -9,11 +9,11 @@ use Rattle.naga_arena.proofs.InOrder.{accepted_once, found_at, get_before, get_s
 use Rattle.naga_ir.specs.Handles.{GlobalReferencesOk}
 use Rattle.naga_ir.proofs.ReferencesOfItems.{parts_come_before}
 use Rattle.naga_ir.specs.ItemReferences.{GlobalLists}
-use Rattle.naga_ir_types.specs.declared.types.«Type».{«Type»}
-use Rattle.naga_ir_types.specs.declared.types.StructMember.{StructMember}
-use Rattle.naga_ir_types.specs.declared.types.TypeInner.{TypeInner}
-use Rattle.naga_ir_types.specs.declared.types.TypeInner.TheVariants.{Scalar, Vector, Matrix, CooperativeMatrix, Atomic, Array, Struct}
-use Rattle.naga_ir_types.proofs.PartLemmas.{base_is, members_are}
+use Rattle.naga_ir.specs.declared.types.«Type».{«Type»}
+use Rattle.naga_ir.specs.declared.types.StructMember.{StructMember}
+use Rattle.naga_ir.specs.declared.types.TypeInner.{TypeInner}
+use Rattle.naga_ir.specs.declared.types.TypeInner.TheVariants.{Scalar, Vector, Matrix, CooperativeMatrix, Atomic, Array, Struct}
+use Rattle.naga_ir.proofs.PartLemmas.{base_is, members_are}
 use Rattle.naga_typing.proofs.InOrder.{value_by_all, value_by_those_before}
 use Rattle.naga_typing.proofs.Powers.{power_of_one, power_of_vector}
 use Rattle.naga_typing.specs.Layout.{AreLayouts, alignment_at, alignment_in, alignment_of, greatest, layout_in_order, layout_of, layout_results, layout_rule, size_of, size_rule, width_of}

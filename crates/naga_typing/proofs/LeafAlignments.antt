@@ -3,10 +3,10 @@ use Rattle.std.proofs.Common.{◌≡◌, ◌<◌, ◌≤◌, ℕ, true, List, []
 use Rattle.std.proofs.lemmas.Option.{same_Some, slice_get-get_or}
 use Rattle.naga_arena.proofs.Elements.{all_at}
 use Rattle.naga_ir.specs.ItemReferences.{GlobalLists}
-use Rattle.naga_ir_types.specs.declared.types.ArraySize.{ArraySize}
-use Rattle.naga_ir_types.specs.declared.types.StructMember.{StructMember}
-use Rattle.naga_ir_types.specs.declared.types.TypeInner.{TypeInner}
-use Rattle.naga_ir_types.specs.declared.types.TypeInner.TheVariants.{Array, Struct}
+use Rattle.naga_ir.specs.declared.types.ArraySize.{ArraySize}
+use Rattle.naga_ir.specs.declared.types.StructMember.{StructMember}
+use Rattle.naga_ir.specs.declared.types.TypeInner.{TypeInner}
+use Rattle.naga_ir.specs.declared.types.TypeInner.TheVariants.{Array, Struct}
 use Rattle.naga_typing.proofs.GreatestAlignment.{greatest-among, greatest-bounds}
 use Rattle.naga_typing.proofs.LeafLemmas.{all_of, array-has_part, array-part, element_part, leaf-by_part, leaf-from_part, leaf-here, leaf-in_part, leaf-no_part, leaf-not_whole, leaf-whole, leaf_of_part, member_part, no-leaf, struct-has_part, struct-part}
 use Rattle.naga_typing.specs.Layout.{alignment_of, greatest}

@@ -5,12 +5,12 @@ use Rattle.naga_ir.specs.Handles.{ExistsGlobally, GlobalReferencesOk}
 use Rattle.naga_ir.specs.ItemReferences.{GlobalLists, type_references}
 use Rattle.naga_ir.specs.declared.reference.Reference.{Reference}
 use Rattle.naga_ir.specs.declared.reference.Reference.TheVariants as to
-use Rattle.naga_ir_types.proofs.PartLemmas.{parts_of_pointer}
-use Rattle.naga_ir_types.specs.Parts.{parts, size_override}
-use Rattle.naga_ir_types.specs.declared.types.«Type».{«Type»}
-use Rattle.naga_ir_types.specs.declared.types.AddressSpace.{AddressSpace}
-use Rattle.naga_ir_types.specs.declared.types.TypeInner.{TypeInner}
-use Rattle.naga_ir_types.specs.declared.types.TypeInner.TheVariants.{Pointer}
+use Rattle.naga_ir.proofs.PartLemmas.{parts_of_pointer}
+use Rattle.naga_ir.specs.Parts.{parts, size_override}
+use Rattle.naga_ir.specs.declared.types.«Type».{«Type»}
+use Rattle.naga_ir.specs.declared.types.AddressSpace.{AddressSpace}
+use Rattle.naga_ir.specs.declared.types.TypeInner.{TypeInner}
+use Rattle.naga_ir.specs.declared.types.TypeInner.TheVariants.{Pointer}
 use Rattle.naga_ir.proofs.ReferencesOfItems.{parts_come_before}
 use Rattle.naga_typing.proofs.Existence.{references_exist}
 use Rattle.naga_typing.specs.Context.{ReferencesExist}

@@ -4,10 +4,10 @@ use Rattle.std.proofs.Math.Nat.{mul-mod_right}
 use Rattle.std.proofs.lemmas.Bool.{cases_lt}
 use Rattle.std.proofs.lemmas.Nat.{pow-add, pow_below, pow_pos}
 use Rattle.std.specs.Int.{IsPowerOfTwo, is_power_of_two}
-use Rattle.naga_ir_types.proofs.Powers.{power_found}
-use Rattle.naga_ir_types.specs.declared.types.VectorSize.{VectorSize}
-use Rattle.naga_ir_types.specs.declared.types.VectorSize.TheVariants.{Bi, Tri, Quad}
-use Rattle.naga_ir_types.specs.Sizes.{vector_alignment}
+use Rattle.naga_ir.proofs.Powers.{power_found}
+use Rattle.naga_ir.specs.declared.types.VectorSize.{VectorSize}
+use Rattle.naga_ir.specs.declared.types.VectorSize.TheVariants.{Bi, Tri, Quad}
+use Rattle.naga_ir.specs.Sizes.{vector_alignment}
 use lib.Count.{ones, ones_step}
 
 ones-double : (n : ℕ) → count_ones (2 * n) ≡ count_ones n

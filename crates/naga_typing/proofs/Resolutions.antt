@@ -1,10 +1,10 @@
 -- The types that resolutions name exist.
 use Rattle.std.proofs.Common.{◌≡◌, ◌<◌, ℕ, List, length, subst}
-use Rattle.naga_ir_types.specs.declared.types.«Type».{«Type»}
-use Rattle.naga_ir_types.specs.declared.types.AddressSpace.{AddressSpace}
-use Rattle.naga_ir_types.specs.declared.types.TypeInner.{TypeInner}
-use Rattle.naga_ir_types.specs.declared.types.TypeInner.TheVariants.{Pointer}
-use Rattle.naga_ir_types.proofs.PartLemmas.{parts_of_pointer}
+use Rattle.naga_ir.specs.declared.types.«Type».{«Type»}
+use Rattle.naga_ir.specs.declared.types.AddressSpace.{AddressSpace}
+use Rattle.naga_ir.specs.declared.types.TypeInner.{TypeInner}
+use Rattle.naga_ir.specs.declared.types.TypeInner.TheVariants.{Pointer}
+use Rattle.naga_ir.proofs.PartLemmas.{parts_of_pointer}
 use Rattle.naga_typing.specs.Resolutions.{PartsExist}
 
 -- the base of a pointer exists

@@ -2,12 +2,12 @@
 use Rattle.std.proofs.Common.{◌≡◌, ◌==◌, ◌&&◌, ◌↔◌, ℕ, Bool, not, Decides, IsTrue, List, Option, Some, None, refl, sym, ap, subst₂, true≢false, ◌∙◌}
 use Rattle.std.proofs.lemmas.Bool.Decides.{Decides-and, Decides-eqb, Decides-like, Decides-or, same_from_decides}
 use Rattle.std.proofs.lemmas.Option.{same_Some}
-use Rattle.naga_ir_types.proofs.SameInner.{inner_decides}
-use Rattle.naga_ir_types.specs.TypeWords.{IsNoStruct, IsStruct}
-use Rattle.naga_ir_types.specs.contracts.types.TypeInnerPartialEq.TheImpl as of_inner
-use Rattle.naga_ir_types.specs.declared.types.«Type».{«Type»}
-use Rattle.naga_ir_types.specs.declared.types.TypeInner.{TypeInner}
-use Rattle.naga_ir_types.specs.declared.types.TypeInner.TheVariants.{Struct}
+use Rattle.naga_ir.proofs.SameInner.{inner_decides}
+use Rattle.naga_ir.specs.TypeWords.{IsNoStruct, IsStruct}
+use Rattle.naga_ir.specs.contracts.types.TypeInnerPartialEq.TheImpl as of_inner
+use Rattle.naga_ir.specs.declared.types.«Type».{«Type»}
+use Rattle.naga_ir.specs.declared.types.TypeInner.{TypeInner}
+use Rattle.naga_ir.specs.declared.types.TypeInner.TheVariants.{Struct}
 use Rattle.naga_typing.specs.Sameness.{are_same, are_same_found, are_same_inners, is_one_handle, is_struct}
 use Rattle.naga_typing.specs.Resolutions.{AreOneHandle, AreSameInners, AreSameTypes, canonical, handle_of}
 use Rattle.naga_typing.specs.declared.typifier.TypeResolution.{TypeResolution}

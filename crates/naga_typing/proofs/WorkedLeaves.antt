@@ -6,14 +6,14 @@ use Rattle.std.proofs.lemmas.Option.{same_Some}
 use Rattle.naga_ir.specs.ItemReferences.{GlobalLists}
 use Rattle.naga_ir.specs.declared.expression.Expression.TheVariants.{Literal}
 use Rattle.naga_ir.specs.declared.expression.Literal.TheVariants.{U32}
-use Rattle.naga_ir_types.specs.declared.types.«Type».{«Type»}
-use Rattle.naga_ir_types.specs.declared.types.ArraySize.{ArraySize}
-use Rattle.naga_ir_types.specs.declared.types.ArraySize.TheVariants.{Constant, Pending, Dynamic}
-use Rattle.naga_ir_types.specs.declared.types.ScalarKind.TheVariants.{Float, Uint}
-use Rattle.naga_ir_types.specs.declared.types.StructMember.{StructMember}
-use Rattle.naga_ir_types.specs.declared.types.TypeInner.{TypeInner}
-use Rattle.naga_ir_types.specs.declared.types.TypeInner.TheVariants.{Scalar, Vector, Matrix, Array, Struct}
-use Rattle.naga_ir_types.specs.declared.types.VectorSize.TheVariants.{Bi, Tri, Quad}
+use Rattle.naga_ir.specs.declared.types.«Type».{«Type»}
+use Rattle.naga_ir.specs.declared.types.ArraySize.{ArraySize}
+use Rattle.naga_ir.specs.declared.types.ArraySize.TheVariants.{Constant, Pending, Dynamic}
+use Rattle.naga_ir.specs.declared.types.ScalarKind.TheVariants.{Float, Uint}
+use Rattle.naga_ir.specs.declared.types.StructMember.{StructMember}
+use Rattle.naga_ir.specs.declared.types.TypeInner.{TypeInner}
+use Rattle.naga_ir.specs.declared.types.TypeInner.TheVariants.{Scalar, Vector, Matrix, Array, Struct}
+use Rattle.naga_ir.specs.declared.types.VectorSize.TheVariants.{Bi, Tri, Quad}
 use Rattle.naga_typing.proofs.LeafAlignments.{alignment-of_array, alignment-of_leaf}
 use Rattle.naga_typing.proofs.LeafLemmas.{leaf-past_end, no-leaf}
 use Rattle.naga_typing.specs.Leaves.{EndsInArray, HasNoShortStride, IsLeafAlignment, LeafBytes, elements, end_of, itself, last_member, leaf_at, moved}

@@ -10,11 +10,11 @@ use Rattle.naga_ir.specs.declared.expression.Literal.TheVariants as literal
 use Rattle.naga_ir.specs.declared.reference.Reference.{Reference}
 use Rattle.naga_ir.specs.declared.reference.Reference.TheVariants as to
 use Rattle.naga_ir.specs.declared.ir.Constant.{Constant}
-use Rattle.naga_ir_types.specs.declared.types.«Type».{«Type»}
-use Rattle.naga_ir_types.specs.declared.types.TypeInner.{TypeInner}
-use Rattle.naga_ir_types.specs.declared.types.TypeInner.TheVariants as form
-use Rattle.naga_ir_types.specs.declared.types.Scalar.{Scalar}
-use Rattle.naga_ir_types.specs.declared.types.ScalarKind.TheVariants.{Sint, Uint, Float, Bool, AbstractInt, AbstractFloat}
+use Rattle.naga_ir.specs.declared.types.«Type».{«Type»}
+use Rattle.naga_ir.specs.declared.types.TypeInner.{TypeInner}
+use Rattle.naga_ir.specs.declared.types.TypeInner.TheVariants as form
+use Rattle.naga_ir.specs.declared.types.Scalar.{Scalar}
+use Rattle.naga_ir.specs.declared.types.ScalarKind.TheVariants.{Sint, Uint, Float, Bool, AbstractInt, AbstractFloat}
 use Rattle.naga_typing.specs.declared.context.ConstValueError.{ConstValueError}
 use Rattle.naga_typing.specs.declared.context.ConstValueError.TheVariants.{NonConst, Negative, InvalidType}
 

@@ -2,7 +2,7 @@
 use Rattle.std.specs.Prelude.{All}
 use Rattle.naga_ir.specs.Handles.{ExistsGlobally}
 use Rattle.naga_ir.specs.ItemReferences.{GlobalLists, type_references}
-use Rattle.naga_ir_types.specs.declared.types.TypeInner.{TypeInner}
+use Rattle.naga_ir.specs.declared.types.TypeInner.{TypeInner}
 use Rattle.naga_typing.specs.declared.context.GlobalCtx.{GlobalCtx}
 
 -- the four lists of a context

@@ -18,20 +18,20 @@ use Rattle.naga_ir.specs.declared.ir.FunctionResult.{FunctionResult}
 use Rattle.naga_ir.specs.declared.ir.GlobalVariable.{GlobalVariable}
 use Rattle.naga_ir.specs.declared.ir.Module.{Module}
 use Rattle.naga_ir.specs.declared.reference.Reference.TheVariants as to
-use Rattle.naga_ir_types.proofs.PartLemmas.{base_is, members_are, parts_of_binding_array, parts_of_pointer}
-use Rattle.naga_ir_types.specs.Parts.{parts, size_override}
-use Rattle.naga_ir_types.specs.declared.types.«Type».{«Type»}
-use Rattle.naga_ir_types.specs.declared.types.AddressSpace.{AddressSpace}
-use Rattle.naga_ir_types.specs.declared.types.AddressSpace.TheVariants as space
-use Rattle.naga_ir_types.specs.declared.types.ImageClass.{ImageClass}
-use Rattle.naga_ir_types.specs.declared.types.ImageClass.TheVariants.{Depth, Sampled, Storage}
-use Rattle.naga_ir_types.specs.declared.types.ImageDimension.{ImageDimension}
-use Rattle.naga_ir_types.specs.declared.types.ImageDimension.TheVariants.{D1}
-use Rattle.naga_ir_types.specs.declared.types.Scalar.{Scalar as ScalarType}
-use Rattle.naga_ir_types.specs.declared.types.StructMember.{StructMember}
-use Rattle.naga_ir_types.specs.declared.types.TypeInner.{TypeInner}
-use Rattle.naga_ir_types.specs.declared.types.TypeInner.TheVariants.{Vector, Matrix, Array, BindingArray, Struct, Atomic, Pointer, ValuePointer, Image}
-use Rattle.naga_ir_types.specs.declared.types.VectorSize.{VectorSize}
+use Rattle.naga_ir.proofs.PartLemmas.{base_is, members_are, parts_of_binding_array, parts_of_pointer}
+use Rattle.naga_ir.specs.Parts.{parts, size_override}
+use Rattle.naga_ir.specs.declared.types.«Type».{«Type»}
+use Rattle.naga_ir.specs.declared.types.AddressSpace.{AddressSpace}
+use Rattle.naga_ir.specs.declared.types.AddressSpace.TheVariants as space
+use Rattle.naga_ir.specs.declared.types.ImageClass.{ImageClass}
+use Rattle.naga_ir.specs.declared.types.ImageClass.TheVariants.{Depth, Sampled, Storage}
+use Rattle.naga_ir.specs.declared.types.ImageDimension.{ImageDimension}
+use Rattle.naga_ir.specs.declared.types.ImageDimension.TheVariants.{D1}
+use Rattle.naga_ir.specs.declared.types.Scalar.{Scalar as ScalarType}
+use Rattle.naga_ir.specs.declared.types.StructMember.{StructMember}
+use Rattle.naga_ir.specs.declared.types.TypeInner.{TypeInner}
+use Rattle.naga_ir.specs.declared.types.TypeInner.TheVariants.{Vector, Matrix, Array, BindingArray, Struct, Atomic, Pointer, ValuePointer, Image}
+use Rattle.naga_ir.specs.declared.types.VectorSize.{VectorSize}
 use Rattle.naga_typing.specs.FullTyping.{at_target, declared, extent_of, full_resolves, gathered_of, load_of, loaded, member_pointer, part_at, part_in, part_pointer, query_of, reference_to, result_of, sample_in, sample_of, texel_of, type_of_variable}
 use Rattle.naga_typing.specs.PlainLaws.{IsLawfulResult, all_parts_exist, lawful as plain_result, lawful_named, lawful_operand, lawful_same, of_element, of_part, of_scalar, of_vector, plain_lawful}
 use Rattle.naga_typing.specs.PlainTyping.{ResolveResult, of_form}

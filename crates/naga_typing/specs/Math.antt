@@ -4,17 +4,17 @@ use Rattle.std.specs.List.{list_all, list_any}
 use Rattle.std.specs.Option.{option_map_or}
 use Rattle.naga_ir.specs.declared.expression.MathFunction.{MathFunction}
 use Rattle.naga_ir.specs.declared.expression.MathFunction.TheVariants as math
-use Rattle.naga_ir_types.specs.TypeWords.{scalar_of, vector_size_and_scalar}
-use Rattle.naga_ir_types.specs.contracts.types.ScalarKindPartialEq.TheImpl as of_kind
-use Rattle.naga_ir_types.specs.contracts.types.TypeInnerPartialEq.TheImpl as of_inner
-use Rattle.naga_ir_types.specs.contracts.types.VectorSizePartialEq.TheImpl as of_size
-use Rattle.naga_ir_types.specs.declared.types.Scalar.{Scalar as ScalarType}
-use Rattle.naga_ir_types.specs.declared.types.ScalarKind.{ScalarKind}
-use Rattle.naga_ir_types.specs.declared.types.ScalarKind.TheVariants.{Sint, Uint, Float}
-use Rattle.naga_ir_types.specs.declared.types.TypeInner.{TypeInner}
-use Rattle.naga_ir_types.specs.declared.types.TypeInner.TheVariants.{Scalar, Vector, Matrix, CooperativeMatrix, Atomic, Pointer, ValuePointer, Array, Struct, Image, Sampler, AccelerationStructure, RayQuery, BindingArray}
-use Rattle.naga_ir_types.specs.declared.types.VectorSize.{VectorSize}
-use Rattle.naga_ir_types.specs.declared.types.VectorSize.TheVariants.{Bi, Tri, Quad}
+use Rattle.naga_ir.specs.TypeWords.{scalar_of, vector_size_and_scalar}
+use Rattle.naga_ir.specs.contracts.types.ScalarKindPartialEq.TheImpl as of_kind
+use Rattle.naga_ir.specs.contracts.types.TypeInnerPartialEq.TheImpl as of_inner
+use Rattle.naga_ir.specs.contracts.types.VectorSizePartialEq.TheImpl as of_size
+use Rattle.naga_ir.specs.declared.types.Scalar.{Scalar as ScalarType}
+use Rattle.naga_ir.specs.declared.types.ScalarKind.{ScalarKind}
+use Rattle.naga_ir.specs.declared.types.ScalarKind.TheVariants.{Sint, Uint, Float}
+use Rattle.naga_ir.specs.declared.types.TypeInner.{TypeInner}
+use Rattle.naga_ir.specs.declared.types.TypeInner.TheVariants.{Scalar, Vector, Matrix, CooperativeMatrix, Atomic, Pointer, ValuePointer, Array, Struct, Image, Sampler, AccelerationStructure, RayQuery, BindingArray}
+use Rattle.naga_ir.specs.declared.types.VectorSize.{VectorSize}
+use Rattle.naga_ir.specs.declared.types.VectorSize.TheVariants.{Bi, Tri, Quad}
 
 -- what a mathematical function takes and returns: which types its first argument may have, which types each further one may have beside such a first one, and which type the result has, by that of the first
 pub record Signature : Type 0 where

@@ -11,14 +11,14 @@ use Rattle.naga_ir.specs.declared.expression.RelationalFunction.TheVariants.{All
 use Rattle.naga_ir.specs.declared.ir.Constant.{Constant}
 use Rattle.naga_ir.specs.declared.ir.Override.{Override}
 use Rattle.naga_ir.specs.declared.ir.Module.{Module}
-use Rattle.naga_ir_types.specs.declared.types.«Type».{«Type»}
-use Rattle.naga_ir_types.specs.declared.types.Scalar.{Scalar as ScalarType}
-use Rattle.naga_ir_types.specs.declared.types.ScalarKind.{ScalarKind}
-use Rattle.naga_ir_types.specs.declared.types.ScalarKind.TheVariants as kind
-use Rattle.naga_ir_types.specs.declared.types.StructMember.{StructMember}
-use Rattle.naga_ir_types.specs.declared.types.TypeInner.{TypeInner}
-use Rattle.naga_ir_types.specs.declared.types.TypeInner.TheVariants.{Scalar, Vector, Matrix, CooperativeMatrix, Atomic, Pointer, ValuePointer, Array, Struct, Image, Sampler, AccelerationStructure, RayQuery, BindingArray}
-use Rattle.naga_ir_types.specs.declared.types.VectorSize.{VectorSize}
+use Rattle.naga_ir.specs.declared.types.«Type».{«Type»}
+use Rattle.naga_ir.specs.declared.types.Scalar.{Scalar as ScalarType}
+use Rattle.naga_ir.specs.declared.types.ScalarKind.{ScalarKind}
+use Rattle.naga_ir.specs.declared.types.ScalarKind.TheVariants as kind
+use Rattle.naga_ir.specs.declared.types.StructMember.{StructMember}
+use Rattle.naga_ir.specs.declared.types.TypeInner.{TypeInner}
+use Rattle.naga_ir.specs.declared.types.TypeInner.TheVariants.{Scalar, Vector, Matrix, CooperativeMatrix, Atomic, Pointer, ValuePointer, Array, Struct, Image, Sampler, AccelerationStructure, RayQuery, BindingArray}
+use Rattle.naga_ir.specs.declared.types.VectorSize.{VectorSize}
 use Rattle.naga_typing.specs.Math.{math_type, u32_scalar}
 use Rattle.naga_typing.specs.Resolutions.{operand}
 use Rattle.naga_typing.specs.declared.typifier.ResolveError.{ResolveError}

@@ -3,7 +3,7 @@
 
 ghost use Rattle.std.specs.Prelude.{◌≡◌, map};
 ghost use Rattle.std.specs.List.{list_any};
-ghost use Rattle.naga_ir_types.specs.contracts.types.ScalarKindPartialEq.TheImpl as of_kind;
+ghost use Rattle.naga_ir.specs.contracts.types.ScalarKindPartialEq.TheImpl as of_kind;
 ghost use Rattle.naga_typing.specs.Math as spec;
 ghost use Rattle.naga_typing.specs.steps.Math.{concluded, kinds_of, meaning, takes_first, takes_further};
 

@@ -3,7 +3,7 @@
 ghost use Rattle.std.specs.Prelude.{◌≡◌, ◌*◌, ◌<◌, ◌≤◌, length, IfSome, MatchOption, OnSome};
 ghost use Rattle.naga_arena.specs.Numbers.{largest_u32};
 ghost use Rattle.naga_ir.specs.Handles.{GlobalReferencesOk};
-ghost use Rattle.naga_ir_types.specs.Parts.{pending};
+ghost use Rattle.naga_ir.specs.Parts.{pending};
 ghost use Rattle.naga_typing.specs.Constants as constants;
 ghost use Rattle.naga_typing.specs.Context.{ReferencesExist, lists_of};
 ghost use Rattle.naga_typing.specs.Layout as spec;

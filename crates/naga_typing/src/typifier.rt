@@ -1,7 +1,7 @@
 //! The types of expressions, and whether two types are the same.
 
 ghost use Rattle.std.specs.Prelude.{◌≡◌, ◌↔◌, IfOk, IsFalse, IsOk, IsTrue, OnErr, Some, unwrap_or};
-ghost use Rattle.naga_ir_types.specs.TypeWords.{IsNoStruct, IsStruct};
+ghost use Rattle.naga_ir.specs.TypeWords.{IsNoStruct, IsStruct};
 ghost use Rattle.naga_typing.specs.Resolutions as spec;
 ghost use Rattle.naga_typing.specs.Resolutions.{AllPartsExist, AreSameTypes, IsStructValue, PartsExist, TypesExist, inner_in};
 ghost use Rattle.naga_typing.specs.Sameness.{are_same};

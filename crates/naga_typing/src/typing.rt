@@ -4,7 +4,7 @@ ghost use Rattle.std.specs.Prelude.{◌≡◌, ℕ, Bool, List, Result, map};
 ghost use Rattle.naga_ir.specs.declared.expression.Expression as expression;
 ghost use Rattle.naga_ir.specs.declared.expression.MathFunction as math;
 ghost use Rattle.naga_ir.specs.declared.ir.Module as modules;
-ghost use Rattle.naga_ir_types.specs.declared.types.TypeInner as inner;
+ghost use Rattle.naga_ir.specs.declared.types.TypeInner as inner;
 ghost use Rattle.naga_typing.specs.Typings.{CanResolve, IsResolveResult, IsLawful};
 ghost use Rattle.naga_typing.specs.declared.typifier.ResolveError as error;
 ghost use Rattle.naga_typing.specs.declared.typifier.TypeResolution as resolution;

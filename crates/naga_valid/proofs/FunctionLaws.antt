@@ -19,7 +19,7 @@ use Rattle.naga_ir.specs.declared.reference.Reference.TheVariants as to
 use Rattle.naga_types.proofs.LayoutParts.{contains-place}
 use Rattle.naga_types.specs.declared.info.TypeInfo.{TypeInfo}
 use Rattle.naga_typing.specs.Typings.{Resolves}
-use Rattle.naga_infos.specs.ModuleInfo.{ModuleInfoLists}
+use Rattle.naga_info.specs.ModuleInfo.{ModuleInfoLists}
 use Rattle.naga_valid.specs.Accepted.{Accepts}
 use Rattle.naga_valid.specs.Functions.{CanJudgeFunction, CanJudgeInOrder}
 use Rattle.naga_valid.specs.State.{Settings}

@@ -14,8 +14,8 @@ use Rattle.naga_arena.specs.InOrder.{FollowInOrder, IsFirstRefusalInOrder, given
 use Rattle.naga_exprs.specs.ExpressionRule.{IsExpressionReturned, IsMeant}
 use Rattle.naga_flags.specs.Bits.{all_stages}
 use Rattle.naga_flags.specs.declared.flags.ShaderStages.{ShaderStages}
-use Rattle.naga_infos.specs.FunctionTypes.{AreFunctionTypes, AreTypesBefore, IsUntyped, function_resolves, type_in_order, type_of_argument}
-use Rattle.naga_infos.specs.declared.module_info.FunctionInfo.{FunctionInfo}
+use Rattle.naga_info.specs.FunctionTypes.{AreFunctionTypes, AreTypesBefore, IsUntyped, function_resolves, type_in_order, type_of_argument}
+use Rattle.naga_info.specs.declared.module_info.FunctionInfo.{FunctionInfo}
 use Rattle.naga_ir.proofs.ReferencesOfItems.{within_all}
 use Rattle.naga_ir.specs.Handles.{Exists, function_counts, own_operand}
 use Rattle.naga_ir.specs.ItemReferences.{expression_references}
@@ -25,10 +25,10 @@ use Rattle.naga_ir.specs.declared.expression.Expression.TheVariants as form
 use Rattle.naga_ir.specs.declared.ir.Function.{Function}
 use Rattle.naga_ir.specs.declared.ir.FunctionArgument.{FunctionArgument}
 use Rattle.naga_ir.specs.declared.ir.Module.{Module}
-use Rattle.naga_operands.specs.Results.{IsReturned}
-use Rattle.naga_operands.specs.Surroundings.{CanJudge}
-use Rattle.naga_operands.specs.declared.error.ExpressionError.{ExpressionError}
-use Rattle.naga_operands.specs.declared.error.ExpressionError.TheVariants as refusal
+use Rattle.naga_info.specs.Results.{IsReturned}
+use Rattle.naga_info.specs.Surroundings.{CanJudge}
+use Rattle.naga_info.specs.declared.expression_error.ExpressionError.{ExpressionError}
+use Rattle.naga_info.specs.declared.expression_error.ExpressionError.TheVariants as refusal
 use Rattle.naga_typing.proofs.Iteration.{Iterating, accepts_all, all_counted, begin, next_index, next_item, one_more}
 use Rattle.naga_typing.specs.Kinds.{AreKinds, kind_in_order}
 use Rattle.naga_typing.specs.Typings.{Resolves}

@@ -2,11 +2,11 @@
 use Rattle.std.proofs.Common.{◌≡◌, ◌∙◌, ◌++◌, Bool, true, false, List, [], ◌∷◌, Option, Some, None, Result, Ok, Err, String, ℕ, refl, sym, ap}
 use Rattle.std.specs.Option.{option_or}
 use Rattle.std.specs.declared.alloc.Global.{Global}
-use Rattle.naga_access_exprs.specs.Accesses.{IsAccessMeant, access_conditions, lengths}
+use Rattle.naga_exprs.specs.Accesses.{IsAccessMeant, access_conditions, lengths}
 use Rattle.naga_exprs.specs.ExpressionRule.{IsMeant}
 use Rattle.naga_flags.specs.declared.flags.ShaderStages.{ShaderStages}
 use Rattle.naga_image_exprs.specs.Coordinates.{bad_layer}
-use Rattle.naga_operands.specs.Words.{is_integer_scalar}
+use Rattle.naga_info.specs.Words.{is_integer_scalar}
 use Rattle.naga_image_exprs.specs.Resources.{and_then}
 use Rattle.naga_image_exprs.specs.Samples.{IsImageSampleMeant, bad_clamp, bad_class, bad_comparison, bad_coordinate, bad_depth_reference, bad_external, bad_gather, bad_level, bad_offset, level_stages, sample_conditions, sampled}
 use Rattle.naga_image_exprs.specs.declared.resource.ImageType.{ImageType}
@@ -15,11 +15,11 @@ use Rattle.naga_ir.specs.ItemReferences.{global_lists}
 use Rattle.naga_ir.specs.declared.expression.BinaryOperator.{BinaryOperator}
 use Rattle.naga_ir.specs.declared.expression.Expression.{Expression}
 use Rattle.naga_ir.specs.declared.expression.Expression.TheVariants as form
-use Rattle.naga_math_exprs.specs.Math.{MathTyping}
-use Rattle.naga_operands.specs.Stages.{every_stage}
-use Rattle.naga_operands.specs.Surroundings.{ExpressionSurroundings, form_at}
-use Rattle.naga_operands.specs.declared.error.ExpressionError.{ExpressionError}
-use Rattle.naga_operands.specs.declared.error.ExpressionError.TheVariants as refusal
+use Rattle.naga_exprs.specs.Math.{MathTyping}
+use Rattle.naga_info.specs.Stages.{every_stage}
+use Rattle.naga_info.specs.Surroundings.{ExpressionSurroundings, form_at}
+use Rattle.naga_info.specs.declared.expression_error.ExpressionError.{ExpressionError}
+use Rattle.naga_info.specs.declared.expression_error.ExpressionError.TheVariants as refusal
 use Rattle.naga_operator_exprs.specs.Binary.{IsBinaryMeant, accepted, forbidden_constant, misfit}
 use Rattle.naga_types.specs.Judging.{first, granted, judged, unless}
 use Rattle.naga_typing.proofs.Lengths.{length_once}

@@ -3,10 +3,10 @@ use Rattle.std.proofs.Common.{◌≡◌, [], ◌∷◌, ◌++◌, ℕ, Bool, tru
 use Rattle.std.specs.List.{enumerate_from}
 use Rattle.std.proofs.lemmas.List.Elements.{All-append, All-map, All-weaker}
 use Rattle.naga_arena.proofs.Elements.{all-left, all-right, all-unmap}
-use Rattle.naga_const_exprs.proofs.OverrideValues.{unresolved as unresolved_expression}
-use Rattle.naga_const_exprs.specs.ConstExpression.{const_expression_rule}
+use Rattle.naga_exprs.proofs.OverrideValues.{unresolved as unresolved_expression}
+use Rattle.naga_exprs.specs.ConstExpression.{const_expression_rule}
 use Rattle.naga_flags.specs.declared.flags.Capabilities.{Capabilities}
-use Rattle.naga_infos.specs.ModuleInfo.{ModuleInfoLists}
+use Rattle.naga_info.specs.ModuleInfo.{ModuleInfoLists}
 use Rattle.naga_ir.specs.declared.expression.Expression.{Expression}
 use Rattle.naga_ir.specs.declared.ir.Module.{Module}
 use Rattle.naga_ir.specs.declared.ir.Override.{Override as OverrideItem}

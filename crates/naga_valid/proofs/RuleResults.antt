@@ -5,7 +5,7 @@ use Rattle.naga_arena.specs.InOrder.{given_at}
 use Rattle.naga_flags.specs.declared.flags.Capabilities.{Capabilities}
 use Rattle.naga_ir.specs.ItemReferences.{global_lists}
 use Rattle.naga_ir.specs.declared.ir.Module.{Module}
-use Rattle.naga_ir_types.specs.declared.types.«Type».{«Type»}
+use Rattle.naga_ir.specs.declared.types.«Type».{«Type»}
 use Rattle.naga_types.specs.AcceptedTypes.{judged_by, rule_at, types_rule}
 use Rattle.naga_types.specs.RuleResults.{IsRuleResult, CarriesText}
 use Rattle.naga_types.specs.Surroundings.{Surroundings, form_in}

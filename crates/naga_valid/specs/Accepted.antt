@@ -6,13 +6,13 @@ use Rattle.naga_flags.specs.Bits.{CONSTANTS}
 use Rattle.naga_flags.specs.Flags.{has}
 use Rattle.naga_handles.specs.Faults.{IsFault, IsHandleFault}
 use Rattle.naga_handles.specs.declared.error.ValidationFault.TheVariants.{MissingMember}
-use Rattle.naga_infos.specs.ModuleInfo.{ModuleInfoLists}
-use Rattle.naga_infos.specs.declared.error.ConstExpressionError.{ConstExpressionError}
-use Rattle.naga_infos.specs.declared.error.ConstExpressionError.TheVariants.{Type_ as Unresolved}
+use Rattle.naga_info.specs.ModuleInfo.{ModuleInfoLists}
+use Rattle.naga_info.specs.declared.const_expression_error.ConstExpressionError.{ConstExpressionError}
+use Rattle.naga_info.specs.declared.const_expression_error.ConstExpressionError.TheVariants.{Type_ as Unresolved}
 use Rattle.naga_ir.specs.Handles.{HandlesAccepted}
 use Rattle.naga_ir.specs.ItemReferences.{global_lists}
 use Rattle.naga_ir.specs.declared.ir.Module.{Module}
-use Rattle.naga_ir_types.specs.declared.types.«Type».{«Type»}
+use Rattle.naga_ir.specs.declared.types.«Type».{«Type»}
 use Rattle.naga_types.specs.AcceptedTypes.{AreTypesAccepted, IsLaidOut, types_rule}
 use Rattle.naga_types.specs.declared.error.TypeError.{TypeError}
 use Rattle.naga_types.specs.declared.error.TypeError.TheVariants.{InvalidData}

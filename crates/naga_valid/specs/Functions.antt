@@ -3,19 +3,19 @@ use Rattle.std.specs.Prelude.{◌≡◌, ◌⊎◌, ◌<◌, ◌≤◌, ℕ, Boo
 use Rattle.naga_flags.specs.Bits.{all_stages}
 use Rattle.naga_flags.specs.declared.flags.ShaderStages.{ShaderStages}
 use Rattle.naga_exprs.specs.ExpressionRule.{IsMeant}
-use Rattle.naga_infos.specs.FunctionTypes.{AreFunctionTypes, AreTypesBefore, IsUntyped}
-use Rattle.naga_infos.specs.ModuleInfo.{ModuleInfoLists}
-use Rattle.naga_infos.specs.declared.module_info.FunctionInfo.{FunctionInfo}
+use Rattle.naga_info.specs.FunctionTypes.{AreFunctionTypes, AreTypesBefore, IsUntyped}
+use Rattle.naga_info.specs.ModuleInfo.{ModuleInfoLists}
+use Rattle.naga_info.specs.declared.module_info.FunctionInfo.{FunctionInfo}
 use Rattle.naga_ir.specs.Handles.{FunctionReferencesOk}
 use Rattle.naga_ir.specs.declared.expression.Expression.{Expression}
 use Rattle.naga_ir.specs.declared.expression.Expression.TheVariants as form
 use Rattle.naga_ir.specs.declared.ir.EntryPoint.{EntryPoint}
 use Rattle.naga_ir.specs.declared.ir.Function.{Function}
 use Rattle.naga_ir.specs.declared.ir.Module.{Module}
-use Rattle.naga_math_exprs.specs.Math.{MathTyping}
-use Rattle.naga_operands.specs.Surroundings.{ExpressionSurroundings}
-use Rattle.naga_operands.specs.declared.error.ExpressionError.{ExpressionError}
-use Rattle.naga_operands.specs.declared.error.ExpressionError.TheVariants.{Type_}
+use Rattle.naga_exprs.specs.Math.{MathTyping}
+use Rattle.naga_info.specs.Surroundings.{ExpressionSurroundings}
+use Rattle.naga_info.specs.declared.expression_error.ExpressionError.{ExpressionError}
+use Rattle.naga_info.specs.declared.expression_error.ExpressionError.TheVariants.{Type_}
 use Rattle.naga_typing.specs.Kinds.{AreKinds}
 use Rattle.naga_typing.specs.Typings.{Resolves}
 use Rattle.naga_typing.specs.declared.expression_kind.ExpressionKind.{ExpressionKind}

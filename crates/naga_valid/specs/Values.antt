@@ -1,21 +1,21 @@
 -- The rules of constants and overrides, and of all values of a module.
 use Rattle.std.specs.Prelude.{◌≡◌, ◌==◌, ℕ, Bool as Truth, false, not, List, [], ◌∷◌, ◌++◌, Option, Some, None, Result, Ok, Err, map, slice_get, take, option_map, unwrap_or}
 use Rattle.std.specs.List.{enumerate_from, list_any}
-use Rattle.naga_const_exprs.specs.ConstExpression.{ConstSurroundings, const_expression_rule}
+use Rattle.naga_exprs.specs.ConstExpression.{ConstSurroundings, const_expression_rule}
 use Rattle.naga_flags.specs.Bits.{CONSTRUCTIBLE}
 use Rattle.naga_flags.specs.Flags.{has}
 use Rattle.naga_flags.specs.declared.flags.Capabilities.{Capabilities}
 use Rattle.naga_flags.specs.declared.flags.TypeFlags.{TypeFlags}
-use Rattle.naga_infos.specs.ModuleInfo.{ModuleInfoLists}
+use Rattle.naga_info.specs.ModuleInfo.{ModuleInfoLists}
 use Rattle.naga_ir.specs.declared.expression.Expression.{Expression}
 use Rattle.naga_ir.specs.declared.ir.Constant.{Constant as ConstantItem}
 use Rattle.naga_ir.specs.declared.ir.Module.{Module}
 use Rattle.naga_ir.specs.declared.ir.Override.{Override as OverrideItem}
-use Rattle.naga_ir_types.specs.contracts.types.ScalarPartialEq.TheImpl as of_scalar
-use Rattle.naga_ir_types.specs.declared.types.Scalar.{Scalar as ScalarType}
-use Rattle.naga_ir_types.specs.declared.types.ScalarKind.TheVariants.{Sint, Uint, Float, Bool}
-use Rattle.naga_ir_types.specs.declared.types.TypeInner.{TypeInner}
-use Rattle.naga_ir_types.specs.declared.types.TypeInner.TheVariants.{Scalar, Vector, Matrix, CooperativeMatrix, Atomic, Pointer, ValuePointer, Array, Struct, Image, Sampler, AccelerationStructure, RayQuery, BindingArray}
+use Rattle.naga_ir.specs.contracts.types.ScalarPartialEq.TheImpl as of_scalar
+use Rattle.naga_ir.specs.declared.types.Scalar.{Scalar as ScalarType}
+use Rattle.naga_ir.specs.declared.types.ScalarKind.TheVariants.{Sint, Uint, Float, Bool}
+use Rattle.naga_ir.specs.declared.types.TypeInner.{TypeInner}
+use Rattle.naga_ir.specs.declared.types.TypeInner.TheVariants.{Scalar, Vector, Matrix, CooperativeMatrix, Atomic, Pointer, ValuePointer, Array, Struct, Image, Sampler, AccelerationStructure, RayQuery, BindingArray}
 use Rattle.naga_types.specs.Composing.{is_of, resolution_in}
 use Rattle.naga_types.specs.Judging.{judged, unless}
 use Rattle.naga_typing.specs.Kinds.{AreKinds, is_const}

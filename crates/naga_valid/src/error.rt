@@ -1,7 +1,7 @@
 //! Why a module is refused.
 
 use naga_handles::error::{FwdDepError, InvalidHandleError, ValidationFault};
-use naga_infos::error::ConstExpressionError;
+use naga_info::const_expression_error::ConstExpressionError;
 use naga_ir::handle::{BadHandle, Handle};
 use naga_ir::memory::OutOfMemory;
 use naga_ir::range::BadRangeError;

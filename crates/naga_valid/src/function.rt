@@ -9,13 +9,13 @@ ghost use Rattle.naga_valid.specs.steps.Functions.{AllowInCommon, CanAskRules, I
 use crate::driver::Validator;
 use bitflags::Flags;
 use naga_flags::flags::ShaderStages;
-use naga_infos::infer::{UntypedExpression, infer_types};
-use naga_infos::module_info::{FunctionInfo, ModuleInfo};
+use naga_info::expression_error::ExpressionError;
+use naga_info::infer::{UntypedExpression, infer_types};
+use naga_info::module_info::{FunctionInfo, ModuleInfo};
 use naga_ir::handle::Handle;
 use naga_ir::ir::{Function, Module};
 use naga_ir::memory::OutOfMemory;
 use naga_ir::tags::ExpressionTag;
-use naga_operands::error::ExpressionError;
 use naga_typing::expression_kind::ExpressionKindTracker;
 use naga_typing::typifier::ResolveError;
 use naga_typing::typing::Typing;

@@ -17,7 +17,7 @@ ghost use Rattle.naga_ir.specs.Handles.{HandlesAccepted};
 ghost use Rattle.naga_ir.specs.ItemReferences.{global_lists};
 ghost use Rattle.naga_types.specs.HostLayouts.{HasStorageByLeaves, HasUniformByLeaves, HaveLeafAlignments, IsForHosts, MembersHaveFlags};
 ghost use Rattle.naga_types.specs.HostLeaves.{IsLaidOutForHosts, resolved_for_hosts, sized_for_hosts};
-ghost use Rattle.naga_ir_types.specs.declared.types.TypeInner.{TypeInner};
+ghost use Rattle.naga_ir.specs.declared.types.TypeInner.{TypeInner};
 ghost use Rattle.naga_typing.specs.Leaves.{AreSeparate, EndsInArray, inner_at, size_at_index};
 ghost use Rattle.naga_valid.specs.Accepted.{Accepts, AreValidTypes};
 ghost use Rattle.naga_valid.specs.Functions.{CanJudgeInOrder};
@@ -25,7 +25,7 @@ ghost use Rattle.naga_valid.specs.State.{settings_of};
 
 use crate::driver::Validator;
 use naga_immediates::immediates::ImmediateSlots;
-use naga_infos::module_info::ModuleInfo;
+use naga_info::module_info::ModuleInfo;
 use naga_ir::handle::Handle;
 use naga_ir::ir::Module;
 use naga_ir::tags::TypeTag;

@@ -13,10 +13,10 @@ ghost use Rattle.naga_valid.specs.steps.JudgedValues.{AreFilled, AreJudged, IsFi
 use crate::error::{ConstantError, OverrideError, ValidationError};
 use crate::override_ids::OverrideIds;
 use bitflags::Flags;
-use naga_const_exprs::const_expression::validate_const_expression;
+use naga_exprs::const_expression::validate_const_expression;
 use naga_flags::flags::TypeFlags;
-use naga_infos::context::ExprContext;
-use naga_infos::module_info::ModuleInfo;
+use naga_info::context::ExprContext;
+use naga_info::module_info::ModuleInfo;
 use naga_ir::handle::Handle;
 use naga_ir::ir::{Constant, Module, Override};
 use naga_ir::memory::OutOfMemory;

@@ -1,7 +1,7 @@
 -- What has to be known of an operand that stands for a resource.
 use Rattle.std.specs.Prelude.{◌≡◌, ◌<◌, ℕ, Some, length, slice_get}
 use Rattle.naga_ir.specs.declared.expression.Expression.TheVariants.{FunctionArgument}
-use Rattle.naga_operands.specs.Surroundings.{ExpressionSurroundings}
+use Rattle.naga_info.specs.Surroundings.{ExpressionSurroundings}
 
 -- an expression is one of the function, and if it names an argument, the function has that
 pub record CanLookUp (s : ExpressionSurroundings) (e : ℕ) : Type 0 where

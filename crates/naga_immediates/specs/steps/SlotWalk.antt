@@ -4,7 +4,7 @@ use Rattle.naga_immediates.specs.Slots.{HasSlot, UsesSlot, byte_count, slot_coun
 use Rattle.naga_immediates.specs.declared.immediates.ImmediateSlots.{ImmediateSlots}
 use Rattle.naga_immediates.specs.declared.immediates.SlotWalk.{SlotWalk}
 use Rattle.naga_ir.specs.ItemReferences.{GlobalLists}
-use Rattle.naga_ir_types.specs.declared.types.TypeInner.{TypeInner}
+use Rattle.naga_ir.specs.declared.types.TypeInner.{TypeInner}
 use Rattle.naga_typing.specs.Leaves.{inner_at}
 
 -- a byte that a slot has, if there is one of this number

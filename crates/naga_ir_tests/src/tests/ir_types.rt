@@ -6,11 +6,11 @@ use naga_arena::list::List;
 use naga_arena::range::Range;
 use naga_arena::span::Span;
 use naga_arena::tags::TypeTag;
-use naga_ir_types::alignment::Alignment;
-use naga_ir_types::types::{
+use naga_ir::alignment::Alignment;
+use naga_ir::types::{
     ABSTRACT_WIDTH, BOOL_WIDTH, Scalar, ScalarKind, StructMember, Type, TypeInner, VectorSize,
 };
-use naga_ir_types::unique_arena::UniqueArena;
+use naga_ir::unique_arena::UniqueArena;
 use std::process::Abort;
 
 const U32: Scalar = Scalar {

@@ -2,7 +2,7 @@
 use Rattle.std.specs.Prelude.{◌≡◌, ◌+◌, ◌<◌, ◌≤◌, ℕ, ℤ, Bool as Truth, true, false, Contains, List, Option, Some, None, length, slice_get, ⊤}
 use Rattle.naga_ir.specs.declared.expression.Expression.{Expression}
 use Rattle.naga_ir.specs.declared.expression.Expression.TheVariants as form
-use Rattle.naga_operands.specs.Surroundings.{ExpressionSurroundings}
+use Rattle.naga_info.specs.Surroundings.{ExpressionSurroundings}
 use Rattle.naga_operator_exprs.specs.Integers.{HasForbidden, HasInteger, IsOwnInteger, beside, expression_at, is_forbidden}
 use Rattle.naga_operator_exprs.specs.declared.integers.Forbidden.{Forbidden}
 use Rattle.naga_operator_exprs.specs.declared.integers.Place.{Place}

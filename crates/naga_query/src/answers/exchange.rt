@@ -1,7 +1,7 @@
 //! Answers about the structs that atomic compare-exchanges return.
 
 ghost use Rattle.std.specs.Prelude.{◌<◌, All, IsTrue};
-ghost use Rattle.naga_ir_types.specs.declared.types.StructMember as member;
+ghost use Rattle.naga_ir.specs.declared.types.StructMember as member;
 
 use crate::answers::modules::add_not_applicable;
 use naga_module_text::items::{at_colon, known};

@@ -5,8 +5,11 @@
 ghost use Rattle.std.specs.Prelude.{◌≡◌, IfOk, length};
 
 use super::{add, add_type, all_exist, assert_references_ok, assert_same_for, with_module};
-use naga_exprs::{ConstExpressionError, ExprContext, ModuleInfo, validate_const_expression};
+use naga_exprs::const_expression::validate_const_expression;
 use naga_flags::flags::{Capabilities, ShaderStages};
+use naga_info::const_expression_error::ConstExpressionError;
+use naga_info::context::ExprContext;
+use naga_info::module_info::ModuleInfo;
 use naga_ir::expression::{BinaryOperator, Expression, Literal};
 use naga_ir::handle::Handle;
 use naga_ir::ir::{Module, Override};

@@ -1,16 +1,16 @@
 //! The texts of errors. A table is the list of the errors, and above it their texts, a line for each.
 
 use super::assert_lines;
-use naga_exprs::{ConstExpressionError, LiteralError};
 use naga_flags::flags::Capabilities;
 use naga_flags::width::WidthError;
+use naga_info::const_expression_error::{ConstExpressionError, LiteralError};
+use naga_info::expression_error::ExpressionError;
 use naga_ir::expression::{BinaryOperator, MathFunction, SwizzleComponent, UnaryOperator};
 use naga_ir::handle::Handle;
 use naga_ir::types::{
     ImageClass, ImageDimension, Scalar, ScalarKind, StorageAccess, StorageFormat, TypeInner,
     VectorSize,
 };
-use naga_operands::error::ExpressionError;
 use naga_types::error::ComposeError;
 use naga_typing::index::IndexableLengthError;
 use naga_typing::typifier::ResolveError;

@@ -1,11 +1,11 @@
 //! Infos of modules, filled by hand.
 
 ghost use Rattle.std.specs.Prelude.{◌≡◌, length, OnOk};
-ghost use Rattle.naga_infos.specs.ModuleInfo.{no_lists};
+ghost use Rattle.naga_info.specs.ModuleInfo.{no_lists};
 
 use super::assert_same;
-use naga_exprs::{FunctionInfo, ModuleInfo};
 use naga_flags::flags::{ShaderStages, TypeFlags};
+use naga_info::module_info::{FunctionInfo, ModuleInfo};
 use naga_ir::handle::Handle;
 use naga_ir::memory::OutOfMemory;
 use naga_ir::tags::{ExpressionTag, FunctionTag, TypeTag};

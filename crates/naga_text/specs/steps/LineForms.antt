@@ -6,9 +6,9 @@ use Rattle.naga_ir.specs.declared.expression.Expression.{Expression as Expressio
 use Rattle.naga_ir.specs.declared.expression.Expression.TheVariants as expr
 use Rattle.naga_ir.specs.declared.expression.Literal.{Literal}
 use Rattle.naga_ir.specs.declared.expression.Literal.TheVariants.{F64, F32, F16, U16, I16, U32, I32, U64, I64, Bool, AbstractInt, AbstractFloat}
-use Rattle.naga_ir_types.specs.declared.types.Scalar.{Scalar as ScalarType}
-use Rattle.naga_ir_types.specs.declared.types.TypeInner.{TypeInner}
-use Rattle.naga_ir_types.specs.declared.types.TypeInner.TheVariants.{Scalar, Vector, Matrix, CooperativeMatrix, Atomic, Pointer, ValuePointer, Array, Struct, Image, Sampler, AccelerationStructure, RayQuery, BindingArray}
+use Rattle.naga_ir.specs.declared.types.Scalar.{Scalar as ScalarType}
+use Rattle.naga_ir.specs.declared.types.TypeInner.{TypeInner}
+use Rattle.naga_ir.specs.declared.types.TypeInner.TheVariants.{Scalar, Vector, Matrix, CooperativeMatrix, Atomic, Pointer, ValuePointer, Array, Struct, Image, Sampler, AccelerationStructure, RayQuery, BindingArray}
 use Rattle.naga_text.specs.Tables.{binary_operators, chosen, classes, dimensions, kinds, roles, spaces, truths, unary_operators}
 use Rattle.naga_text.specs.Words.{handle_of, integer_up_to, largest_i16, largest_i32, largest_i64, largest_u16, number_of, number_up_to}
 use Rattle.naga_text.specs.WordForms.{◌>>=◌, array_size_of, cooperative_size_of, member_of, optional_of, pointed_size_of, read_each, size_of}

@@ -2,8 +2,8 @@
 use Rattle.std.specs.Prelude.{◌≡◌, ℕ, ◌<◌, ◌≤◌, Bool, true, false, List, [], ◌∷◌, ◌++◌, Option, Some, None, Result, Ok, Err, length, unwrap_or, Contains, MatchBool, MatchOption, ⊤}
 use Rattle.naga_arena.specs.Numbers.{largest_u32}
 use Rattle.naga_flags.specs.Bits.{all_validation_flags, default_capabilities}
-use Rattle.naga_ir_types.specs.declared.types.«Type».{«Type»}
-use Rattle.naga_ir_types.specs.declared.types.TypeInner.{TypeInner}
+use Rattle.naga_ir.specs.declared.types.«Type».{«Type»}
+use Rattle.naga_ir.specs.declared.types.TypeInner.{TypeInner}
 use Rattle.naga_text.specs.Text.{AreConsistent, AreForms, IsFirstUnreadable, IsReadable, IsText, capabilities_in, first_in, flags_in, module_of, resolved_in}
 use Rattle.naga_text.specs.declared.line.Line.{Line as Line_}
 use Rattle.naga_text.specs.declared.text.Contents.{Contents}

@@ -1,7 +1,7 @@
 -- Components as the code goes over them.
 use Rattle.std.specs.Prelude.{◌<◌, ℕ, Bool as Truth, List, All, length, slice_get, ⊤}
-use Rattle.naga_ir_types.specs.declared.types.«Type».{«Type»}
-use Rattle.naga_ir_types.specs.declared.types.StructMember.{StructMember}
+use Rattle.naga_ir.specs.declared.types.«Type».{«Type»}
+use Rattle.naga_ir.specs.declared.types.StructMember.{StructMember}
 use Rattle.naga_typing.specs.Resolutions.{TypesExist, inner_in}
 use Rattle.naga_typing.specs.declared.typifier.TypeResolution.{TypeResolution}
 use Rattle.naga_types.specs.Composing.{is_of, is_of_member, is_part_of, is_vector_of, resolutions_at}

@@ -1,7 +1,7 @@
 -- A struct as the code judges it.
 use Rattle.std.specs.Prelude.{◌<◌, All, ℕ, zero, suc, Bool, List, Option, is_some}
 use Rattle.std.specs.Option.{option_or}
-use Rattle.naga_ir_types.specs.declared.types.StructMember.{StructMember}
+use Rattle.naga_ir.specs.declared.types.StructMember.{StructMember}
 use Rattle.naga_types.specs.Layouts.{Layout, in_storage, in_uniform}
 use Rattle.naga_types.specs.StructRule.{source_of, source_type, type_of_source}
 use Rattle.naga_types.specs.Surroundings.{Surroundings, surroundings}

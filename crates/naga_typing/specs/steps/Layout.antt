@@ -1,8 +1,8 @@
 -- What the parts of `Layouter::update` and `try_size` rely on.
 use Rattle.std.specs.Prelude.{ℕ, List, Contains, length, ◌<◌, ⊤}
-use Rattle.naga_ir_types.specs.Parts.{parts}
-use Rattle.naga_ir_types.specs.declared.types.TypeInner.{TypeInner}
-use Rattle.naga_ir_types.specs.declared.types.TypeInner.TheVariants.{Scalar, Vector, Matrix, CooperativeMatrix, Atomic, Pointer, ValuePointer, Array, Struct, Image, Sampler, AccelerationStructure, RayQuery, BindingArray}
+use Rattle.naga_ir.specs.Parts.{parts}
+use Rattle.naga_ir.specs.declared.types.TypeInner.{TypeInner}
+use Rattle.naga_ir.specs.declared.types.TypeInner.TheVariants.{Scalar, Vector, Matrix, CooperativeMatrix, Atomic, Pointer, ValuePointer, Array, Struct, Image, Sampler, AccelerationStructure, RayQuery, BindingArray}
 use Rattle.naga_typing.specs.declared.layouter.TypeLayout.{TypeLayout}
 
 -- a form is no array

@@ -1,9 +1,9 @@
 -- What the rows of the code's table of mathematical functions mean.
 use Rattle.std.specs.Prelude.{Bool as Truth, List, Option, Some, map}
-use Rattle.naga_ir_types.specs.declared.types.ScalarKind.{ScalarKind}
-use Rattle.naga_ir_types.specs.declared.types.TypeInner.{TypeInner}
-use Rattle.naga_ir_types.specs.declared.types.TypeInner.TheVariants.{Scalar, Vector}
-use Rattle.naga_ir_types.specs.declared.types.VectorSize.TheVariants.{Bi}
+use Rattle.naga_ir.specs.declared.types.ScalarKind.{ScalarKind}
+use Rattle.naga_ir.specs.declared.types.TypeInner.{TypeInner}
+use Rattle.naga_ir.specs.declared.types.TypeInner.TheVariants.{Scalar, Vector}
+use Rattle.naga_ir.specs.declared.types.VectorSize.TheVariants.{Bi}
 use Rattle.naga_typing.specs.Math as spec
 use Rattle.naga_typing.specs.Math.{consists_of, f32_scalar, u32_scalar}
 use Rattle.naga_typing.specs.declared.math.ConclusionRule.{ConclusionRule}

@@ -3,7 +3,7 @@ use Rattle.std.specs.Prelude.{◌≡◌, ◌⊎◌, ◌<◌, ◌≤◌, ℕ, Lis
 use Rattle.naga_flags.specs.declared.flags.ShaderStages.{ShaderStages}
 use Rattle.naga_ir.specs.Handles.{ExpressionReferencesOk, HandlesAccepted}
 use Rattle.naga_ir.specs.ItemReferences.{global_lists}
-use Rattle.naga_operands.specs.declared.error.ExpressionError.{ExpressionError}
+use Rattle.naga_info.specs.declared.expression_error.ExpressionError.{ExpressionError}
 use Rattle.naga_typing.specs.Resolutions.{ResolutionExists}
 use Rattle.naga_typing.specs.declared.typifier.TypeResolution.{TypeResolution}
 use Rattle.naga_valid.specs.Functions.{AreTypesReached, CallsBefore, FunctionSurroundings, IsMeantAt, KeepRules, common_stages}

@@ -4,8 +4,8 @@ use Rattle.naga_arena.specs.InOrder.{IsFirstRefusalInOrder}
 use Rattle.naga_arena.specs.Results.{IsFirstRefusal}
 use Rattle.naga_ir.specs.Handles.{HandlesAccepted}
 use Rattle.naga_ir.specs.declared.ir.Module.{Module}
-use Rattle.naga_infos.specs.ModuleInfo.{ModuleInfoLists}
-use Rattle.naga_infos.specs.declared.error.ConstExpressionError.TheVariants.{Type_ as Unresolved}
+use Rattle.naga_info.specs.ModuleInfo.{ModuleInfoLists}
+use Rattle.naga_info.specs.declared.const_expression_error.ConstExpressionError.TheVariants.{Type_ as Unresolved}
 use Rattle.naga_typing.specs.Resolutions.{TypesExist}
 use Rattle.naga_typing.specs.Typings.{Resolves, resolve_in_order}
 use Rattle.naga_typing.specs.declared.expression_kind.ExpressionKind.{ExpressionKind}

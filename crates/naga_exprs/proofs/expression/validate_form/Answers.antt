@@ -2,15 +2,15 @@ use Rattle.std.proofs.Common.{◌≡◌, ◌<◌, ◌⊎◌, All, Bool, List, Ok
 use Rattle.naga_flags.specs.declared.flags.ShaderStages.{ShaderStages}
 use Rattle.naga_ir.specs.declared.expression.Expression.{Expression}
 use Rattle.naga_exprs.specs.ExpressionRule.{IsExpressionReturned, IsMeant}
-use Rattle.naga_operands.specs.declared.error.ExpressionError.{ExpressionError}
+use Rattle.naga_info.specs.declared.expression_error.ExpressionError.{ExpressionError}
 use Rattle.naga_image_exprs.specs.Samples.{IsImageSampleReturned, expression_of}
 use Rattle.naga_image_exprs.specs.declared.sample.Sample.{Sample}
 use Rattle.naga_exprs.proofs.KnownOperands.{components_typed, composed_type, condition_of_select, index_of_access, left_of_multiply_add, of_array_length, of_cooperative_load, of_intersection, of_load, of_vertices, reject_of_select, right_of_multiply_add, summand_of_multiply_add, there, typed, workgroup_load_type, zero_type}
 use Rattle.naga_exprs.proofs.expression.validate_form.Goals as goal
 use Rattle.naga_ir.specs.declared.expression.Expression.TheVariants as form
-use Rattle.naga_math_exprs.specs.Math.{MathTyping}
-use Rattle.naga_operands.specs.Stages.{every_stage}
-use Rattle.naga_operands.specs.Surroundings.{ExpressionSurroundings, IsJudgeable, surroundings}
+use Rattle.naga_exprs.specs.Math.{MathTyping}
+use Rattle.naga_info.specs.Stages.{every_stage}
+use Rattle.naga_info.specs.Surroundings.{ExpressionSurroundings, IsJudgeable, surroundings}
 use Rattle.naga_typing.proofs.FormOperands.{accepted_of_select, left_of_binary, of_access, of_access_index, of_as, of_derivative, of_relational, of_splat, of_swizzle, of_unary, right_of_binary}
 
 pub validate_access-requires-clause-base : goal.validate_access-requires-clause-base

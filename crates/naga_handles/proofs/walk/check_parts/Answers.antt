@@ -1,5 +1,5 @@
 use Rattle.std.proofs.Common.{◌∙◌, ◌<◌, rules}
-use Rattle.naga_ir_types.specs.Parts.{parts}
+use Rattle.naga_ir.specs.Parts.{parts}
 use Rattle.naga_handles.proofs.PlacesBefore.{all_below, none_below, one_below}
 use Rattle.naga_handles.proofs.walk.check_parts.Goals as goal
 

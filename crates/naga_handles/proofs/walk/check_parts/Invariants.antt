@@ -1,4 +1,4 @@
-use Rattle.naga_ir_types.specs.Parts.{parts}
+use Rattle.naga_ir.specs.Parts.{parts}
 use Rattle.naga_handles.proofs.PlacesBefore.{Below}
 use Rattle.naga_handles.proofs.walk.check_parts.Given as goal
 

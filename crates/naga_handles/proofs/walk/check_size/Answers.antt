@@ -1,7 +1,7 @@
 use Rattle.std.proofs.Common.{◌≤◌, ◌<◌, ◌∙◌, sym, subst, ap, length, ℕ, rules}
 use Rattle.std.proofs.lemmas.Option.{same_Some}
 use Rattle.naga_ir.specs.ItemReferences.{global_lists}
-use Rattle.naga_ir_types.specs.Parts.{size_override}
+use Rattle.naga_ir.specs.Parts.{size_override}
 use Rattle.naga_handles.specs.Faults.{initialiser, size}
 use Rattle.naga_handles.proofs.OrderFaults.{late_size, no_size, size_none, size_some, size_stands}
 use Rattle.naga_handles.proofs.walk.check_size.Goals as goal

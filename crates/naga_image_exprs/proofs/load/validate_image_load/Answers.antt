@@ -9,8 +9,8 @@ use Rattle.naga_image_exprs.specs.Loads.{load_conditions}
 use Rattle.naga_ir.specs.References.{operands}
 use Rattle.naga_ir.specs.declared.expression.Expression.{Expression}
 use Rattle.naga_ir.specs.declared.expression.Expression.TheVariants.{ImageLoad}
-use Rattle.naga_operands.specs.Stages.{every_stage}
-use Rattle.naga_operands.specs.Surroundings.{surroundings}
+use Rattle.naga_info.specs.Stages.{every_stage}
+use Rattle.naga_info.specs.Surroundings.{surroundings}
 
 pub image_at-requires-clause-known : goal.image_at-requires-clause-known
 image_at-requires-clause-known c =

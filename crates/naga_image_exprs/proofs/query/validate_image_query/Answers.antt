@@ -5,7 +5,7 @@ use Rattle.naga_image_exprs.proofs.query.validate_image_query.Goals as goal
 use Rattle.naga_ir.specs.References.{operands}
 use Rattle.naga_ir.specs.declared.expression.Expression.{Expression}
 use Rattle.naga_ir.specs.declared.expression.Expression.TheVariants.{ImageQuery}
-use Rattle.naga_operands.specs.Surroundings.{surroundings}
+use Rattle.naga_info.specs.Surroundings.{surroundings}
 
 pub image_at-requires-clause-known : goal.image_at-requires-clause-known
 image_at-requires-clause-known c =

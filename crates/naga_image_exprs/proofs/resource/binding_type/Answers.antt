@@ -1,6 +1,6 @@
 use Rattle.naga_image_exprs.proofs.Places.{binding_type_exists, variable_type_exists}
 use Rattle.naga_image_exprs.proofs.resource.binding_type.Goals as goal
-use Rattle.naga_operands.specs.Surroundings.{surroundings}
+use Rattle.naga_info.specs.Surroundings.{surroundings}
 
 pub index-requires-2 : goal.index-requires-2
 index-requires-2 c = variable_type_exists (surroundings c.args.context) c.requires.sound c.args.variable c.index.result.now c.index.ensures

@@ -7,8 +7,8 @@ use Rattle.naga_image_exprs.proofs.resource.global_var_ty.Goals.{in-Access, in-A
 use Rattle.naga_image_exprs.specs.Resources.{source_in, type_of_source}
 use Rattle.naga_ir.specs.declared.expression.Expression.{Expression}
 use Rattle.naga_ir.specs.declared.ir.FunctionArgument.{FunctionArgument}
-use Rattle.naga_operands.specs.Surroundings.{surroundings}
-use Rattle.naga_operands.specs.declared.error.ExpressionError.TheVariants.{ExpectedGlobalVariable}
+use Rattle.naga_info.specs.Surroundings.{surroundings}
+use Rattle.naga_info.specs.declared.expression_error.ExpressionError.TheVariants.{ExpectedGlobalVariable}
 
 pub index-requires-in-GlobalVariable : goal.index-requires-in-GlobalVariable
 index-requires-in-GlobalVariable c = variable_exists (surroundings c.args.context) c.requires.sound c.args.expression c.in-GlobalVariable.variable (c.index.ensures ∙ ap Some c.in-GlobalVariable.is)

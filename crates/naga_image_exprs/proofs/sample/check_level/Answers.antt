@@ -4,8 +4,8 @@ use Rattle.naga_image_exprs.proofs.FirstConditions.{broken_at, second_decides}
 use Rattle.naga_image_exprs.proofs.sample.check_level.Goals as goal
 use Rattle.naga_image_exprs.specs.Samples.{bad_derivative, bad_level}
 use Rattle.naga_ir.specs.declared.expression.SampleLevel.{SampleLevel}
-use Rattle.naga_operands.specs.Surroundings.{surroundings}
-use Rattle.naga_operands.specs.declared.error.ExpressionError.{ExpressionError}
+use Rattle.naga_info.specs.Surroundings.{surroundings}
+use Rattle.naga_info.specs.declared.expression_error.ExpressionError.{ExpressionError}
 use Rattle.naga_types.specs.Judging.{granted}
 
 pub returns-in_err-check_derivative-in-Gradient : goal.returns-in_err-check_derivative-in-Gradient

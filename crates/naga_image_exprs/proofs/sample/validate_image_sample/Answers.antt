@@ -8,7 +8,7 @@ use Rattle.naga_image_exprs.proofs.Texts.{empty_text}
 use Rattle.naga_image_exprs.proofs.sample.validate_image_sample.Goals as goal
 use Rattle.naga_image_exprs.specs.Samples.{expression_of, level_stages, sample_conditions}
 use Rattle.naga_ir.specs.References.{operands}
-use Rattle.naga_operands.specs.Surroundings.{surroundings}
+use Rattle.naga_info.specs.Surroundings.{surroundings}
 
 pub sampled-requires-clause-image : goal.sampled-requires-clause-image
 sampled-requires-clause-image c =

@@ -1,6 +1,6 @@
 use Rattle.std.proofs.Common.{rules, ◌≡◌, sym, ap, ◌∙◌, true, false, true≢false}
 use Rattle.std.specs.Prelude.{Ok}
-use Rattle.naga_operands.specs.Surroundings.{surroundings}
+use Rattle.naga_info.specs.Surroundings.{surroundings}
 use Rattle.naga_operator_exprs.proofs.BinaryResults.{of_allowed, of_forbidden, of_misfit, of_no_rule}
 use Rattle.naga_operator_exprs.proofs.binary.validate_binary.Goals as goal
 

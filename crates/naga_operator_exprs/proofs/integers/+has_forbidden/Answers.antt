@@ -1,7 +1,7 @@
 use Rattle.std.proofs.Common.{◌≡◌, ◌<◌, ◌≤◌, ◌+◌, ap, ℕ, Bool, Contains, List, Some, false, get_or, length, slice_get, true, refl, sym, subst, arith, ◌∙◌, rules}
 use Rattle.std.proofs.lemmas.Option.{slice_get_read}
 use borrow.Author.Count.{below_more}
-use Rattle.naga_operands.specs.Surroundings.{ExpressionSurroundings, surroundings}
+use Rattle.naga_info.specs.Surroundings.{ExpressionSurroundings, surroundings}
 use Rattle.naga_operator_exprs.proofs.Places.{type_exists}
 use Rattle.naga_operator_exprs.proofs.Sources.{by_itself, component_before, component_exists}
 use Rattle.naga_operator_exprs.proofs.integers.+has_forbidden.Goals as goal

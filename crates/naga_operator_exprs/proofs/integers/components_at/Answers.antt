@@ -1,6 +1,6 @@
 use Rattle.std.proofs.Common.{◌≡◌, ℕ, List, Some, ap, subst, sym, ◌∙◌}
 use Rattle.naga_ir.specs.declared.expression.Expression.TheVariants as form
-use Rattle.naga_operands.specs.Surroundings.{surroundings}
+use Rattle.naga_info.specs.Surroundings.{surroundings}
 use Rattle.naga_operator_exprs.proofs.integers.components_at.Goals as goal
 use Rattle.naga_operator_exprs.specs.Integers.{expression_at}
 

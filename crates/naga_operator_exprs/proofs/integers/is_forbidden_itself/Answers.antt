@@ -2,7 +2,7 @@ use Rattle.std.proofs.Common.{◌≡◌, ◌<◌, IfSome, ℕ, length, ℤ, pos,
 use Rattle.naga_ir.specs.References.{named_type}
 use Rattle.naga_ir.specs.declared.expression.Expression.TheVariants as form
 use Rattle.naga_ir.specs.declared.expression.Literal.{Literal}
-use Rattle.naga_operands.specs.Surroundings.{ExpressionSurroundings, surroundings}
+use Rattle.naga_info.specs.Surroundings.{ExpressionSurroundings, surroundings}
 use Rattle.naga_operator_exprs.proofs.integers.is_forbidden_itself.Goals as goal
 use Rattle.naga_operator_exprs.specs.Integers.{integer_of, literal_value, zero_value}
 use Rattle.naga_operator_exprs.specs.declared.integers.Forbidden.{Forbidden}

@@ -1,5 +1,5 @@
 use Rattle.std.proofs.Common.{◌≡◌, ℕ, Some, Contains, List, get_or, length, sym, ap, subst, arith, ◌∙◌, [], ◌∷◌}
-use Rattle.naga_operands.specs.Surroundings.{surroundings}
+use Rattle.naga_info.specs.Surroundings.{surroundings}
 use Rattle.naga_operator_exprs.proofs.Places.{constant_exists}
 use Rattle.naga_operator_exprs.proofs.Sources.{component_source, constant_source, splat_source}
 use Rattle.naga_operator_exprs.proofs.integers.only_source.Goals as goal

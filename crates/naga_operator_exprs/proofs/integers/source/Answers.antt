@@ -1,4 +1,4 @@
-use Rattle.naga_operands.specs.Surroundings.{surroundings}
+use Rattle.naga_info.specs.Surroundings.{surroundings}
 use Rattle.naga_operator_exprs.proofs.Sources.{begin, follow}
 use Rattle.naga_operator_exprs.proofs.integers.source.Goals as goal
 

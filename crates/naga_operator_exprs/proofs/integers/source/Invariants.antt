@@ -1,4 +1,4 @@
-use Rattle.naga_operands.specs.Surroundings.{surroundings}
+use Rattle.naga_info.specs.Surroundings.{surroundings}
 use Rattle.naga_operator_exprs.specs.steps.Places.{IsSourceOrItself, rank}
 use Rattle.naga_operator_exprs.proofs.integers.source.Given as goal
 

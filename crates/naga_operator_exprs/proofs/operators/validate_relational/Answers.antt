@@ -1,7 +1,7 @@
 use Rattle.std.proofs.Common.{rules, ◌≡◌, ◌∙◌, ap, Option, Some, None}
 use Rattle.std.specs.Prelude.{Err}
-use Rattle.naga_ir_types.specs.declared.types.TypeInner.{TypeInner}
-use Rattle.naga_operands.specs.Stages.{every_stage}
+use Rattle.naga_ir.specs.declared.types.TypeInner.{TypeInner}
+use Rattle.naga_info.specs.Stages.{every_stage}
 use Rattle.naga_operator_exprs.proofs.operators.validate_relational.Goals as goal
 use Rattle.naga_operator_exprs.specs.Operators.{bad_argument}
 use Rattle.naga_types.specs.Judging.{granted}

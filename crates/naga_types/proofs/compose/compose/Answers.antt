@@ -1,5 +1,5 @@
 use Rattle.std.proofs.Common.{◌<◌, All, length, sym, subst}
-use Rattle.naga_ir_types.specs.declared.types.StructMember.{StructMember}
+use Rattle.naga_ir.specs.declared.types.StructMember.{StructMember}
 use Rattle.naga_types.proofs.ComposeLemmas.{base_exists, members_exist}
 use Rattle.naga_types.proofs.compose.compose.Goals as goal
 

@@ -2,7 +2,7 @@ use Rattle.std.proofs.Common.{◌≡◌, ◌∙◌, ap, arith, Bool, true, Bor, 
 use Rattle.std.specs.Prelude.{◌&&◌, leb}
 use Rattle.std.proofs.lemmas.Bool.{le-leb}
 use Rattle.std.proofs.lemmas.List.{at_drop_all, length-map}
-use Rattle.naga_ir_types.specs.declared.types.TypeInner.{TypeInner}
+use Rattle.naga_ir.specs.declared.types.TypeInner.{TypeInner}
 use Rattle.naga_typing.specs.Math.{are_taken}
 use Rattle.naga_typing.specs.steps.Math.{takes_further}
 use Rattle.naga_typing.proofs.math.takes_each.Goals as goal

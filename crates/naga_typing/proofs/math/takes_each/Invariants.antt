@@ -1,5 +1,5 @@
 use Rattle.std.proofs.Common.{◌≡◌, Bor, drop, map}
-use Rattle.naga_ir_types.specs.declared.types.TypeInner.{TypeInner}
+use Rattle.naga_ir.specs.declared.types.TypeInner.{TypeInner}
 use Rattle.naga_typing.specs.Math.{are_taken}
 use Rattle.naga_typing.specs.steps.Math.{takes_further}
 use Rattle.naga_typing.proofs.math.takes_each.Given as goal

@@ -1,5 +1,5 @@
 use Rattle.std.proofs.Common.{rules, ◌≡◌}
-use Rattle.naga_ir_types.proofs.SameInner.{inner_decides}
+use Rattle.naga_ir.proofs.SameInner.{inner_decides}
 use Rattle.naga_typing.specs.Resolutions.{canonical}
 use Rattle.naga_typing.proofs.typifier.are_equivalent.Goals as goal
 

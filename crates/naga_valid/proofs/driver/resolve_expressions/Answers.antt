@@ -4,8 +4,8 @@ use Rattle.std.proofs.lemmas.Option.{slice_get_within}
 use Rattle.naga_arena.proofs.InOrder.{none_follow, one_more_follows}
 use Rattle.naga_arena.specs.InOrder.{given_at}
 use Rattle.naga_arena.specs.Span.{inner_of}
-use Rattle.naga_infos.specs.ModuleInfo.{ModuleInfoLists}
-use Rattle.naga_infos.specs.declared.error.ConstExpressionError.TheVariants.{Type_ as Unresolved}
+use Rattle.naga_info.specs.ModuleInfo.{ModuleInfoLists}
+use Rattle.naga_info.specs.declared.const_expression_error.ConstExpressionError.TheVariants.{Type_ as Unresolved}
 use Rattle.naga_ir.specs.ItemReferences.{global_lists}
 use Rattle.naga_typing.proofs.ExpressionTypes.{all_resolved, can_resolve_next, index, none_resolved, one_resolved, there}
 use Rattle.naga_typing.specs.PlainLaws.{types_exist}

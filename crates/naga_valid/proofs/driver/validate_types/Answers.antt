@@ -3,7 +3,7 @@ use Rattle.std.proofs.lemmas.List.{map-append}
 use Rattle.std.proofs.lemmas.Option.{slice_get_within}
 use Rattle.naga_arena.proofs.InOrder.{none_follow, one_more_follows}
 use Rattle.naga_arena.specs.InOrder.{given_at}
-use Rattle.naga_infos.specs.ModuleInfo.{ModuleInfoLists}
+use Rattle.naga_info.specs.ModuleInfo.{ModuleInfoLists}
 use Rattle.naga_flags.specs.declared.flags.TypeFlags.{TypeFlags}
 use Rattle.naga_ir.specs.ItemReferences.{global_lists}
 use Rattle.naga_types.specs.AcceptedTypes.{types_rule}

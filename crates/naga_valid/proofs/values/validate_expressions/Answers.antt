@@ -2,12 +2,12 @@ use Rattle.std.proofs.Common.{◌≡◌, ◌+◌, ◌<◌, ◌∙◌, ℕ, Bool,
 use Rattle.std.proofs.lemmas.Option.{slice_get_within}
 use Rattle.naga_arena.specs.Results.{IsFirstRefusal}
 use Rattle.naga_arena.specs.Span.{inner_of}
-use Rattle.naga_const_exprs.specs.ConstExpression.{const_expression_rule}
-use Rattle.naga_infos.specs.declared.error.ConstExpressionError.{ConstExpressionError}
+use Rattle.naga_exprs.specs.ConstExpression.{const_expression_rule}
+use Rattle.naga_info.specs.declared.const_expression_error.ConstExpressionError.{ConstExpressionError}
 use Rattle.naga_ir.proofs.Handles.{global_references_ok}
 use Rattle.naga_ir.specs.Handles.{GlobalReferencesOk}
 use Rattle.naga_ir.specs.declared.expression.Expression.{Expression}
-use Rattle.naga_ir_types.specs.declared.types.«Type».{«Type»}
+use Rattle.naga_ir.specs.declared.types.«Type».{«Type»}
 use Rattle.naga_typing.specs.declared.expression_kind.ExpressionKind.{ExpressionKind}
 use Rattle.naga_typing.specs.declared.typifier.TypeResolution.{TypeResolution}
 use Rattle.naga_valid.proofs.ItemsInOrder.{accepted_unless, all_accepted, begin, first_refused, next_item, one_more}

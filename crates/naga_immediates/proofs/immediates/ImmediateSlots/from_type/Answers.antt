@@ -2,7 +2,7 @@ use Rattle.std.proofs.Common.{ap, refl, sym, ◌∙◌, arith}
 use Rattle.naga_immediates.proofs.SlotParts.{member_exists, passes_on, plain, starts, used_by_other, walked, walks_on}
 use Rattle.naga_immediates.proofs.SlotSets.{exactly_too}
 use Rattle.naga_immediates.specs.Slots.{SharesByte, UsesSlot, lists_with}
-use Rattle.naga_ir_types.specs.declared.types.TypeInner.TheVariants.{Struct}
+use Rattle.naga_ir.specs.declared.types.TypeInner.TheVariants.{Struct}
 use Rattle.naga_typing.specs.Layout.{size_of}
 use Rattle.naga_immediates.proofs.immediates.ImmediateSlots.from_type.Goals as goal
 use Rattle.naga_immediates.proofs.immediates.ImmediateSlots.from_type.Goals.{in-Some, in_default-member_byte}

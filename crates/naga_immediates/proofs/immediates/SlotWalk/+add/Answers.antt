@@ -10,7 +10,7 @@ use Rattle.naga_immediates.specs.declared.immediates.ImmediateSlots.{ImmediateSl
 use Rattle.naga_immediates.specs.declared.immediates.SlotWalk.{SlotWalk}
 use Rattle.naga_immediates.specs.steps.SlotWalk.{Gains, KnowsNoted, TypeUses, place_of}
 use Rattle.naga_ir.specs.ItemReferences.{GlobalLists}
-use Rattle.naga_ir_types.specs.declared.types.TypeInner.TheVariants.{Struct}
+use Rattle.naga_ir.specs.declared.types.TypeInner.TheVariants.{Struct}
 use Rattle.naga_typing.proofs.Existence.{references_exist}
 use Rattle.naga_typing.specs.Context.{lists_of}
 use Rattle.naga_typing.specs.Layout.{size_of}

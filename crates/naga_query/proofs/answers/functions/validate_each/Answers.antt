@@ -1,5 +1,5 @@
 use Rattle.std.proofs.Common.{◌∙◌, ap, inl, subst, sym}
-use Rattle.naga_infos.specs.declared.module_info.FunctionInfo.{FunctionInfo}
+use Rattle.naga_info.specs.declared.module_info.FunctionInfo.{FunctionInfo}
 use Rattle.naga_query.proofs.Validation.{known_before_next}
 use Rattle.naga_query.proofs.answers.functions.validate_each.Goals as goal
 use Rattle.naga_typing.proofs.ExpressionTypes.{can_resolve_in_function, none_typed, one_typed}

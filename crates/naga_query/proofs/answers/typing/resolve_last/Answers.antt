@@ -1,5 +1,5 @@
 use Rattle.std.proofs.Common.{◌∙◌, ap, subst, sym}
-use Rattle.naga_infos.specs.declared.module_info.FunctionInfo.{FunctionInfo}
+use Rattle.naga_info.specs.declared.module_info.FunctionInfo.{FunctionInfo}
 use Rattle.naga_query.proofs.answers.typing.resolve_last.Goals as goal
 use Rattle.naga_typing.proofs.ExpressionTypes.{can_resolve_in_function, none_typed, one_typed}
 use Rattle.naga_typing.specs.Typings.{CanResolve}

@@ -1,6 +1,6 @@
 use Rattle.std.proofs.Common.{rules, ◌≡◌, ◌<◌, ap, get_or, length, subst, sym, arith}
 use Rattle.std.specs.Prelude.{Err}
-use Rattle.naga_ir_types.specs.declared.types.StructMember.{StructMember}
+use Rattle.naga_ir.specs.declared.types.StructMember.{StructMember}
 use Rattle.naga_types.specs.RuleResults.{IsRuleResult}
 use Rattle.naga_types.specs.Judging.{first, judged}
 use Rattle.naga_types.specs.StructRule as rule

@@ -1,6 +1,6 @@
 use Rattle.std.proofs.Common.{◌≡◌, map, drop, bit_and}
 use Rattle.std.specs.Prelude.{fold}
-use Rattle.naga_ir_types.specs.declared.types.StructMember.{StructMember}
+use Rattle.naga_ir.specs.declared.types.StructMember.{StructMember}
 use Rattle.naga_types.specs.StructRule.{common_flags}
 use Rattle.naga_types.specs.steps.Structs.{surroundings_of}
 use Rattle.naga_types.specs.Surroundings.{flags_at}

@@ -1,6 +1,6 @@
 use Rattle.std.proofs.Common.{rules, ◌≡◌, ◌∙◌, max, ap}
 use Rattle.std.specs.Result.{result_unwrap_or}
-use Rattle.naga_ir_types.specs.declared.types.StructMember.{StructMember}
+use Rattle.naga_ir.specs.declared.types.StructMember.{StructMember}
 use Rattle.naga_types.specs.Layouts.{Layout}
 use Rattle.naga_types.specs.Surroundings.{info_at}
 use Rattle.naga_types.specs.steps.Structs.{layout_in, surroundings_of}

@@ -1,6 +1,6 @@
 use Rattle.std.proofs.Common.{◌≡◌, map, take}
 use Rattle.std.specs.Result.{result_unwrap_or}
-use Rattle.naga_ir_types.specs.declared.types.StructMember.{StructMember}
+use Rattle.naga_ir.specs.declared.types.StructMember.{StructMember}
 use Rattle.naga_types.specs.Surroundings.{info_at}
 use Rattle.naga_types.specs.steps.Structs.{layout_in, surroundings_of}
 use Rattle.naga_typing.specs.Layout.{greatest}

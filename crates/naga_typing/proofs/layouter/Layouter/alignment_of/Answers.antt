@@ -1,6 +1,6 @@
 use Rattle.std.proofs.Common.{◌<◌, ℕ, All, length, subst, sym}
-use Rattle.naga_ir_types.specs.declared.types.StructMember.{StructMember}
-use Rattle.naga_ir_types.proofs.PartLemmas.{base_is, members_are}
+use Rattle.naga_ir.specs.declared.types.StructMember.{StructMember}
+use Rattle.naga_ir.proofs.PartLemmas.{base_is, members_are}
 use Rattle.naga_typing.proofs.layouter.Layouter.alignment_of.Goals as goal
 
 pub index-requires : goal.index-requires

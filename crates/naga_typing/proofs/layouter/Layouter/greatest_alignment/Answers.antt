@@ -1,6 +1,6 @@
 use Rattle.std.proofs.Common.{◌≡◌, ◌<◌, ◌≤◌, max, rules, sym, ap, ◌∙◌, arith}
 use Rattle.std.proofs.Math.Nat.{max-eq_left, max-eq_right}
-use Rattle.naga_ir_types.specs.declared.types.StructMember.{StructMember}
+use Rattle.naga_ir.specs.declared.types.StructMember.{StructMember}
 use Rattle.naga_typing.specs.Layout.{alignment_at, alignment_in}
 use Rattle.naga_typing.proofs.GreatestAlignment.{greatest_more}
 use Rattle.naga_typing.proofs.layouter.Layouter.greatest_alignment.Goals.{then-gt, else-gt}

@@ -1,5 +1,5 @@
 use Rattle.std.proofs.Common.{◌≡◌, map, take}
-use Rattle.naga_ir_types.specs.declared.types.StructMember.{StructMember}
+use Rattle.naga_ir.specs.declared.types.StructMember.{StructMember}
 use Rattle.naga_typing.specs.Layout.{alignment_at, greatest}
 use Rattle.naga_typing.proofs.layouter.Layouter.greatest_alignment.Given as goal
 

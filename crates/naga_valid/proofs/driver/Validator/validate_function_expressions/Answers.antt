@@ -1,7 +1,7 @@
 use Rattle.std.proofs.Common.{rules, ◌≡◌, ⊎_elim, inl, inr, sym, subst}
 use Rattle.std.proofs.lemmas.Result.{err_from_is_err_and}
-use Rattle.naga_infos.specs.FunctionTypes.{AreFunctionTypes, AreTypesBefore, IsUntyped}
-use Rattle.naga_operands.specs.declared.error.ExpressionError.{ExpressionError}
+use Rattle.naga_info.specs.FunctionTypes.{AreFunctionTypes, AreTypesBefore, IsUntyped}
+use Rattle.naga_info.specs.declared.expression_error.ExpressionError.{ExpressionError}
 use Rattle.naga_typing.specs.declared.typifier.ResolveError.TheVariants as unresolved
 use Rattle.naga_valid.proofs.FunctionRules.{all_accepted, breach_as_refuses, first_untyped, untyped_refuses}
 use Rattle.naga_valid.specs.Functions.{RefusesFunction, function_surroundings}

@@ -1,7 +1,7 @@
 use Rattle.std.proofs.Common.{rules, ◌≡◌, ◌≤◌, ◌<◌, ◌∙◌, ℕ, inr, length, ap, arith}
 use Rattle.bitflags.specs.Sets.{known_from}
 use Rattle.naga_flags.specs.declared.flags.ShaderStages.{ShaderStages}
-use Rattle.naga_operands.specs.declared.error.ExpressionError.TheVariants as refusal
+use Rattle.naga_info.specs.declared.expression_error.ExpressionError.TheVariants as refusal
 use Rattle.naga_valid.proofs.FunctionRules.{all_asked, allowed_at, can_judge_next, enough_asked, next_there, none_asked, one_allowed, one_breach, refused_at}
 use Rattle.naga_valid.specs.Functions.{function_surroundings}
 use Rattle.naga_valid.proofs.driver.Validator.validate_rules.Goals as goal

@@ -1,7 +1,7 @@
 use Rattle.std.proofs.Common.{rules, ◌≡◌, ◌∙◌, ⊎_elim, List, Result, IsTrue, inl, inr, ap, subst}
 use Rattle.std.proofs.lemmas.Result.{err_from_is_err_and}
 use Rattle.naga_arena.specs.Span.{inner_of}
-use Rattle.naga_infos.specs.ModuleInfo.{ModuleInfoLists}
+use Rattle.naga_info.specs.ModuleInfo.{ModuleInfoLists}
 use Rattle.naga_valid.proofs.Refusals.{unresolved_refuses, value_refuses}
 use Rattle.naga_valid.specs.Accepted.{Accepts, IsKnown, Refuses, checks_values, lists_of}
 use Rattle.naga_valid.specs.State.{Facts, Settings, settings_of}

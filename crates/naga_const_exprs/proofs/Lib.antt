@@ -1,2 +1,0 @@
-mod Operands
-pub mod OverrideValues

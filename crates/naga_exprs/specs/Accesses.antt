@@ -1,0 +1,120 @@
+-- The rules of accesses to parts of values.
+use Rattle.std.specs.Prelude.{◌≡◌, ltb, ℕ, Bool as Truth, true, false, List, [], ◌∷◌, Option, Some, None, Result, Ok, Err, length, slice_get}
+use Rattle.naga_arena.specs.Numbers.{largest_u32}
+use Rattle.naga_flags.specs.declared.flags.ShaderStages.{ShaderStages}
+use Rattle.naga_ir.specs.ItemReferences.{GlobalLists, global_lists}
+use Rattle.naga_ir.specs.Sizes.{components}
+use Rattle.naga_ir.specs.declared.types.«Type».{«Type»}
+use Rattle.naga_ir.specs.declared.types.ArraySize.{ArraySize}
+use Rattle.naga_ir.specs.declared.types.ArraySize.TheVariants as size
+use Rattle.naga_ir.specs.declared.types.TypeInner.{TypeInner}
+use Rattle.naga_ir.specs.declared.types.TypeInner.TheVariants.{Scalar, Vector, Matrix, CooperativeMatrix, Atomic, Pointer, ValuePointer, Array, Struct, Image, Sampler, AccelerationStructure, RayQuery, BindingArray}
+use Rattle.naga_info.specs.Stages.{every_stage}
+use Rattle.naga_info.specs.Surroundings.{ExpressionSurroundings, form_at}
+use Rattle.naga_info.specs.Words.{is_integer_scalar}
+use Rattle.naga_info.specs.declared.expression_error.ExpressionError.{ExpressionError}
+use Rattle.naga_info.specs.declared.expression_error.ExpressionError.TheVariants as refusal
+use Rattle.naga_types.specs.Judging.{granted, judged, unless}
+use Rattle.naga_typing.specs.Constants.{index_of}
+use Rattle.naga_typing.specs.Index.{IsLength, LengthOfArray, pending_length, resolved_length}
+use Rattle.naga_typing.specs.Resolutions.{inner_in}
+use Rattle.naga_typing.specs.declared.context.ConstValueError.{ConstValueError}
+use Rattle.naga_typing.specs.declared.context.ConstValueError.TheVariants.{InvalidType, Negative, NonConst}
+use Rattle.naga_typing.specs.declared.index.IndexableLength.{IndexableLength}
+use Rattle.naga_typing.specs.declared.index.IndexableLength.TheVariants.{Known, Pending, Dynamic}
+use Rattle.naga_typing.specs.declared.index.IndexableLengthError.{IndexableLengthError}
+use Rattle.naga_typing.specs.declared.typifier.TypeResolution.TheVariants.{Handle}
+
+-- the values of a form have parts at indexes that are computed
+abbrev pub has_parts : TypeInner → Truth
+has_parts (Vector size scalar) = true
+has_parts (Matrix columns rows scalar) = true
+has_parts (Array base size stride) = true
+has_parts (BindingArray base size) = true
+has_parts (Pointer base space) = true
+has_parts (ValuePointer (Some size) scalar space) = true
+has_parts (ValuePointer None scalar space) = false
+has_parts (Scalar scalar) = false
+has_parts (CooperativeMatrix columns rows scalar role) = false
+has_parts (Atomic scalar) = false
+has_parts (Struct members span) = false
+has_parts (Image dim arrayed class) = false
+has_parts (Sampler comparison) = false
+has_parts (AccelerationStructure vertex_return) = false
+has_parts (RayQuery vertex_return) = false
+
+-- the lengths of arrays, by whether overrides must have their values
+abbrev pub lengths : Truth → GlobalLists → LengthOfArray
+lengths true g = resolved_length g
+lengths false g = pending_length
+
+-- the refusal of a constant index: its base has no length, or one that is known and not above the index
+abbrev pub past_end : ℕ → ℕ → Result IndexableLength IndexableLengthError → Option ExpressionError
+past_end base value (Ok (Known n)) = unless (ltb value n) (refusal.IndexOutOfBounds base value)
+past_end base value (Ok Pending) = None
+past_end base value (Ok Dynamic) = None
+past_end base value (Err error) = Some (refusal.IndexableLength error)
+
+-- the refusal of an index, unless it is no constant, or a number that is allowed
+abbrev pub bad_constant : ℕ → ℕ → Result IndexableLength IndexableLengthError → Result ℕ ConstValueError → Option ExpressionError
+bad_constant base index length (Ok value) = past_end base value length
+bad_constant base index length (Err Negative) = Some (refusal.NegativeIndex base)
+bad_constant base index length (Err InvalidType) = Some (refusal.InvalidIndexType index)
+bad_constant base index length (Err NonConst) = None
+
+-- the conditions of an access to a base of this length: the base has parts, the index is an integer, and a constant index is within the base
+abbrev pub access_conditions : ExpressionSurroundings → ℕ → ℕ → Result IndexableLength IndexableLengthError → List (Option ExpressionError)
+access_conditions s base index length =
+    unless (has_parts (form_at s base)) (refusal.InvalidBaseType base) ∷
+    unless (is_integer_scalar (form_at s index)) (refusal.InvalidIndexType index) ∷
+    bad_constant base index length (index_of (global_lists s.«module») (slice_get s.function.expressions index)) ∷
+    []
+
+-- what is meant by the rule of an access, by the length of its base
+abbrev pub IsAccessMeant : ExpressionSurroundings → ℕ → ℕ → Result ShaderStages ExpressionError → Type 0
+IsAccessMeant s base index meant =
+    let g = global_lists s.«module» in
+    (length : Result IndexableLength IndexableLengthError) × IsLength g (lengths s.resolved g) (form_at s base) length × (meant ≡ judged (access_conditions s base index length) every_stage)
+
+-- the limit of the indexes into an array: its count if that is written, and else the greatest that there is
+abbrev pub count_limit : ArraySize → ℕ
+count_limit (size.Constant n) = n.value
+count_limit (size.Pending o) = largest_u32
+count_limit size.Dynamic = largest_u32
+
+-- the limit of the known indexes into a form that is no pointer to a type of the module
+abbrev pub part_limit : TypeInner → Option ℕ
+part_limit (Vector size scalar) = Some (components size)
+part_limit (ValuePointer (Some size) scalar space) = Some (components size)
+part_limit (ValuePointer None scalar space) = None
+part_limit (Matrix columns rows scalar) = Some (components columns)
+part_limit (Array base size stride) = Some (count_limit size)
+part_limit (BindingArray base size) = Some largest_u32
+part_limit (Struct members span) = Some (length members)
+part_limit (Pointer base space) = None
+part_limit (Scalar scalar) = None
+part_limit (CooperativeMatrix columns rows scalar role) = None
+part_limit (Atomic scalar) = None
+part_limit (Image dim arrayed class) = None
+part_limit (Sampler comparison) = None
+part_limit (AccelerationStructure vertex_return) = None
+part_limit (RayQuery vertex_return) = None
+
+-- the same of a form that may not be there
+abbrev pub part_limit_in : Option TypeInner → Option ℕ
+part_limit_in None = None
+part_limit_in (Some inner) = part_limit inner
+
+-- the limit of the known indexes into a form: into a pointer it is that of what it points to
+abbrev pub index_limit : List «Type» → TypeInner → Option ℕ
+index_limit types (Pointer base space) = part_limit_in (inner_in types (Handle base))
+index_limit types inner = part_limit inner
+
+-- the refusal of a known index, unless its base has a limit and the index is below it
+abbrev pub not_below : ℕ → ℕ → Option ℕ → Option ExpressionError
+not_below base index None = Some (refusal.InvalidBaseType base)
+not_below base index (Some limit) = unless (ltb index limit) (refusal.IndexOutOfBounds base index)
+
+-- the rule of an access at a known index
+abbrev pub access_index_rule : ExpressionSurroundings → ℕ → ℕ → Result ShaderStages ExpressionError
+access_index_rule s base index = granted (not_below base index (index_limit s.«module».types (form_at s base))) every_stage

@@ -1,0 +1,123 @@
+-- The rule of one global expression, by its form.
+use Rattle.std.specs.Prelude.{ℕ, Bool as Truth, true, false, ◌||◌, List, [], ◌∷◌, Option, Some, None, Result, Ok, Err, slice_get}
+use Rattle.naga_flags.specs.Width.{width_rule}
+use Rattle.naga_flags.specs.declared.width.ImmediateError.{ImmediateError}
+use Rattle.naga_flags.specs.declared.width.WidthError.{WidthError}
+use Rattle.naga_info.specs.declared.const_expression_error.ConstExpressionError.{ConstExpressionError}
+use Rattle.naga_info.specs.declared.const_expression_error.ConstExpressionError.TheVariants as refusal
+use Rattle.naga_info.specs.declared.const_expression_error.LiteralError.{LiteralError}
+use Rattle.naga_info.specs.declared.const_expression_error.LiteralError.TheVariants.{Width}
+use Rattle.naga_ir.specs.Literals.{literal_scalar}
+use Rattle.naga_ir.specs.declared.expression.Expression.{Expression}
+use Rattle.naga_ir.specs.declared.expression.Expression.TheVariants as form
+use Rattle.naga_ir.specs.declared.expression.Literal.{Literal}
+use Rattle.naga_ir.specs.declared.types.«Type».{«Type»}
+use Rattle.naga_ir.specs.declared.types.TypeInner.{TypeInner}
+use Rattle.naga_ir.specs.declared.types.TypeInner.TheVariants.{Scalar, Vector, Matrix, CooperativeMatrix, Atomic, Pointer, ValuePointer, Array, Struct, Image, Sampler, AccelerationStructure, RayQuery, BindingArray}
+use Rattle.naga_types.specs.Composing.{compose_rule, resolutions_at}
+use Rattle.naga_types.specs.Judging.{judged, only_if, unless}
+use Rattle.naga_typing.specs.Kinds.{is_const, is_const_or_override}
+use Rattle.naga_typing.specs.Resolutions.{operand}
+use Rattle.naga_typing.specs.declared.expression_kind.ExpressionKind.{ExpressionKind}
+use Rattle.naga_typing.specs.declared.typifier.TypeResolution.{TypeResolution}
+
+-- what a global expression is judged by beside its form: the capabilities, whether overrides must have their values, the types of the module, and the kinds and the types of global expressions
+pub record ConstSurroundings : Type 0 where
+  pub capabilities : ℕ
+  pub resolved : Truth
+  pub types : List «Type»
+  pub kinds : List ExpressionKind
+  pub resolutions : List TypeResolution
+
+-- what the rule of widths says, as it is said of a literal
+abbrev pub of_width : Result (Result (Unit {0}) ImmediateError) WidthError → Result (Unit {0}) LiteralError
+of_width (Ok immediates) = Ok tt
+of_width (Err error) = Err (Width error)
+
+-- a literal is accepted if the width of its scalar is
+abbrev pub literal_rule : ℕ → Literal → Result (Unit {0}) LiteralError
+literal_rule capabilities value = of_width (width_rule capabilities (literal_scalar value))
+
+-- what another rule refuses is refused with its error inside another
+abbrev pub refused_inside : {A E F : Type 0} → (E → F) → Result A E → Option F
+refused_inside wrap (Ok value) = None
+refused_inside wrap (Err error) = Some (wrap error)
+
+-- whether a form is a scalar
+abbrev pub is_scalar : Option TypeInner → Truth
+is_scalar (Some (Scalar scalar)) = true
+is_scalar (Some (Vector size scalar)) = false
+is_scalar (Some (Matrix columns rows scalar)) = false
+is_scalar (Some (CooperativeMatrix columns rows scalar role)) = false
+is_scalar (Some (Atomic scalar)) = false
+is_scalar (Some (Pointer base space)) = false
+is_scalar (Some (ValuePointer size scalar space)) = false
+is_scalar (Some (Array base size stride)) = false
+is_scalar (Some (Struct members span)) = false
+is_scalar (Some (Image dim arrayed class)) = false
+is_scalar (Some (Sampler comparison)) = false
+is_scalar (Some (AccelerationStructure vertex_return)) = false
+is_scalar (Some (RayQuery vertex_return)) = false
+is_scalar (Some (BindingArray base size)) = false
+is_scalar None = false
+
+-- the value of an expression is known before the shader runs
+abbrev pub known_late : ConstSurroundings → ℕ → Option ConstExpressionError
+known_late s e = unless (is_const_or_override (slice_get s.kinds e)) refusal.NonConstOrOverride
+
+-- a literal is accepted
+abbrev pub bad_literal : ConstSurroundings → Literal → Option ConstExpressionError
+bad_literal s value = refused_inside refusal.Literal (literal_rule s.capabilities value)
+
+-- a value of a type may be composed of components
+abbrev pub bad_composition : ConstSurroundings → ℕ → List ℕ → Option ConstExpressionError
+bad_composition s ty components = refused_inside refusal.Compose (compose_rule s.types ty (resolutions_at components s.resolutions))
+
+-- the operand of a splat is a scalar
+abbrev pub bad_splat : ConstSurroundings → ℕ → Option ConstExpressionError
+bad_splat s value = unless (is_scalar (operand s.types s.resolutions value)) (refusal.InvalidSplatType value)
+
+-- a value that is still to be computed depends on an override, and overrides need not have their values yet
+abbrev pub not_evaluated : ConstSurroundings → ℕ → Option ConstExpressionError
+not_evaluated s e = only_if (s.resolved || is_const (slice_get s.kinds e)) (Some refusal.NonFullyEvaluatedConst)
+
+-- the conditions of the form of the expression of an index
+abbrev pub form_conditions : ConstSurroundings → ℕ → Expression → List (Option ConstExpressionError)
+form_conditions s e (form.Literal value) = bad_literal s value ∷ []
+form_conditions s e (form.Constant c) = []
+form_conditions s e (form.ZeroValue ty) = []
+form_conditions s e (form.Compose ty components) = bad_composition s ty components ∷ []
+form_conditions s e (form.Splat size value) = bad_splat s value ∷ []
+form_conditions s e (form.Override o) = not_evaluated s e ∷ []
+form_conditions s e (form.Access base index) = not_evaluated s e ∷ []
+form_conditions s e (form.AccessIndex base index) = not_evaluated s e ∷ []
+form_conditions s e (form.Swizzle size vector pattern) = not_evaluated s e ∷ []
+form_conditions s e (form.FunctionArgument index) = not_evaluated s e ∷ []
+form_conditions s e (form.GlobalVariable v) = not_evaluated s e ∷ []
+form_conditions s e (form.LocalVariable v) = not_evaluated s e ∷ []
+form_conditions s e (form.Load pointer) = not_evaluated s e ∷ []
+form_conditions s e (form.ImageSample image sampler gather coordinate array_index offset level depth_ref clamp_to_edge) = not_evaluated s e ∷ []
+form_conditions s e (form.ImageLoad image coordinate array_index sample level) = not_evaluated s e ∷ []
+form_conditions s e (form.ImageQuery image query) = not_evaluated s e ∷ []
+form_conditions s e (form.Unary op expr) = not_evaluated s e ∷ []
+form_conditions s e (form.Binary op left right) = not_evaluated s e ∷ []
+form_conditions s e (form.Select condition accept reject) = not_evaluated s e ∷ []
+form_conditions s e (form.Derivative expr) = not_evaluated s e ∷ []
+form_conditions s e (form.Relational fun argument) = not_evaluated s e ∷ []
+form_conditions s e (form.Math fun arg arg1 arg2 arg3) = not_evaluated s e ∷ []
+form_conditions s e (form.As expr kind convert) = not_evaluated s e ∷ []
+form_conditions s e (form.CallResult f) = not_evaluated s e ∷ []
+form_conditions s e (form.AtomicResult ty comparison) = not_evaluated s e ∷ []
+form_conditions s e (form.WorkGroupUniformLoadResult ty) = not_evaluated s e ∷ []
+form_conditions s e (form.ArrayLength expr) = not_evaluated s e ∷ []
+form_conditions s e form.RayQueryProceedResult = not_evaluated s e ∷ []
+form_conditions s e (form.RayQueryGetIntersection query committed) = not_evaluated s e ∷ []
+form_conditions s e (form.RayQueryVertexPositions query committed) = not_evaluated s e ∷ []
+form_conditions s e form.SubgroupBallotResult = not_evaluated s e ∷ []
+form_conditions s e (form.SubgroupOperationResult ty) = not_evaluated s e ∷ []
+form_conditions s e (form.CooperativeLoad pointer stride) = not_evaluated s e ∷ []
+form_conditions s e (form.CooperativeMultiplyAdd a b c) = not_evaluated s e ∷ []
+
+-- a global expression is accepted if its value is known before the shader runs, and it keeps the conditions of its form
+abbrev pub const_expression_rule : ConstSurroundings → ℕ → Expression → Result (Unit {0}) ConstExpressionError
+const_expression_rule s e x = judged (known_late s e ∷ form_conditions s e x) tt

@@ -1,0 +1,257 @@
+//! The rules of accesses to parts of values, and of swizzles.
+
+ghost use Rattle.std.specs.Prelude.{◌≡◌, ◌<◌, length};
+ghost use Rattle.naga_exprs.specs.Accesses as rule;
+ghost use Rattle.naga_exprs.specs.Accesses.{IsAccessMeant, access_index_rule};
+ghost use Rattle.naga_exprs.specs.Vectors as vectors;
+ghost use Rattle.naga_exprs.specs.Vectors.{swizzle_rule};
+ghost use Rattle.naga_ir.specs.Handles.{GlobalReferencesOk};
+ghost use Rattle.naga_ir.specs.ItemReferences.{global_lists};
+ghost use Rattle.naga_info.specs.Surroundings.{AreSound, surroundings};
+ghost use Rattle.naga_types.specs.Judging.{granted};
+ghost use Rattle.naga_typing.specs.Context.{ReferencesExist};
+ghost use Rattle.naga_typing.specs.Index.{IsLength};
+
+use naga_flags::flags::ShaderStages;
+use naga_info::context::{FunctionContext, every_stage};
+use naga_info::expression_error::ExpressionError;
+use naga_info::type_methods::is_integer_scalar;
+use naga_ir::expression::SwizzleComponent;
+use naga_ir::handle::Handle;
+use naga_ir::ir::Module;
+use naga_ir::tags::ExpressionTag;
+use naga_ir::types::{ArraySize, TypeInner, VectorSize};
+use naga_typing::context::{ConstValueError, get_const_val_from, to_ctx};
+use naga_typing::index::{
+    IndexableLength, IndexableLengthError, indexable_length_pending, indexable_length_resolved,
+};
+
+/// Whether the values of a form have parts at indexes that are computed.
+fn has_parts(inner: &TypeInner) -> bool
+    ensures { result ≡ rule.has_parts inner.now }
+{
+    match inner {
+        TypeInner::Vector { .. }
+        | TypeInner::Matrix { .. }
+        | TypeInner::Array { .. }
+        | TypeInner::BindingArray { .. }
+        | TypeInner::Pointer { .. }
+        | TypeInner::ValuePointer { size: Some(_), .. } => true,
+        TypeInner::ValuePointer { size: None, .. }
+        | TypeInner::Scalar(_)
+        | TypeInner::CooperativeMatrix { .. }
+        | TypeInner::Atomic(_)
+        | TypeInner::Struct { .. }
+        | TypeInner::Image { .. }
+        | TypeInner::Sampler { .. }
+        | TypeInner::AccelerationStructure { .. }
+        | TypeInner::RayQuery { .. } => false,
+    }
+}
+
+/// How many elements of a value can be indexed, by whether overrides must have their values.
+fn indexable_length(
+    overrides_resolved: bool,
+    inner: &TypeInner,
+    module: &Module,
+) -> Result<IndexableLength, IndexableLengthError>
+    requires exist { ReferencesExist (global_lists «module».now) inner.now }
+    requires references { GlobalReferencesOk (global_lists «module».now) }
+    ensures { IsLength (global_lists «module».now) (rule.lengths overrides_resolved (global_lists «module».now)) inner.now result }
+{
+    if overrides_resolved {
+        indexable_length_resolved(inner, module)
+    } else {
+        indexable_length_pending(inner, module)
+    }
+}
+
+/// Checks that an index is below the length of its base, if that is known.
+fn check_within(
+    base: Handle<ExpressionTag>,
+    value: u32,
+    length: Result<IndexableLength, IndexableLengthError>,
+) -> Result<(), ExpressionError>
+    ensures { result ≡ granted (rule.past_end base value length) tt }
+{
+    match length? {
+        IndexableLength::Known(known) if value >= known => {
+            Err(ExpressionError::IndexOutOfBounds(base, value))
+        }
+        IndexableLength::Known(_) | IndexableLength::Pending | IndexableLength::Dynamic => Ok(()),
+    }
+}
+
+/// Checks what an index is as a constant, if it is one.
+fn check_constant(
+    base: Handle<ExpressionTag>,
+    index: Handle<ExpressionTag>,
+    length: Result<IndexableLength, IndexableLengthError>,
+    constant: Result<u32, ConstValueError>,
+) -> Result<(), ExpressionError>
+    ensures { result ≡ granted (rule.bad_constant base index length constant) tt }
+{
+    match constant {
+        Ok(value) => check_within(base, value, length),
+        Err(ConstValueError::Negative) => Err(ExpressionError::NegativeIndex(base)),
+        Err(ConstValueError::InvalidType) => Err(ExpressionError::InvalidIndexType(index)),
+        Err(ConstValueError::NonConst) => Ok(()),
+    }
+}
+
+/// The stages that may use an access at an index that is computed (WGSL "Array Access Expression" and
+/// its like).
+///
+/// # Errors
+///
+/// - `InvalidBaseType` if the base has no parts at such indexes.
+/// - `InvalidIndexType` if the index is no integer, or a constant of another width than 16 or 32 bits.
+/// - `NegativeIndex` if it is a constant below 0.
+/// - `IndexableLength` if it is a constant, and the base has no length.
+/// - `IndexOutOfBounds` if it is a constant that isn't below the length of the base.
+pub fn validate_access(
+    context: FunctionContext<'_>,
+    base: Handle<ExpressionTag>,
+    index: Handle<ExpressionTag>,
+) -> Result<ShaderStages, ExpressionError>
+    requires sound { AreSound (surroundings context) }
+    requires base { base < length context.info.now.types }
+    requires index { index < length context.info.now.types }
+    requires exists { index < length context.function.now.expressions }
+    ensures { IsAccessMeant (surroundings context.entry) base index result }
+{
+    let base_type = context.type_of(base);
+    let length = indexable_length(context.overrides_resolved, base_type, context.module);
+    if !has_parts(base_type) {
+        return Err(ExpressionError::InvalidBaseType(base));
+    }
+    if !is_integer_scalar(context.type_of(index)) {
+        return Err(ExpressionError::InvalidIndexType(index));
+    }
+    let gctx = to_ctx(context.module);
+    let constant = get_const_val_from(index, &context.function.expressions, gctx);
+    check_constant(base, index, length, constant)?;
+    Ok(every_stage())
+}
+
+/// The limit of the known indexes into a form that is no pointer to a type of the module.
+fn part_limit(inner: &TypeInner) -> Option<usize>
+    ensures { result ≡ rule.part_limit inner.now }
+{
+    match inner {
+        TypeInner::Vector { size, .. }
+        | TypeInner::Matrix { columns: size, .. }
+        | TypeInner::ValuePointer {
+            size: Some(size),
+            ..
+        } => Some(usize::from(size.components())),
+        TypeInner::Array {
+            size: ArraySize::Constant(count),
+            ..
+        } => Some(count.get() as usize),
+        TypeInner::Array { .. } | TypeInner::BindingArray { .. } => Some(u32::MAX as usize),
+        TypeInner::Struct { members, .. } => Some(members.len()),
+        TypeInner::ValuePointer { size: None, .. }
+        | TypeInner::Pointer { .. }
+        | TypeInner::Scalar(_)
+        | TypeInner::CooperativeMatrix { .. }
+        | TypeInner::Atomic(_)
+        | TypeInner::Image { .. }
+        | TypeInner::Sampler { .. }
+        | TypeInner::AccelerationStructure { .. }
+        | TypeInner::RayQuery { .. } => None,
+    }
+}
+
+/// The limit of the known indexes into a form: into a pointer, that of what it points to (naga's
+/// `resolve_index_limit`).
+fn index_limit(inner: &TypeInner, module: &Module) -> Option<usize>
+    requires exist { ReferencesExist (global_lists «module».now) inner.now }
+    ensures { result ≡ rule.index_limit «module».now.types inner.now }
+{
+    if let TypeInner::Pointer { base, .. } = inner {
+        return part_limit(&module.types[*base].inner);
+    }
+    part_limit(inner)
+}
+
+/// The stages that may use an access at a known index (WGSL "Composite Value Decomposition Expressions").
+///
+/// # Errors
+///
+/// - `InvalidBaseType` if the base has no parts at such indexes.
+/// - `IndexOutOfBounds` if the index isn't below the number of parts. Arrays whose count isn't written,
+///   and binding arrays, have 4294967295.
+pub fn validate_access_index(
+    context: FunctionContext<'_>,
+    base: Handle<ExpressionTag>,
+    index: u32,
+) -> Result<ShaderStages, ExpressionError>
+    requires sound { AreSound (surroundings context) }
+    requires base { base < length context.info.now.types }
+    ensures { result ≡ access_index_rule (surroundings context.entry) base index }
+{
+    let Some(limit) = index_limit(context.type_of(base), context.module) else {
+        return Err(ExpressionError::InvalidBaseType(base));
+    };
+    if index as usize >= limit {
+        return Err(ExpressionError::IndexOutOfBounds(base, index));
+    }
+    Ok(every_stage())
+}
+
+/// The index of a component.
+fn component_index(component: SwizzleComponent) -> u8
+    ensures { result ≡ vectors.component_index component }
+{
+    match component {
+        SwizzleComponent::X => 0,
+        SwizzleComponent::Y => 1,
+        SwizzleComponent::Z => 2,
+        SwizzleComponent::W => 3,
+    }
+}
+
+/// Checks that a vector of this size has each of some components.
+fn check_components(
+    size: VectorSize,
+    components: &[SwizzleComponent],
+) -> Result<(), ExpressionError>
+    ensures { result ≡ granted (vectors.first_lacking size components.now) tt }
+{
+    for component in components {
+        if component_index(*component) >= size.components() {
+            return Err(ExpressionError::InvalidSwizzleComponent(*component, size));
+        }
+    }
+    Ok(())
+}
+
+/// The stages that may use a swizzle (WGSL "Vector Access Expression").
+///
+/// # Errors
+///
+/// - `InvalidVectorType` if what is swizzled is no vector.
+/// - `InvalidSwizzleComponent` if it lacks one of the first `size` components of the pattern: the first
+///   such.
+pub fn validate_swizzle(
+    context: FunctionContext<'_>,
+    size: VectorSize,
+    vector: Handle<ExpressionTag>,
+    pattern: &[SwizzleComponent; 4],
+) -> Result<ShaderStages, ExpressionError>
+    requires sound { AreSound (surroundings context) }
+    requires vector { vector < length context.info.now.types }
+    ensures { result ≡ swizzle_rule (surroundings context.entry) size vector pattern.now }
+{
+    let TypeInner::Vector {
+        size: vector_size,
+        ..
+    } = context.type_of(vector)
+    else {
+        return Err(ExpressionError::InvalidVectorType(vector));
+    };
+    let taken = usize::from(size.components());
+    check_components(*vector_size, &pattern[..taken])?;
+    Ok(every_stage())
+}

@@ -1,0 +1,118 @@
+//! The rule of mathematical functions.
+
+ghost use Rattle.std.specs.Prelude.{◌≡◌, ◌≤◌, length, map};
+ghost use Rattle.naga_ir.specs.declared.expression.Expression.TheVariants as form;
+ghost use Rattle.naga_exprs.specs.Math as rule;
+ghost use Rattle.naga_exprs.specs.Math.{argument_conditions, first_wrong, math_rule};
+ghost use Rattle.naga_info.specs.Stages as stages;
+ghost use Rattle.naga_info.specs.Surroundings.{IsJudgeable, surroundings};
+ghost use Rattle.naga_types.specs.Judging.{granted, judged};
+
+use bitflags::Flags;
+use naga_flags::flags::{Capabilities, ShaderStages};
+use naga_info::context::{FunctionContext, every_stage};
+use naga_info::expression_error::ExpressionError;
+use naga_ir::expression::MathFunction;
+use naga_ir::handle::Handle;
+use naga_ir::tags::ExpressionTag;
+use naga_ir::types::TypeInner;
+use naga_typing::typing::Typing;
+
+/// Checks that the capability of a function is given, if it needs one.
+fn check_capability(capabilities: Capabilities, fun: MathFunction) -> Result<(), ExpressionError>
+    ensures { result ≡ granted (rule.lacks_float16 capabilities.0 fun) tt }
+{
+    let keeps_float16 = matches!(
+        fun,
+        MathFunction::QuantizeToF16 | MathFunction::Pack2x16float | MathFunction::Unpack2x16float
+    );
+    let needed = Capabilities::SHADER_FLOAT16_IN_FLOAT32;
+    if keeps_float16 && !capabilities.contains(needed) {
+        return Err(ExpressionError::MissingCapabilities(needed));
+    }
+    Ok(())
+}
+
+/// Checks that a function takes each of some arguments, which have these types.
+fn check_arguments<T: Typing>(
+    typing: &T,
+    fun: MathFunction,
+    arguments: &[Handle<ExpressionTag>],
+    types: &[&TypeInner],
+) -> Result<(), ExpressionError>
+    requires typed { length arguments.now ≡ length types.now }
+    requires few { length arguments.now ≤ 4 }
+    ensures { result ≡ granted (first_wrong (record { accepts = T.accepts_types typing.now; least_arguments = T.least_arguments typing.now }) fun (map (λ t. t.now) types.now) arguments.now) tt }
+{
+    for (index, argument) in arguments.iter().enumerate() {
+        if !typing.accepts(fun, &types[..index + 1]) {
+            let index = index as u32;
+            return Err(ExpressionError::InvalidArgumentType(fun, index, *argument));
+        }
+    }
+    Ok(())
+}
+
+/// The stages that may use a function of these arguments, which have these types.
+fn validate_arguments<T: Typing>(
+    typing: &T,
+    fun: MathFunction,
+    arguments: &[Handle<ExpressionTag>],
+    types: &[&TypeInner],
+) -> Result<ShaderStages, ExpressionError>
+    requires typed { length arguments.now ≡ length types.now }
+    requires few { length arguments.now ≤ 4 }
+    ensures { result ≡ judged (argument_conditions (record { accepts = T.accepts_types typing.now; least_arguments = T.least_arguments typing.now }) fun (map (λ t. t.now) types.now) arguments.now) stages.every_stage }
+{
+    check_arguments(typing, fun, arguments, types)?;
+    if types.len() < typing.min_arguments(fun, types) {
+        return Err(ExpressionError::WrongArgumentCount(fun));
+    }
+    Ok(every_stage())
+}
+
+/// The stages that may use a mathematical function (WGSL "Numeric Built-in Functions" and those after
+/// it).
+///
+/// # Errors
+///
+/// - `MissingCapabilities` if the function keeps floating-point numbers of 16 bits in ones of 32, and that
+///   capability isn't given.
+/// - `WrongArgumentCount` if an argument is left out before another, or there are fewer than the typing
+///   asks for.
+/// - `InvalidArgumentType` of the first argument for which the typing doesn't accept the types up to its
+///   own.
+pub fn validate_math<T: Typing>(
+    context: FunctionContext<'_>,
+    typing: &T,
+    fun: MathFunction,
+    arg: Handle<ExpressionTag>,
+    arg1: Option<Handle<ExpressionTag>>,
+    arg2: Option<Handle<ExpressionTag>>,
+    arg3: Option<Handle<ExpressionTag>>,
+) -> Result<ShaderStages, ExpressionError>
+    requires { IsJudgeable (surroundings context) (form.Math fun arg arg1 arg2 arg3) }
+    ensures { result ≡ math_rule (record { accepts = T.accepts_types typing.now; least_arguments = T.least_arguments typing.now }) (surroundings context.entry) fun arg arg1 arg2 arg3 }
+{
+    check_capability(context.capabilities, fun)?;
+    let first = context.type_of(arg);
+    match (arg1, arg2, arg3) {
+        (None, None, None) => validate_arguments(typing, fun, &[arg], &[first]),
+        (Some(arg1), None, None) => {
+            let types = [first, context.type_of(arg1)];
+            validate_arguments(typing, fun, &[arg, arg1], &types)
+        }
+        (Some(arg1), Some(arg2), None) => {
+            let types = [first, context.type_of(arg1), context.type_of(arg2)];
+            validate_arguments(typing, fun, &[arg, arg1, arg2], &types)
+        }
+        (Some(arg1), Some(arg2), Some(arg3)) => {
+            let (second, third) = (context.type_of(arg1), context.type_of(arg2));
+            let types = [first, second, third, context.type_of(arg3)];
+            validate_arguments(typing, fun, &[arg, arg1, arg2, arg3], &types)
+        }
+        (None, Some(_), _) | (None, None, Some(_)) | (Some(_), None, Some(_)) => {
+            Err(ExpressionError::WrongArgumentCount(fun))
+        }
+    }
+}

@@ -1,0 +1,150 @@
+//! The rules of loads, of cooperative matrices too, and of the lengths of arrays.
+
+ghost use Rattle.std.specs.Prelude.{◌≡◌, ◌<◌, Some, length};
+ghost use Rattle.naga_exprs.specs.Memory as rule;
+ghost use Rattle.naga_exprs.specs.Memory.{array_length_rule, cooperative_load_rule, load_rule};
+ghost use Rattle.naga_ir.specs.ItemReferences.{global_lists};
+ghost use Rattle.naga_info.specs.Surroundings.{AreSound, surroundings};
+ghost use Rattle.naga_typing.specs.Context.{ReferencesExist};
+
+use bitflags::Flags;
+use naga_flags::flags::{ShaderStages, TypeFlags};
+use naga_info::context::{FunctionContext, every_stage};
+use naga_info::expression_error::ExpressionError;
+use naga_ir::handle::Handle;
+use naga_ir::ir::Module;
+use naga_ir::tags::ExpressionTag;
+use naga_ir::types::{ArraySize, Scalar, TypeInner};
+
+/// Whether a value can be loaded through a form.
+fn can_load(context: FunctionContext<'_>, inner: &TypeInner) -> bool
+    requires sound { AreSound (surroundings context) }
+    requires exist { ReferencesExist (global_lists context.«module».now) inner.now }
+    ensures { result ≡ rule.can_load (surroundings context.entry) inner.now }
+{
+    match inner {
+        TypeInner::Pointer { base, .. } => {
+            let loadable = TypeFlags::SIZED.union(TypeFlags::DATA);
+            context.type_flags(*base).contains(loadable)
+        }
+        TypeInner::ValuePointer { .. } => true,
+        TypeInner::Scalar(_)
+        | TypeInner::Vector { .. }
+        | TypeInner::Matrix { .. }
+        | TypeInner::CooperativeMatrix { .. }
+        | TypeInner::Atomic(_)
+        | TypeInner::Array { .. }
+        | TypeInner::Struct { .. }
+        | TypeInner::Image { .. }
+        | TypeInner::Sampler { .. }
+        | TypeInner::AccelerationStructure { .. }
+        | TypeInner::RayQuery { .. }
+        | TypeInner::BindingArray { .. } => false,
+    }
+}
+
+/// The stages that may use a load (WGSL "Load Rule").
+///
+/// # Errors
+///
+/// `InvalidPointerType` if the operand is no value pointer, and no pointer to data of a fixed size.
+pub fn validate_load(
+    context: FunctionContext<'_>,
+    pointer: Handle<ExpressionTag>,
+) -> Result<ShaderStages, ExpressionError>
+    requires sound { AreSound (surroundings context) }
+    requires pointer { pointer < length context.info.now.types }
+    ensures { result ≡ load_rule (surroundings context.entry) pointer }
+{
+    if !can_load(context, context.type_of(pointer)) {
+        return Err(ExpressionError::InvalidPointerType(pointer));
+    }
+    Ok(every_stage())
+}
+
+/// Whether a form is that of runtime-sized arrays.
+fn is_dynamic_array(inner: &TypeInner) -> bool
+    ensures { result ≡ rule.is_dynamic_array (Some inner.now) }
+{
+    match inner {
+        TypeInner::Array { size, .. } => matches!(size, ArraySize::Dynamic),
+        TypeInner::Scalar(_)
+        | TypeInner::Vector { .. }
+        | TypeInner::Matrix { .. }
+        | TypeInner::CooperativeMatrix { .. }
+        | TypeInner::Atomic(_)
+        | TypeInner::Pointer { .. }
+        | TypeInner::ValuePointer { .. }
+        | TypeInner::Struct { .. }
+        | TypeInner::Image { .. }
+        | TypeInner::Sampler { .. }
+        | TypeInner::AccelerationStructure { .. }
+        | TypeInner::RayQuery { .. }
+        | TypeInner::BindingArray { .. } => false,
+    }
+}
+
+/// The stages that may use the length of a runtime-sized array (WGSL "arrayLength").
+///
+/// # Errors
+///
+/// `InvalidArrayType` if the operand is no pointer to such an array.
+pub fn validate_array_length(
+    context: FunctionContext<'_>,
+    array: Handle<ExpressionTag>,
+) -> Result<ShaderStages, ExpressionError>
+    requires sound { AreSound (surroundings context) }
+    requires array { array < length context.info.now.types }
+    ensures { result ≡ array_length_rule (surroundings context.entry) array }
+{
+    let TypeInner::Pointer { base, .. } = context.type_of(array) else {
+        return Err(ExpressionError::InvalidArrayType(array));
+    };
+    if !is_dynamic_array(&context.module.types[*base].inner) {
+        return Err(ExpressionError::InvalidArrayType(array));
+    }
+    Ok(every_stage())
+}
+
+/// The scalar of what a type points to, if that is a scalar, a vector or a matrix of either kind.
+fn target_scalar(inner: &TypeInner, module: &Module) -> Option<Scalar>
+    requires exist { ReferencesExist (global_lists «module».now) inner.now }
+    ensures { result ≡ rule.target_scalar «module».now.types inner.now }
+{
+    match inner {
+        TypeInner::Pointer { base, .. } => module.types[*base].inner.scalar(),
+        TypeInner::ValuePointer { scalar, .. } => Some(*scalar),
+        TypeInner::Scalar(_)
+        | TypeInner::Vector { .. }
+        | TypeInner::Matrix { .. }
+        | TypeInner::CooperativeMatrix { .. }
+        | TypeInner::Atomic(_)
+        | TypeInner::Array { .. }
+        | TypeInner::Struct { .. }
+        | TypeInner::Image { .. }
+        | TypeInner::Sampler { .. }
+        | TypeInner::AccelerationStructure { .. }
+        | TypeInner::RayQuery { .. }
+        | TypeInner::BindingArray { .. } => None,
+    }
+}
+
+/// The stages that may use a cooperative matrix from memory (SPIR-V "OpCooperativeMatrixLoadKHR"): compute
+/// shaders.
+///
+/// # Errors
+///
+/// `InvalidPointerType` if the operand is no pointer to a scalar, a vector or a matrix. A value pointer is one.
+pub fn validate_cooperative_load(
+    context: FunctionContext<'_>,
+    pointer: Handle<ExpressionTag>,
+) -> Result<ShaderStages, ExpressionError>
+    requires sound { AreSound (surroundings context) }
+    requires pointer { pointer < length context.info.now.types }
+    ensures { result ≡ cooperative_load_rule (surroundings context.entry) pointer }
+{
+    if target_scalar(context.type_of(pointer), context.module).is_none() {
+        return Err(ExpressionError::InvalidPointerType(pointer));
+    }
+    Ok(ShaderStages::COMPUTE)
+}

@@ -1,0 +1,16 @@
+-- To read first:
+-- ModuleInfo.ModuleInfoLists: what is known of an accepted module, a list for each kind of item
+-- ModuleInfo.ModuleInfoWithRoom: the same beside the room that takes no more memory
+-- FunctionTypes.function_resolves, AreFunctionTypes: the type of an expression of a function, and of all of them
+-- FunctionTypes.AreTypesBefore, IsUntyped: the types of the expressions before a place; why the one there has none
+-- Surroundings.ExpressionSurroundings: what an expression of a function is judged by, beside its form
+-- Surroundings.CanJudge, AreSound, IsJudgeable: what has to be known of an expression that is judged
+-- Results.IsReturned: what a call returns, out of memory aside
+-- Stages.every_stage: the stages that may use most expressions
+pub mod FunctionTypes
+pub mod ModuleInfo
+pub mod Results
+pub mod Stages
+pub mod Surroundings
+pub mod Words
+pub mod steps

@@ -1,0 +1,9 @@
+//! What validation learns of a module, what expressions are judged by, and why they are refused.
+#![tactic(auto)]
+
+pub mod const_expression_error;
+pub mod context;
+pub mod expression_error;
+pub mod infer;
+pub mod module_info;
+pub mod type_methods;

@@ -1,9 +1,0 @@
--- One more type.
-use Rattle.std.specs.Prelude.{◌≡◌, [], ◌∷◌, ◌++◌, Ok}
-use Rattle.naga_infos.specs.declared.module_info.FunctionInfo.{FunctionInfo}
-use Rattle.naga_typing.specs.PlainTyping.{ResolveResult}
-use Rattle.naga_typing.specs.declared.typifier.TypeResolution.{TypeResolution}
-
--- an info has the type that was meant behind those of the other
-abbrev pub HasType : ResolveResult → FunctionInfo → FunctionInfo → Type 0
-HasType meant before now = (ty : TypeResolution) × (meant ≡ Ok ty) × (now ≡ record before { types = before.types ++ ty ∷ [] })

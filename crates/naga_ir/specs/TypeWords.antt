@@ -1,0 +1,107 @@
+-- What can be read off a type alone.
+use Rattle.std.specs.Prelude.{ℕ, Bool as Truth, false, not, Option, Some, None, ⊤}
+use Rattle.naga_ir.specs.declared.types.Scalar.{Scalar as ScalarType}
+use Rattle.naga_ir.specs.declared.types.ImageClass.{ImageClass}
+use Rattle.naga_ir.specs.declared.types.ImageClass.TheVariants.{Sampled, Depth, Storage, External}
+use Rattle.naga_ir.specs.declared.types.TypeInner.{TypeInner}
+use Rattle.naga_ir.specs.declared.types.TypeInner.TheVariants.{Scalar, Vector, Matrix, CooperativeMatrix, Atomic, Pointer, ValuePointer, Array, Struct, Image, Sampler, AccelerationStructure, RayQuery, BindingArray}
+use Rattle.naga_ir.specs.declared.types.VectorSize.{VectorSize}
+
+-- the scalar of a scalar, a vector or a matrix, of either kind of matrix; other types have none
+abbrev pub scalar_of : TypeInner → Option ScalarType
+scalar_of (Scalar scalar) = Some scalar
+scalar_of (Vector size scalar) = Some scalar
+scalar_of (Matrix columns rows scalar) = Some scalar
+scalar_of (CooperativeMatrix columns rows scalar role) = Some scalar
+scalar_of (Atomic scalar) = None
+scalar_of (Pointer base space) = None
+scalar_of (ValuePointer size scalar space) = None
+scalar_of (Array base size stride) = None
+scalar_of (Struct members span) = None
+scalar_of (Image dim arrayed class) = None
+scalar_of (Sampler comparison) = None
+scalar_of (AccelerationStructure vertex_return) = None
+scalar_of (RayQuery vertex_return) = None
+scalar_of (BindingArray base size) = None
+
+-- the scalar of a scalar or a vector, beside the number of components of a vector; other types have none
+abbrev pub vector_size_and_scalar : TypeInner → Option (Option VectorSize × ScalarType)
+vector_size_and_scalar (Scalar scalar) = Some (None, scalar)
+vector_size_and_scalar (Vector size scalar) = Some (Some size, scalar)
+vector_size_and_scalar (Matrix columns rows scalar) = None
+vector_size_and_scalar (CooperativeMatrix columns rows scalar role) = None
+vector_size_and_scalar (Atomic scalar) = None
+vector_size_and_scalar (Pointer base space) = None
+vector_size_and_scalar (ValuePointer size scalar space) = None
+vector_size_and_scalar (Array base size stride) = None
+vector_size_and_scalar (Struct members span) = None
+vector_size_and_scalar (Image dim arrayed class) = None
+vector_size_and_scalar (Sampler comparison) = None
+vector_size_and_scalar (AccelerationStructure vertex_return) = None
+vector_size_and_scalar (RayQuery vertex_return) = None
+vector_size_and_scalar (BindingArray base size) = None
+
+-- a form is a struct
+abbrev pub IsStruct : TypeInner → Type 0
+IsStruct (Scalar scalar) = ⊥
+IsStruct (Vector size scalar) = ⊥
+IsStruct (Matrix columns rows scalar) = ⊥
+IsStruct (CooperativeMatrix columns rows scalar role) = ⊥
+IsStruct (Atomic scalar) = ⊥
+IsStruct (Pointer base space) = ⊥
+IsStruct (ValuePointer size scalar space) = ⊥
+IsStruct (Array base size stride) = ⊥
+IsStruct (Struct members span) = ⊤
+IsStruct (Image dim arrayed class) = ⊥
+IsStruct (Sampler comparison) = ⊥
+IsStruct (AccelerationStructure vertex_return) = ⊥
+IsStruct (RayQuery vertex_return) = ⊥
+IsStruct (BindingArray base size) = ⊥
+
+-- a form is no struct
+abbrev pub IsNoStruct : TypeInner → Type 0
+IsNoStruct (Scalar scalar) = ⊤
+IsNoStruct (Vector size scalar) = ⊤
+IsNoStruct (Matrix columns rows scalar) = ⊤
+IsNoStruct (CooperativeMatrix columns rows scalar role) = ⊤
+IsNoStruct (Atomic scalar) = ⊤
+IsNoStruct (Pointer base space) = ⊤
+IsNoStruct (ValuePointer size scalar space) = ⊤
+IsNoStruct (Array base size stride) = ⊤
+IsNoStruct (Struct members span) = ⊥
+IsNoStruct (Image dim arrayed class) = ⊤
+IsNoStruct (Sampler comparison) = ⊤
+IsNoStruct (AccelerationStructure vertex_return) = ⊤
+IsNoStruct (RayQuery vertex_return) = ⊤
+IsNoStruct (BindingArray base size) = ⊤
+
+-- the type that a pointer points to, if it has a handle
+abbrev pub pointer_base : TypeInner → Option ℕ
+pointer_base (Scalar scalar) = None
+pointer_base (Vector size scalar) = None
+pointer_base (Matrix columns rows scalar) = None
+pointer_base (CooperativeMatrix columns rows scalar role) = None
+pointer_base (Atomic scalar) = None
+pointer_base (Pointer base space) = Some base
+pointer_base (ValuePointer size scalar space) = None
+pointer_base (Array base size stride) = None
+pointer_base (Struct members span) = None
+pointer_base (Image dim arrayed class) = None
+pointer_base (Sampler comparison) = None
+pointer_base (AccelerationStructure vertex_return) = None
+pointer_base (RayQuery vertex_return) = None
+pointer_base (BindingArray base size) = None
+
+-- whether an image has several samples of each value
+abbrev pub is_multisampled : ImageClass → Truth
+is_multisampled (Sampled kind multi) = multi
+is_multisampled (Depth multi) = multi
+is_multisampled (Storage format access) = false
+is_multisampled External = false
+
+-- whether an image may have several levels
+abbrev pub is_mipmapped : ImageClass → Truth
+is_mipmapped (Sampled kind multi) = not multi
+is_mipmapped (Depth multi) = not multi
+is_mipmapped (Storage format access) = false
+is_mipmapped External = false

@@ -1,5 +1,0 @@
-pub mod Keys
-pub mod PartLemmas
-pub mod Powers
-pub mod SameInner
-pub mod SameType
