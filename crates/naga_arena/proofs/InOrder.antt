@@ -5,7 +5,7 @@ use Rattle.std.proofs.Math.Seq.{take-suc}
 use Rattle.std.proofs.lemmas.List.{take-append-le, take_all}
 use Rattle.std.proofs.lemmas.Option.{same_Some, slice_get-get_or, slice_get_within}
 use Rattle.naga_arena.proofs.Progress.{slice_get-seam}
-use Rattle.naga_arena.specs.InOrder.{AllAcceptedInOrder, FollowInOrder, IsFirstRefusalInOrder, RuleInOrder, given_at}
+use Rattle.naga_arena.specs.InOrder.{AllAcceptedInOrder, FollowInOrder, IsFirstErrorInOrder, RuleInOrder, given_at}
 
 -- an item of a list keeps its index when the list grows
 pub get_stays : {V : Type 0} (values more : List V) (k : ℕ) → k < length values → slice_get (values ++ more) k ≡ slice_get values k
@@ -73,7 +73,7 @@ module _ {X V E : Type 0} (rule : RuleInOrder X V E) (items : List X) where
       ∙ take_all (length items) vs (omega (arith, v.as_many))
 
   -- if an item is refused, not all are accepted
-  pub refused_not_accepted : (values : List V) (place : ℕ) (error : E) → IsFirstRefusalInOrder rule items place error → AllAcceptedInOrder rule items values → ⊥
+  pub refused_not_accepted : (values : List V) (place : ℕ) (error : E) → IsFirstErrorInOrder rule items place error → AllAcceptedInOrder rule items values → ⊥
   refused_not_accepted values place error r all = by_item (slice_get items place) refl
     where
       at_place : (x : X) → slice_get items place ≡ Some x → ⊥

@@ -5,7 +5,7 @@ use Rattle.std.proofs.lemmas.List.{length-map, map-append}
 use Rattle.std.proofs.lemmas.List.Elements.{All-nil, All-cons}
 use Rattle.std.proofs.lemmas.Option.{same_Some, slice_get-get_or, slice_get_within}
 use Rattle.std.proofs.Math.Seq.{get_or-append_seam, take-append_seam}
-use Rattle.naga_arena.specs.Results.{IsFirstRefusal}
+use Rattle.naga_arena.specs.Results.{IsFirstError}
 
 -- every item is accepted, each with its value
 abbrev pub AllAccepted : {A E : Type 0} → List (Result A E) → List A → Type 0
@@ -119,5 +119,5 @@ module _ {X A E : Type 0} (items : List X) (results : List (Result A E)) where
       subst (All IsOk) (sym (ap (take n) p.answers ∙ ap (λ k. take k (oks ++ p.others)) number ∙ take-append_seam oks p.others)) (all_ok E done)
 
   pub refused : (done : List A) (left : List (ℕ × X)) (n : ℕ) (x : X) (more : List (ℕ × X)) (error : E)
-      → Progress done left → left ≡ (n, x) ∷ more → slice_get results n ≡ Some (Err error) → IsFirstRefusal results n error
+      → Progress done left → left ≡ (n, x) ∷ more → slice_get results n ≡ Some (Err error) → IsFirstError results n error
   refused done left n x more error p e at = record { refused = at; accepted_before = accepted_before done left n x more p e }

@@ -19,7 +19,7 @@ pub record AllAcceptedInOrder {X V E : Type 0} (rule : RuleInOrder X V E) (items
   pub follow : FollowInOrder rule items values
 
 -- the items before this index are accepted, and by their values the item here is refused with this error
-pub record IsFirstRefusalInOrder {X V E : Type 0} (rule : RuleInOrder X V E) (items : List X) (place : ℕ) (error : E) : Type 0 where
+pub record IsFirstErrorInOrder {X V E : Type 0} (rule : RuleInOrder X V E) (items : List X) (place : ℕ) (error : E) : Type 0 where
   pub before : List V
   pub as_many : length before ≡ place
   pub follow : FollowInOrder rule items before

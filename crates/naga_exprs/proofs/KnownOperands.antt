@@ -9,7 +9,7 @@ use Rattle.naga_ir.specs.References.{named_type, operands}
 use Rattle.naga_ir.specs.declared.expression.Expression.{Expression}
 use Rattle.naga_ir.specs.declared.expression.Expression.TheVariants as form
 use Rattle.naga_ir.specs.declared.reference.Reference.TheVariants as to
-use Rattle.naga_info.specs.Surroundings.{CanJudge, ExpressionSurroundings}
+use Rattle.naga_info.specs.Surroundings.{IsReady, ExpressionSurroundings}
 
 operands_of_access : (base index : ℕ) → operands (form.Access base index) ≡ base ∷ index ∷ []
 unfolding operands
@@ -102,7 +102,7 @@ right_of_multiply_add x a b c is = among x (a ∷ b ∷ c ∷ []) b (ap operands
 pub summand_of_multiply_add : (x : Expression) (a b c : ℕ) → x ≡ form.CooperativeMultiplyAdd a b c → Contains (operands x) c
 summand_of_multiply_add x a b c is = among x (a ∷ b ∷ c ∷ []) c (ap operands is ∙ operands_of_multiply_add a b c) (2, omega arith, refl)
 
-module _ (s : ExpressionSurroundings) (root : ℕ) (x : Expression) (can : CanJudge s root x) where
+module _ (s : ExpressionSurroundings) (root : ℕ) (x : Expression) (can : IsReady s root x) where
   -- the type of an operand is known
   pub typed : (o : ℕ) → Contains (operands x) o → o < length s.types
   typed o within = All-contains (λ o. o < length s.types) (operands x) o can.typed within

@@ -3,10 +3,10 @@ use Rattle.std.proofs.Common.{◌≡◌, ℕ, true, false, [], ◌∷◌, Option
 use Rattle.naga_exprs.specs.ConstExpression.{ConstSurroundings, const_expression_rule}
 use Rattle.naga_ir.specs.declared.expression.Expression.{Expression}
 use Rattle.naga_ir.specs.declared.expression.Expression.TheVariants as form
-use Rattle.naga_types.specs.Judging.{judged}
+use Rattle.naga_types.specs.Checks.{first_error_or}
 
 -- nothing passes two conditions of which the second is broken
-never_passed : {A E : Type 0} (a : Option E) (error : E) (value i : A) → judged (a ∷ Some error ∷ []) value ≡ Ok i → ⊥
+never_passed : {A E : Type 0} (a : Option E) (error : E) (value i : A) → first_error_or (a ∷ Some error ∷ []) value ≡ Ok i → ⊥
 never_passed None error value i h = cc h
 never_passed (Some e) error value i h = cc h
 

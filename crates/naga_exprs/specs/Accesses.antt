@@ -1,5 +1,5 @@
 -- The rules of accesses to parts of values.
-use Rattle.std.specs.Prelude.{◌≡◌, ltb, ℕ, Bool as Truth, true, false, List, [], ◌∷◌, Option, Some, None, Result, Ok, Err, length, slice_get}
+use Rattle.std.specs.Prelude.{◌≡◌, ltb, ℕ, Bool as Boolean, true, false, List, [], ◌∷◌, Option, Some, None, Result, Ok, Err, length, slice_get}
 use Rattle.naga_arena.specs.Numbers.{largest_u32}
 use Rattle.naga_flags.specs.declared.flags.ShaderStages.{ShaderStages}
 use Rattle.naga_ir.specs.ItemReferences.{GlobalLists, global_lists}
@@ -14,7 +14,7 @@ use Rattle.naga_info.specs.Surroundings.{ExpressionSurroundings, form_at}
 use Rattle.naga_info.specs.Words.{is_integer_scalar}
 use Rattle.naga_info.specs.declared.expression_error.ExpressionError.{ExpressionError}
 use Rattle.naga_info.specs.declared.expression_error.ExpressionError.TheVariants as refusal
-use Rattle.naga_types.specs.Judging.{granted, judged, unless}
+use Rattle.naga_types.specs.Checks.{ok_unless, first_error_or, require}
 use Rattle.naga_typing.specs.Constants.{index_of}
 use Rattle.naga_typing.specs.Index.{IsLength, LengthOfArray, pending_length, resolved_length}
 use Rattle.naga_typing.specs.Resolutions.{inner_in}
@@ -26,7 +26,7 @@ use Rattle.naga_typing.specs.declared.index.IndexableLengthError.{IndexableLengt
 use Rattle.naga_typing.specs.declared.typifier.TypeResolution.TheVariants.{Handle}
 
 -- the values of a form have parts at indexes that are computed
-abbrev pub has_parts : TypeInner → Truth
+abbrev pub has_parts : TypeInner → Boolean
 has_parts (Vector size scalar) = true
 has_parts (Matrix columns rows scalar) = true
 has_parts (Array base size stride) = true
@@ -44,37 +44,37 @@ has_parts (AccelerationStructure vertex_return) = false
 has_parts (RayQuery vertex_return) = false
 
 -- the lengths of arrays, by whether overrides must have their values
-abbrev pub lengths : Truth → GlobalLists → LengthOfArray
+abbrev pub lengths : Boolean → GlobalLists → LengthOfArray
 lengths true g = resolved_length g
 lengths false g = pending_length
 
 -- the refusal of a constant index: its base has no length, or one that is known and not above the index
-abbrev pub past_end : ℕ → ℕ → Result IndexableLength IndexableLengthError → Option ExpressionError
-past_end base value (Ok (Known n)) = unless (ltb value n) (refusal.IndexOutOfBounds base value)
-past_end base value (Ok Pending) = None
-past_end base value (Ok Dynamic) = None
-past_end base value (Err error) = Some (refusal.IndexableLength error)
+abbrev pub index_error : ℕ → ℕ → Result IndexableLength IndexableLengthError → Option ExpressionError
+index_error base value (Ok (Known n)) = require (ltb value n) (refusal.IndexOutOfBounds base value)
+index_error base value (Ok Pending) = None
+index_error base value (Ok Dynamic) = None
+index_error base value (Err error) = Some (refusal.IndexableLength error)
 
 -- the refusal of an index, unless it is no constant, or a number that is allowed
-abbrev pub bad_constant : ℕ → ℕ → Result IndexableLength IndexableLengthError → Result ℕ ConstValueError → Option ExpressionError
-bad_constant base index length (Ok value) = past_end base value length
-bad_constant base index length (Err Negative) = Some (refusal.NegativeIndex base)
-bad_constant base index length (Err InvalidType) = Some (refusal.InvalidIndexType index)
-bad_constant base index length (Err NonConst) = None
+abbrev pub constant_index_error : ℕ → ℕ → Result IndexableLength IndexableLengthError → Result ℕ ConstValueError → Option ExpressionError
+constant_index_error base index length (Ok value) = index_error base value length
+constant_index_error base index length (Err Negative) = Some (refusal.NegativeIndex base)
+constant_index_error base index length (Err InvalidType) = Some (refusal.InvalidIndexType index)
+constant_index_error base index length (Err NonConst) = None
 
 -- the conditions of an access to a base of this length: the base has parts, the index is an integer, and a constant index is within the base
-abbrev pub access_conditions : ExpressionSurroundings → ℕ → ℕ → Result IndexableLength IndexableLengthError → List (Option ExpressionError)
-access_conditions s base index length =
-    unless (has_parts (form_at s base)) (refusal.InvalidBaseType base) ∷
-    unless (is_integer_scalar (form_at s index)) (refusal.InvalidIndexType index) ∷
-    bad_constant base index length (index_of (global_lists s.«module») (slice_get s.function.expressions index)) ∷
+abbrev pub access_checks : ExpressionSurroundings → ℕ → ℕ → Result IndexableLength IndexableLengthError → List (Option ExpressionError)
+access_checks s base index length =
+    require (has_parts (form_at s base)) (refusal.InvalidBaseType base) ∷
+    require (is_integer_scalar (form_at s index)) (refusal.InvalidIndexType index) ∷
+    constant_index_error base index length (index_of (global_lists s.«module») (slice_get s.function.expressions index)) ∷
     []
 
 -- what is meant by the rule of an access, by the length of its base
-abbrev pub IsAccessMeant : ExpressionSurroundings → ℕ → ℕ → Result ShaderStages ExpressionError → Type 0
-IsAccessMeant s base index meant =
+abbrev pub IsAccessRule : ExpressionSurroundings → ℕ → ℕ → Result ShaderStages ExpressionError → Type 0
+IsAccessRule s base index meant =
     let g = global_lists s.«module» in
-    (length : Result IndexableLength IndexableLengthError) × IsLength g (lengths s.resolved g) (form_at s base) length × (meant ≡ judged (access_conditions s base index length) every_stage)
+    (length : Result IndexableLength IndexableLengthError) × IsLength g (lengths s.resolved g) (form_at s base) length × (meant ≡ first_error_or (access_checks s base index length) every_stage)
 
 -- the limit of the indexes into an array: its count if that is written, and else the greatest that there is
 abbrev pub count_limit : ArraySize → ℕ
@@ -111,10 +111,10 @@ index_limit types (Pointer base space) = part_limit_in (inner_in types (Handle b
 index_limit types inner = part_limit inner
 
 -- the refusal of a known index, unless its base has a limit and the index is below it
-abbrev pub not_below : ℕ → ℕ → Option ℕ → Option ExpressionError
-not_below base index None = Some (refusal.InvalidBaseType base)
-not_below base index (Some limit) = unless (ltb index limit) (refusal.IndexOutOfBounds base index)
+abbrev pub known_index_error : ℕ → ℕ → Option ℕ → Option ExpressionError
+known_index_error base index None = Some (refusal.InvalidBaseType base)
+known_index_error base index (Some limit) = require (ltb index limit) (refusal.IndexOutOfBounds base index)
 
 -- the rule of an access at a known index
 abbrev pub access_index_rule : ExpressionSurroundings → ℕ → ℕ → Result ShaderStages ExpressionError
-access_index_rule s base index = granted (not_below base index (index_limit s.«module».types (form_at s base))) every_stage
+access_index_rule s base index = ok_unless (known_index_error base index (index_limit s.«module».types (form_at s base))) every_stage

@@ -1,5 +1,5 @@
 -- The rule of one global expression, by its form.
-use Rattle.std.specs.Prelude.{ℕ, Bool as Truth, true, false, ◌||◌, List, [], ◌∷◌, Option, Some, None, Result, Ok, Err, slice_get}
+use Rattle.std.specs.Prelude.{ℕ, Bool as Boolean, true, false, ◌||◌, List, [], ◌∷◌, Option, Some, None, Result, Ok, Err, slice_get}
 use Rattle.naga_flags.specs.Width.{width_rule}
 use Rattle.naga_flags.specs.declared.width.ImmediateError.{ImmediateError}
 use Rattle.naga_flags.specs.declared.width.WidthError.{WidthError}
@@ -15,7 +15,7 @@ use Rattle.naga_ir.specs.declared.types.«Type».{«Type»}
 use Rattle.naga_ir.specs.declared.types.TypeInner.{TypeInner}
 use Rattle.naga_ir.specs.declared.types.TypeInner.TheVariants.{Scalar, Vector, Matrix, CooperativeMatrix, Atomic, Pointer, ValuePointer, Array, Struct, Image, Sampler, AccelerationStructure, RayQuery, BindingArray}
 use Rattle.naga_types.specs.Composing.{compose_rule, resolutions_at}
-use Rattle.naga_types.specs.Judging.{judged, only_if, unless}
+use Rattle.naga_types.specs.Checks.{first_error_or, when, require}
 use Rattle.naga_typing.specs.Kinds.{is_const, is_const_or_override}
 use Rattle.naga_typing.specs.Resolutions.{operand}
 use Rattle.naga_typing.specs.declared.expression_kind.ExpressionKind.{ExpressionKind}
@@ -24,7 +24,7 @@ use Rattle.naga_typing.specs.declared.typifier.TypeResolution.{TypeResolution}
 -- what a global expression is judged by beside its form: the capabilities, whether overrides must have their values, the types of the module, and the kinds and the types of global expressions
 pub record ConstSurroundings : Type 0 where
   pub capabilities : ℕ
-  pub resolved : Truth
+  pub resolved : Boolean
   pub types : List «Type»
   pub kinds : List ExpressionKind
   pub resolutions : List TypeResolution
@@ -44,7 +44,7 @@ refused_inside wrap (Ok value) = None
 refused_inside wrap (Err error) = Some (wrap error)
 
 -- whether a form is a scalar
-abbrev pub is_scalar : Option TypeInner → Truth
+abbrev pub is_scalar : Option TypeInner → Boolean
 is_scalar (Some (Scalar scalar)) = true
 is_scalar (Some (Vector size scalar)) = false
 is_scalar (Some (Matrix columns rows scalar)) = false
@@ -62,62 +62,62 @@ is_scalar (Some (BindingArray base size)) = false
 is_scalar None = false
 
 -- the value of an expression is known before the shader runs
-abbrev pub known_late : ConstSurroundings → ℕ → Option ConstExpressionError
-known_late s e = unless (is_const_or_override (slice_get s.kinds e)) refusal.NonConstOrOverride
+abbrev pub not_const_error : ConstSurroundings → ℕ → Option ConstExpressionError
+not_const_error s e = require (is_const_or_override (slice_get s.kinds e)) refusal.NonConstOrOverride
 
 -- a literal is accepted
-abbrev pub bad_literal : ConstSurroundings → Literal → Option ConstExpressionError
-bad_literal s value = refused_inside refusal.Literal (literal_rule s.capabilities value)
+abbrev pub literal_error : ConstSurroundings → Literal → Option ConstExpressionError
+literal_error s value = refused_inside refusal.Literal (literal_rule s.capabilities value)
 
 -- a value of a type may be composed of components
-abbrev pub bad_composition : ConstSurroundings → ℕ → List ℕ → Option ConstExpressionError
-bad_composition s ty components = refused_inside refusal.Compose (compose_rule s.types ty (resolutions_at components s.resolutions))
+abbrev pub composition_error : ConstSurroundings → ℕ → List ℕ → Option ConstExpressionError
+composition_error s ty components = refused_inside refusal.Compose (compose_rule s.types ty (resolutions_at components s.resolutions))
 
 -- the operand of a splat is a scalar
-abbrev pub bad_splat : ConstSurroundings → ℕ → Option ConstExpressionError
-bad_splat s value = unless (is_scalar (operand s.types s.resolutions value)) (refusal.InvalidSplatType value)
+abbrev pub splat_error : ConstSurroundings → ℕ → Option ConstExpressionError
+splat_error s value = require (is_scalar (operand s.types s.resolutions value)) (refusal.InvalidSplatType value)
 
 -- a value that is still to be computed depends on an override, and overrides need not have their values yet
-abbrev pub not_evaluated : ConstSurroundings → ℕ → Option ConstExpressionError
-not_evaluated s e = only_if (s.resolved || is_const (slice_get s.kinds e)) (Some refusal.NonFullyEvaluatedConst)
+abbrev pub evaluation_error : ConstSurroundings → ℕ → Option ConstExpressionError
+evaluation_error s e = when (s.resolved || is_const (slice_get s.kinds e)) (Some refusal.NonFullyEvaluatedConst)
 
 -- the conditions of the form of the expression of an index
-abbrev pub form_conditions : ConstSurroundings → ℕ → Expression → List (Option ConstExpressionError)
-form_conditions s e (form.Literal value) = bad_literal s value ∷ []
-form_conditions s e (form.Constant c) = []
-form_conditions s e (form.ZeroValue ty) = []
-form_conditions s e (form.Compose ty components) = bad_composition s ty components ∷ []
-form_conditions s e (form.Splat size value) = bad_splat s value ∷ []
-form_conditions s e (form.Override o) = not_evaluated s e ∷ []
-form_conditions s e (form.Access base index) = not_evaluated s e ∷ []
-form_conditions s e (form.AccessIndex base index) = not_evaluated s e ∷ []
-form_conditions s e (form.Swizzle size vector pattern) = not_evaluated s e ∷ []
-form_conditions s e (form.FunctionArgument index) = not_evaluated s e ∷ []
-form_conditions s e (form.GlobalVariable v) = not_evaluated s e ∷ []
-form_conditions s e (form.LocalVariable v) = not_evaluated s e ∷ []
-form_conditions s e (form.Load pointer) = not_evaluated s e ∷ []
-form_conditions s e (form.ImageSample image sampler gather coordinate array_index offset level depth_ref clamp_to_edge) = not_evaluated s e ∷ []
-form_conditions s e (form.ImageLoad image coordinate array_index sample level) = not_evaluated s e ∷ []
-form_conditions s e (form.ImageQuery image query) = not_evaluated s e ∷ []
-form_conditions s e (form.Unary op expr) = not_evaluated s e ∷ []
-form_conditions s e (form.Binary op left right) = not_evaluated s e ∷ []
-form_conditions s e (form.Select condition accept reject) = not_evaluated s e ∷ []
-form_conditions s e (form.Derivative expr) = not_evaluated s e ∷ []
-form_conditions s e (form.Relational fun argument) = not_evaluated s e ∷ []
-form_conditions s e (form.Math fun arg arg1 arg2 arg3) = not_evaluated s e ∷ []
-form_conditions s e (form.As expr kind convert) = not_evaluated s e ∷ []
-form_conditions s e (form.CallResult f) = not_evaluated s e ∷ []
-form_conditions s e (form.AtomicResult ty comparison) = not_evaluated s e ∷ []
-form_conditions s e (form.WorkGroupUniformLoadResult ty) = not_evaluated s e ∷ []
-form_conditions s e (form.ArrayLength expr) = not_evaluated s e ∷ []
-form_conditions s e form.RayQueryProceedResult = not_evaluated s e ∷ []
-form_conditions s e (form.RayQueryGetIntersection query committed) = not_evaluated s e ∷ []
-form_conditions s e (form.RayQueryVertexPositions query committed) = not_evaluated s e ∷ []
-form_conditions s e form.SubgroupBallotResult = not_evaluated s e ∷ []
-form_conditions s e (form.SubgroupOperationResult ty) = not_evaluated s e ∷ []
-form_conditions s e (form.CooperativeLoad pointer stride) = not_evaluated s e ∷ []
-form_conditions s e (form.CooperativeMultiplyAdd a b c) = not_evaluated s e ∷ []
+abbrev pub form_checks : ConstSurroundings → ℕ → Expression → List (Option ConstExpressionError)
+form_checks s e (form.Literal value) = literal_error s value ∷ []
+form_checks s e (form.Constant c) = []
+form_checks s e (form.ZeroValue ty) = []
+form_checks s e (form.Compose ty components) = composition_error s ty components ∷ []
+form_checks s e (form.Splat size value) = splat_error s value ∷ []
+form_checks s e (form.Override o) = evaluation_error s e ∷ []
+form_checks s e (form.Access base index) = evaluation_error s e ∷ []
+form_checks s e (form.AccessIndex base index) = evaluation_error s e ∷ []
+form_checks s e (form.Swizzle size vector pattern) = evaluation_error s e ∷ []
+form_checks s e (form.FunctionArgument index) = evaluation_error s e ∷ []
+form_checks s e (form.GlobalVariable v) = evaluation_error s e ∷ []
+form_checks s e (form.LocalVariable v) = evaluation_error s e ∷ []
+form_checks s e (form.Load pointer) = evaluation_error s e ∷ []
+form_checks s e (form.ImageSample image sampler gather coordinate array_index offset level depth_ref clamp_to_edge) = evaluation_error s e ∷ []
+form_checks s e (form.ImageLoad image coordinate array_index sample level) = evaluation_error s e ∷ []
+form_checks s e (form.ImageQuery image query) = evaluation_error s e ∷ []
+form_checks s e (form.Unary op expr) = evaluation_error s e ∷ []
+form_checks s e (form.Binary op left right) = evaluation_error s e ∷ []
+form_checks s e (form.Select condition accept reject) = evaluation_error s e ∷ []
+form_checks s e (form.Derivative expr) = evaluation_error s e ∷ []
+form_checks s e (form.Relational fun argument) = evaluation_error s e ∷ []
+form_checks s e (form.Math fun arg arg1 arg2 arg3) = evaluation_error s e ∷ []
+form_checks s e (form.As expr kind convert) = evaluation_error s e ∷ []
+form_checks s e (form.CallResult f) = evaluation_error s e ∷ []
+form_checks s e (form.AtomicResult ty comparison) = evaluation_error s e ∷ []
+form_checks s e (form.WorkGroupUniformLoadResult ty) = evaluation_error s e ∷ []
+form_checks s e (form.ArrayLength expr) = evaluation_error s e ∷ []
+form_checks s e form.RayQueryProceedResult = evaluation_error s e ∷ []
+form_checks s e (form.RayQueryGetIntersection query committed) = evaluation_error s e ∷ []
+form_checks s e (form.RayQueryVertexPositions query committed) = evaluation_error s e ∷ []
+form_checks s e form.SubgroupBallotResult = evaluation_error s e ∷ []
+form_checks s e (form.SubgroupOperationResult ty) = evaluation_error s e ∷ []
+form_checks s e (form.CooperativeLoad pointer stride) = evaluation_error s e ∷ []
+form_checks s e (form.CooperativeMultiplyAdd a b c) = evaluation_error s e ∷ []
 
 -- a global expression is accepted if its value is known before the shader runs, and it keeps the conditions of its form
 abbrev pub const_expression_rule : ConstSurroundings → ℕ → Expression → Result (Unit {0}) ConstExpressionError
-const_expression_rule s e x = judged (known_late s e ∷ form_conditions s e x) tt
+const_expression_rule s e x = first_error_or (not_const_error s e ∷ form_checks s e x) tt

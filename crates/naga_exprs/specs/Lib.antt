@@ -2,9 +2,9 @@
 -- ConstExpression.literal_rule: which literals are accepted
 -- ConstExpression.ConstSurroundings: what a global expression is judged by beside its form
 -- ConstExpression.const_expression_rule: which global expressions are accepted, and the first condition that another breaks
--- ExpressionRule.IsMeant: the rule of an expression of a function, by its form
--- ExpressionRule.IsExpressionReturned: what a call returns for an expression, out of memory aside
--- Accesses.IsAccessMeant: the rule of an access at an index that is computed
+-- ExpressionRule.IsRule: the rule of an expression of a function, by its form
+-- ExpressionRule.IsExpressionResult: what a call returns for an expression, out of memory aside
+-- Accesses.IsAccessRule: the rule of an access at an index that is computed
 -- Accesses.access_index_rule: the rule of an access at a known index
 -- Vectors.swizzle_rule: the rule of a swizzle
 -- Memory.load_rule, cooperative_load_rule, array_length_rule: the rules of loads and of the lengths of arrays

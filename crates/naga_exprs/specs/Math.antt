@@ -1,5 +1,5 @@
 -- The rule of mathematical functions.
-use Rattle.std.specs.Prelude.{◌+◌, leb, ℕ, Bool as Truth, List, [], ◌∷◌, Option, Result, length, map, take}
+use Rattle.std.specs.Prelude.{◌+◌, leb, ℕ, Bool as Boolean, List, [], ◌∷◌, Option, Result, length, map, take}
 use Rattle.std.specs.List.{enumerate_from, list_any}
 use Rattle.naga_flags.specs.Bits.{SHADER_FLOAT16_IN_FLOAT32}
 use Rattle.naga_flags.specs.Flags.{has}
@@ -12,44 +12,44 @@ use Rattle.naga_info.specs.Stages.{every_stage}
 use Rattle.naga_info.specs.Surroundings.{ExpressionSurroundings, form_at}
 use Rattle.naga_info.specs.declared.expression_error.ExpressionError.{ExpressionError}
 use Rattle.naga_info.specs.declared.expression_error.ExpressionError.TheVariants as refusal
-use Rattle.naga_types.specs.Judging.{first, judged, only_if, unless}
+use Rattle.naga_types.specs.Checks.{first, first_error_or, when, require}
 use Rattle.naga_typing.specs.Math.{arguments, has_no_gap}
 
 -- what a typing says of mathematical functions: whether one takes arguments that begin with some types; and if they do, how many arguments it takes at least
 pub record MathTyping : Type 0 where
-  pub accepts : MathFunction → List TypeInner → Truth
+  pub accepts : MathFunction → List TypeInner → Boolean
   pub least_arguments : MathFunction → List TypeInner → ℕ
 
 -- the functions that keep floating-point numbers of 16 bits in ones of 32
-abbrev pub keeps_float16 : MathFunction → Truth
+abbrev pub keeps_float16 : MathFunction → Boolean
 keeps_float16 fun = list_any (of_function.ghosts.eq fun) (QuantizeToF16 ∷ Pack2x16float ∷ Unpack2x16float ∷ [])
 
 -- the refusal of a function whose capability is missing
-abbrev pub lacks_float16 : ℕ → MathFunction → Option ExpressionError
-lacks_float16 capabilities fun = only_if (keeps_float16 fun) (unless (has capabilities SHADER_FLOAT16_IN_FLOAT32) (refusal.MissingCapabilities (record { 0 = SHADER_FLOAT16_IN_FLOAT32 })))
+abbrev pub float16_error : ℕ → MathFunction → Option ExpressionError
+float16_error capabilities fun = when (keeps_float16 fun) (require (has capabilities SHADER_FLOAT16_IN_FLOAT32) (refusal.MissingCapabilities (record { 0 = SHADER_FLOAT16_IN_FLOAT32 })))
 
 -- the refusal of an argument, given as its index and its operand, unless the function takes the types up to its own
-abbrev pub wrong : MathTyping → MathFunction → List TypeInner → ℕ × ℕ → Option ExpressionError
-wrong typing fun types argument = unless (typing.accepts fun (take (argument.0 + 1) types)) (refusal.InvalidArgumentType fun argument.0 argument.1)
+abbrev pub argument_error : MathTyping → MathFunction → List TypeInner → ℕ × ℕ → Option ExpressionError
+argument_error typing fun types argument = require (typing.accepts fun (take (argument.0 + 1) types)) (refusal.InvalidArgumentType fun argument.0 argument.1)
 
 -- the refusal of the first argument that is refused
-abbrev pub first_wrong : MathTyping → MathFunction → List TypeInner → List ℕ → Option ExpressionError
-first_wrong typing fun types given = first (map (wrong typing fun types) (enumerate_from 0 given))
+abbrev pub first_argument_error : MathTyping → MathFunction → List TypeInner → List ℕ → Option ExpressionError
+first_argument_error typing fun types given = first (map (argument_error typing fun types) (enumerate_from 0 given))
 
 -- the conditions of arguments of these types: the function takes each, and they are enough
-abbrev pub argument_conditions : MathTyping → MathFunction → List TypeInner → List ℕ → List (Option ExpressionError)
-argument_conditions typing fun types given =
-    first_wrong typing fun types given ∷
-    unless (leb (typing.least_arguments fun types) (length types)) (refusal.WrongArgumentCount fun) ∷
+abbrev pub argument_checks : MathTyping → MathFunction → List TypeInner → List ℕ → List (Option ExpressionError)
+argument_checks typing fun types given =
+    first_argument_error typing fun types given ∷
+    require (leb (typing.least_arguments fun types) (length types)) (refusal.WrongArgumentCount fun) ∷
     []
 
 -- the conditions of a function: its capability, that no argument is left out before another, and those of the arguments
-abbrev pub math_conditions : MathTyping → ExpressionSurroundings → MathFunction → ℕ → Option ℕ → Option ℕ → Option ℕ → List (Option ExpressionError)
-math_conditions typing s fun arg arg1 arg2 arg3 =
-    lacks_float16 s.capabilities fun ∷
-    unless (has_no_gap arg1 arg2 arg3) (refusal.WrongArgumentCount fun) ∷
-    argument_conditions typing fun (map (form_at s) (arguments arg arg1 arg2 arg3)) (arguments arg arg1 arg2 arg3)
+abbrev pub math_checks : MathTyping → ExpressionSurroundings → MathFunction → ℕ → Option ℕ → Option ℕ → Option ℕ → List (Option ExpressionError)
+math_checks typing s fun arg arg1 arg2 arg3 =
+    float16_error s.capabilities fun ∷
+    require (has_no_gap arg1 arg2 arg3) (refusal.WrongArgumentCount fun) ∷
+    argument_checks typing fun (map (form_at s) (arguments arg arg1 arg2 arg3)) (arguments arg arg1 arg2 arg3)
 
 -- the rule of a function
 abbrev pub math_rule : MathTyping → ExpressionSurroundings → MathFunction → ℕ → Option ℕ → Option ℕ → Option ℕ → Result ShaderStages ExpressionError
-math_rule typing s fun arg arg1 arg2 arg3 = judged (math_conditions typing s fun arg arg1 arg2 arg3) every_stage
+math_rule typing s fun arg arg1 arg2 arg3 = first_error_or (math_checks typing s fun arg arg1 arg2 arg3) every_stage

@@ -1,5 +1,5 @@
 -- The rules of loads and of the lengths of arrays.
-use Rattle.std.specs.Prelude.{ℕ, Bool as Truth, true, false, List, [], ◌∷◌, Option, Some, None, Result, is_some, option_and_then}
+use Rattle.std.specs.Prelude.{ℕ, Bool as Boolean, true, false, List, [], ◌∷◌, Option, Some, None, Result, is_some, option_and_then}
 use Rattle.naga_flags.specs.Bits.{DATA, SIZED, union_of}
 use Rattle.naga_flags.specs.Flags.{has}
 use Rattle.naga_flags.specs.declared.flags.ShaderStages.{ShaderStages}
@@ -14,7 +14,7 @@ use Rattle.naga_info.specs.Stages.{compute_stage, every_stage}
 use Rattle.naga_info.specs.Surroundings.{ExpressionSurroundings, flags_at, form_at}
 use Rattle.naga_info.specs.declared.expression_error.ExpressionError.{ExpressionError}
 use Rattle.naga_info.specs.declared.expression_error.ExpressionError.TheVariants as refusal
-use Rattle.naga_types.specs.Judging.{granted, unless}
+use Rattle.naga_types.specs.Checks.{ok_unless, require}
 use Rattle.naga_typing.specs.Resolutions.{inner_in}
 use Rattle.naga_typing.specs.declared.typifier.TypeResolution.TheVariants.{Handle}
 
@@ -23,7 +23,7 @@ abbrev pub loadable_flags : ℕ
 loadable_flags = union_of (SIZED ∷ DATA ∷ [])
 
 -- a value can be loaded through a form: a pointer to data of a fixed size, or any value pointer
-abbrev pub can_load : ExpressionSurroundings → TypeInner → Truth
+abbrev pub can_load : ExpressionSurroundings → TypeInner → Boolean
 can_load s (Pointer base space) = has (flags_at s base) loadable_flags
 can_load s (ValuePointer size scalar space) = true
 can_load s (Scalar scalar) = false
@@ -41,16 +41,16 @@ can_load s (BindingArray base size) = false
 
 -- the rule of a load
 abbrev pub load_rule : ExpressionSurroundings → ℕ → Result ShaderStages ExpressionError
-load_rule s pointer = granted (unless (can_load s (form_at s pointer)) (refusal.InvalidPointerType pointer)) every_stage
+load_rule s pointer = ok_unless (require (can_load s (form_at s pointer)) (refusal.InvalidPointerType pointer)) every_stage
 
 -- a count is that of a runtime-sized array
-abbrev pub is_dynamic : ArraySize → Truth
+abbrev pub is_dynamic : ArraySize → Boolean
 is_dynamic Dynamic = true
 is_dynamic (Constant n) = false
 is_dynamic (Pending o) = false
 
 -- a form is that of runtime-sized arrays
-abbrev pub is_dynamic_array : Option TypeInner → Truth
+abbrev pub is_dynamic_array : Option TypeInner → Boolean
 is_dynamic_array (Some (Array base size stride)) = is_dynamic size
 is_dynamic_array (Some (Scalar scalar)) = false
 is_dynamic_array (Some (Vector size scalar)) = false
@@ -68,7 +68,7 @@ is_dynamic_array (Some (BindingArray base size)) = false
 is_dynamic_array None = false
 
 -- a form is a pointer to a runtime-sized array
-abbrev pub points_to_dynamic : List «Type» → TypeInner → Truth
+abbrev pub points_to_dynamic : List «Type» → TypeInner → Boolean
 points_to_dynamic types (Pointer base space) = is_dynamic_array (inner_in types (Handle base))
 points_to_dynamic types (Scalar scalar) = false
 points_to_dynamic types (Vector size scalar) = false
@@ -86,7 +86,7 @@ points_to_dynamic types (BindingArray base size) = false
 
 -- the rule of the length of an array
 abbrev pub array_length_rule : ExpressionSurroundings → ℕ → Result ShaderStages ExpressionError
-array_length_rule s array = granted (unless (points_to_dynamic s.«module».types (form_at s array)) (refusal.InvalidArrayType array)) every_stage
+array_length_rule s array = ok_unless (require (points_to_dynamic s.«module».types (form_at s array)) (refusal.InvalidArrayType array)) every_stage
 
 -- the scalar of what a form points to, if that is a scalar, a vector or a matrix of either kind
 abbrev pub target_scalar : List «Type» → TypeInner → Option ScalarType
@@ -107,4 +107,4 @@ target_scalar types (BindingArray base size) = None
 
 -- the rule of a load of a cooperative matrix, which only compute shaders may use
 abbrev pub cooperative_load_rule : ExpressionSurroundings → ℕ → Result ShaderStages ExpressionError
-cooperative_load_rule s pointer = granted (unless (is_some (target_scalar s.«module».types (form_at s pointer))) (refusal.InvalidPointerType pointer)) compute_stage
+cooperative_load_rule s pointer = ok_unless (require (is_some (target_scalar s.«module».types (form_at s pointer))) (refusal.InvalidPointerType pointer)) compute_stage

@@ -1,5 +1,5 @@
 -- The rules of what is asked of ray queries.
-use Rattle.std.specs.Prelude.{◌&&◌, ◌||◌, ℕ, Bool as Truth, true, false, not, List, Option, Some, None, Result}
+use Rattle.std.specs.Prelude.{◌&&◌, ◌||◌, ℕ, Bool as Boolean, true, false, not, List, Option, Some, None, Result}
 use Rattle.naga_flags.specs.declared.flags.ShaderStages.{ShaderStages}
 use Rattle.naga_ir.specs.declared.types.«Type».{«Type»}
 use Rattle.naga_ir.specs.declared.types.AddressSpace.{AddressSpace}
@@ -10,12 +10,12 @@ use Rattle.naga_info.specs.Stages.{every_stage}
 use Rattle.naga_info.specs.Surroundings.{ExpressionSurroundings, form_at}
 use Rattle.naga_info.specs.declared.expression_error.ExpressionError.{ExpressionError}
 use Rattle.naga_info.specs.declared.expression_error.ExpressionError.TheVariants.{InvalidRayQueryType}
-use Rattle.naga_types.specs.Judging.{granted, unless}
+use Rattle.naga_types.specs.Checks.{ok_unless, require}
 use Rattle.naga_typing.specs.Resolutions.{inner_in}
 use Rattle.naga_typing.specs.declared.typifier.TypeResolution.TheVariants.{Handle}
 
 -- an address space is that of a function
-abbrev pub is_function : AddressSpace → Truth
+abbrev pub is_function : AddressSpace → Boolean
 is_function «space».Function = true
 is_function «space».Private = false
 is_function «space».WorkGroup = false
@@ -28,7 +28,7 @@ is_function «space».RayPayload = false
 is_function «space».IncomingRayPayload = false
 
 -- a form is a ray query, one that gives the vertices of a hit if these are asked for
-abbrev pub is_ray_query : Truth → Option TypeInner → Truth
+abbrev pub is_ray_query : Boolean → Option TypeInner → Boolean
 is_ray_query vertices (Some (RayQuery vertex_return)) = vertex_return || not vertices
 is_ray_query vertices (Some (Scalar scalar)) = false
 is_ray_query vertices (Some (Vector size scalar)) = false
@@ -46,7 +46,7 @@ is_ray_query vertices (Some (BindingArray base size)) = false
 is_ray_query vertices None = false
 
 -- a form is a pointer to a ray query of the function, and to one that gives the vertices of a hit if they are asked for
-abbrev pub points_to_ray_query : List «Type» → Truth → TypeInner → Truth
+abbrev pub points_to_ray_query : List «Type» → Boolean → TypeInner → Boolean
 points_to_ray_query types vertices (Pointer base space) = is_function space && is_ray_query vertices (inner_in types (Handle base))
 points_to_ray_query types vertices (Scalar scalar) = false
 points_to_ray_query types vertices (Vector size scalar) = false
@@ -63,8 +63,8 @@ points_to_ray_query types vertices (RayQuery vertex_return) = false
 points_to_ray_query types vertices (BindingArray base size) = false
 
 -- what is asked of a ray query: what the ray has hit, or the vertices of that
-abbrev pub ray_query_rule : Truth → ExpressionSurroundings → ℕ → Result ShaderStages ExpressionError
-ray_query_rule vertices s query = granted (unless (points_to_ray_query s.«module».types vertices (form_at s query)) (InvalidRayQueryType query)) every_stage
+abbrev pub ray_query_rule : Boolean → ExpressionSurroundings → ℕ → Result ShaderStages ExpressionError
+ray_query_rule vertices s query = ok_unless (require (points_to_ray_query s.«module».types vertices (form_at s query)) (InvalidRayQueryType query)) every_stage
 
 -- the rule of an intersection
 abbrev pub ray_query_get_intersection_rule : ExpressionSurroundings → ℕ → Result ShaderStages ExpressionError

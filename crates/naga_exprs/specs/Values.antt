@@ -12,27 +12,27 @@ use Rattle.naga_info.specs.Words.{is_scalar_that}
 use Rattle.naga_info.specs.declared.expression_error.ExpressionError.{ExpressionError}
 use Rattle.naga_info.specs.declared.expression_error.ExpressionError.TheVariants as refusal
 use Rattle.naga_types.specs.Composing.{compose_rule, resolutions_at}
-use Rattle.naga_types.specs.Judging.{granted, unless}
+use Rattle.naga_types.specs.Checks.{ok_unless, require}
 
 -- the rule of a literal: its width is allowed
 abbrev pub literal_value_rule : ExpressionSurroundings → Literal → Result ShaderStages ExpressionError
-literal_value_rule s value = granted (refused_inside refusal.Literal (literal_rule s.capabilities value)) every_stage
+literal_value_rule s value = ok_unless (refused_inside refusal.Literal (literal_rule s.capabilities value)) every_stage
 
 -- the rule of a zero value: its type is constructible
 abbrev pub zero_value_rule : ExpressionSurroundings → ℕ → Result ShaderStages ExpressionError
-zero_value_rule s ty = granted (unless (has (flags_at s ty) CONSTRUCTIBLE) (refusal.InvalidZeroValue ty)) every_stage
+zero_value_rule s ty = ok_unless (require (has (flags_at s ty) CONSTRUCTIBLE) (refusal.InvalidZeroValue ty)) every_stage
 
 -- the rule of a composition: the components fit
 abbrev pub composition_rule : ExpressionSurroundings → ℕ → List ℕ → Result ShaderStages ExpressionError
-composition_rule s ty components = granted (refused_inside refusal.Compose (compose_rule s.«module».types ty (resolutions_at components s.types))) every_stage
+composition_rule s ty components = ok_unless (refused_inside refusal.Compose (compose_rule s.«module».types ty (resolutions_at components s.types))) every_stage
 
 -- the rule of a splat: its operand is a scalar
 abbrev pub splat_rule : ExpressionSurroundings → ℕ → Result ShaderStages ExpressionError
-splat_rule s value = granted (unless (is_scalar_that (λ scalar. true) (form_at s value)) (refusal.InvalidSplatType value)) every_stage
+splat_rule s value = ok_unless (require (is_scalar_that (λ scalar. true) (form_at s value)) (refusal.InvalidSplatType value)) every_stage
 
 -- the rule of an argument: the function has one of this index
 abbrev pub argument_rule : ExpressionSurroundings → ℕ → Result ShaderStages ExpressionError
-argument_rule s index = granted (unless (ltb index (length s.function.arguments)) (refusal.FunctionArgumentDoesntExist index)) every_stage
+argument_rule s index = ok_unless (require (ltb index (length s.function.arguments)) (refusal.FunctionArgumentDoesntExist index)) every_stage
 
 -- the stages that may use a function, and none if nothing is known of it
 abbrev pub stages_in : Option FunctionInfo → ShaderStages
@@ -49,4 +49,4 @@ workgroup_load_flags = union_of (SIZED ∷ CONSTRUCTIBLE ∷ [])
 
 -- the rule of the result of a load for a whole workgroup, which only stages with workgroups may use
 abbrev pub workgroup_load_rule : ExpressionSurroundings → ℕ → Result ShaderStages ExpressionError
-workgroup_load_rule s ty = granted (unless (has (flags_at s ty) workgroup_load_flags) (refusal.InvalidWorkGroupUniformLoadResultType ty)) workgroup_stages
+workgroup_load_rule s ty = ok_unless (require (has (flags_at s ty) workgroup_load_flags) (refusal.InvalidWorkGroupUniformLoadResultType ty)) workgroup_stages

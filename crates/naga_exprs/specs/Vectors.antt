@@ -11,7 +11,7 @@ use Rattle.naga_info.specs.Stages.{every_stage}
 use Rattle.naga_info.specs.Surroundings.{ExpressionSurroundings, form_at}
 use Rattle.naga_info.specs.declared.expression_error.ExpressionError.{ExpressionError}
 use Rattle.naga_info.specs.declared.expression_error.ExpressionError.TheVariants as refusal
-use Rattle.naga_types.specs.Judging.{first, granted, unless}
+use Rattle.naga_types.specs.Checks.{first, ok_unless, require}
 
 -- the size of a vector; other forms have none
 abbrev pub vector_size : TypeInner → Option VectorSize
@@ -38,18 +38,18 @@ component_index Z = 2
 component_index W = 3
 
 -- the refusal of a component, unless a vector of this size has it
-abbrev pub lacks_component : VectorSize → SwizzleComponent → Option ExpressionError
-lacks_component size component = unless (ltb (component_index component) (components size)) (refusal.InvalidSwizzleComponent component size)
+abbrev pub component_error : VectorSize → SwizzleComponent → Option ExpressionError
+component_error size component = require (ltb (component_index component) (components size)) (refusal.InvalidSwizzleComponent component size)
 
 -- the refusal of the first component that a vector of this size lacks
 abbrev pub first_lacking : VectorSize → List SwizzleComponent → Option ExpressionError
-first_lacking size wanted = first (map (lacks_component size) wanted)
+first_lacking size wanted = first (map (component_error size) wanted)
 
 -- the refusal of a swizzle, unless a vector is swizzled, and has the first components of the pattern, as many as are taken
-abbrev pub bad_swizzle : ℕ → VectorSize → List SwizzleComponent → Option VectorSize → Option ExpressionError
-bad_swizzle vector taken pattern None = Some (refusal.InvalidVectorType vector)
-bad_swizzle vector taken pattern (Some size) = first_lacking size (take (components taken) pattern)
+abbrev pub swizzle_error : ℕ → VectorSize → List SwizzleComponent → Option VectorSize → Option ExpressionError
+swizzle_error vector taken pattern None = Some (refusal.InvalidVectorType vector)
+swizzle_error vector taken pattern (Some size) = first_lacking size (take (components taken) pattern)
 
 -- the rule of a swizzle
 abbrev pub swizzle_rule : ExpressionSurroundings → VectorSize → ℕ → List SwizzleComponent → Result ShaderStages ExpressionError
-swizzle_rule s taken vector pattern = granted (bad_swizzle vector taken pattern (vector_size (form_at s vector))) every_stage
+swizzle_rule s taken vector pattern = ok_unless (swizzle_error vector taken pattern (vector_size (form_at s vector))) every_stage

@@ -2,13 +2,13 @@
 
 ghost use Rattle.std.specs.Prelude.{◌≡◌, ◌<◌, length};
 ghost use Rattle.naga_exprs.specs.Accesses as rule;
-ghost use Rattle.naga_exprs.specs.Accesses.{IsAccessMeant, access_index_rule};
+ghost use Rattle.naga_exprs.specs.Accesses.{IsAccessRule, access_index_rule};
 ghost use Rattle.naga_exprs.specs.Vectors as vectors;
 ghost use Rattle.naga_exprs.specs.Vectors.{swizzle_rule};
 ghost use Rattle.naga_ir.specs.Handles.{GlobalReferencesOk};
 ghost use Rattle.naga_ir.specs.ItemReferences.{global_lists};
 ghost use Rattle.naga_info.specs.Surroundings.{AreSound, surroundings};
-ghost use Rattle.naga_types.specs.Judging.{granted};
+ghost use Rattle.naga_types.specs.Checks.{ok_unless};
 ghost use Rattle.naga_typing.specs.Context.{ReferencesExist};
 ghost use Rattle.naga_typing.specs.Index.{IsLength};
 
@@ -72,7 +72,7 @@ fn check_within(
     value: u32,
     length: Result<IndexableLength, IndexableLengthError>,
 ) -> Result<(), ExpressionError>
-    ensures { result ≡ granted (rule.past_end base value length) tt }
+    ensures { result ≡ ok_unless (rule.index_error base value length) tt }
 {
     match length? {
         IndexableLength::Known(known) if value >= known => {
@@ -89,7 +89,7 @@ fn check_constant(
     length: Result<IndexableLength, IndexableLengthError>,
     constant: Result<u32, ConstValueError>,
 ) -> Result<(), ExpressionError>
-    ensures { result ≡ granted (rule.bad_constant base index length constant) tt }
+    ensures { result ≡ ok_unless (rule.constant_index_error base index length constant) tt }
 {
     match constant {
         Ok(value) => check_within(base, value, length),
@@ -118,7 +118,7 @@ pub fn validate_access(
     requires base { base < length context.info.now.types }
     requires index { index < length context.info.now.types }
     requires exists { index < length context.function.now.expressions }
-    ensures { IsAccessMeant (surroundings context.entry) base index result }
+    ensures { IsAccessRule (surroundings context.entry) base index result }
 {
     let base_type = context.type_of(base);
     let length = indexable_length(context.overrides_resolved, base_type, context.module);
@@ -217,7 +217,7 @@ fn check_components(
     size: VectorSize,
     components: &[SwizzleComponent],
 ) -> Result<(), ExpressionError>
-    ensures { result ≡ granted (vectors.first_lacking size components.now) tt }
+    ensures { result ≡ ok_unless (vectors.first_lacking size components.now) tt }
 {
     for component in components {
         if component_index(*component) >= size.components() {

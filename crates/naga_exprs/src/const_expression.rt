@@ -2,10 +2,10 @@
 //! `validate_const_expression`).
 
 ghost use Rattle.std.specs.Prelude.{◌≡◌, ◌<◌, ◌≤◌, ◌||◌, [], ◌∷◌, All, IfSome, Some, length, slice_get};
-ghost use Rattle.naga_exprs.specs.ConstExpression.{const_expression_rule, form_conditions, is_scalar, literal_rule};
+ghost use Rattle.naga_exprs.specs.ConstExpression.{const_expression_rule, form_checks, is_scalar, literal_rule};
 ghost use Rattle.naga_info.specs.declared.const_expression_error.ConstExpressionError.TheVariants as refusal;
 ghost use Rattle.naga_ir.specs.Handles.{GlobalReferencesOk};
-ghost use Rattle.naga_types.specs.Judging.{granted, judged, only_if, unless};
+ghost use Rattle.naga_types.specs.Checks.{ok_unless, first_error_or, when, require};
 ghost use Rattle.naga_typing.specs.Context.{lists_of};
 ghost use Rattle.naga_typing.specs.Kinds.{is_const, is_const_or_override};
 ghost use Rattle.naga_typing.specs.Resolutions.{TypesExist, inner_in};
@@ -45,7 +45,7 @@ fn check_known(
     kinds: &ExpressionKindTracker,
 ) -> Result<(), ConstExpressionError>
     requires { handle < length kinds.now }
-    ensures { result ≡ granted (unless (is_const_or_override (slice_get kinds.now handle)) refusal.NonConstOrOverride) tt }
+    ensures { result ≡ ok_unless (require (is_const_or_override (slice_get kinds.now handle)) refusal.NonConstOrOverride) tt }
 {
     if kinds.is_const_or_override(handle) {
         return Ok(());
@@ -60,7 +60,7 @@ fn check_evaluated(
     kinds: &ExpressionKindTracker,
 ) -> Result<(), ConstExpressionError>
     requires { handle < length kinds.now }
-    ensures { result ≡ judged (only_if (overrides_resolved || is_const (slice_get kinds.now handle)) (Some refusal.NonFullyEvaluatedConst) ∷ []) tt }
+    ensures { result ≡ first_error_or (when (overrides_resolved || is_const (slice_get kinds.now handle)) (Some refusal.NonFullyEvaluatedConst) ∷ []) tt }
 {
     if overrides_resolved || kinds.is_const(handle) {
         return Err(ConstExpressionError::NonFullyEvaluatedConst);
@@ -75,7 +75,7 @@ fn check_splat(
     types: &UniqueArena,
 ) -> Result<(), ConstExpressionError>
     requires { TypesExist types.now resolution.now }
-    ensures { result ≡ judged (unless (is_scalar (inner_in types.now resolution.now)) (refusal.InvalidSplatType value) ∷ []) tt }
+    ensures { result ≡ first_error_or (require (is_scalar (inner_in types.now resolution.now)) (refusal.InvalidSplatType value) ∷ []) tt }
 {
     match resolution.inner_with(types) {
         TypeInner::Scalar(_) => Ok(()),
@@ -109,7 +109,7 @@ fn check_form<T: Typing>(
     requires kinds { handle < length kinds.now }
     requires typed { handle ≤ length mod_info.now.lists.const_expression_types }
     requires types { All (TypesExist gctx.types.now) mod_info.now.lists.const_expression_types }
-    ensures { result ≡ judged (form_conditions (record {
+    ensures { result ≡ first_error_or (form_checks (record {
       capabilities = ctx.entry.capabilities.0;
       resolved = ctx.entry.overrides_resolved;
       types = gctx.entry.types.now;

@@ -1,7 +1,7 @@
 //! The rule of one expression of a function (naga's `Validator::validate_expression`).
 
-ghost use Rattle.naga_exprs.specs.ExpressionRule.{IsExpressionReturned};
-ghost use Rattle.naga_info.specs.Surroundings.{CanJudge, IsJudgeable, surroundings};
+ghost use Rattle.naga_exprs.specs.ExpressionRule.{IsExpressionResult};
+ghost use Rattle.naga_info.specs.Surroundings.{IsReady, IsReadySomewhere, surroundings};
 
 use crate::access::{validate_access, validate_access_index, validate_swizzle};
 use crate::math::validate_math;
@@ -38,8 +38,8 @@ fn validate_form<T: Typing>(
     context: FunctionContext<'_>,
     expression: &Expression,
 ) -> Result<ShaderStages, ExpressionError>
-    requires can_judge { IsJudgeable (surroundings context) expression.now }
-    ensures { IsExpressionReturned (record { accepts = T.accepts_types typing.now; least_arguments = T.least_arguments typing.now }) (surroundings context.entry) expression.now result }
+    requires ready { IsReadySomewhere (surroundings context) expression.now }
+    ensures { IsExpressionResult (record { accepts = T.accepts_types typing.now; least_arguments = T.least_arguments typing.now }) (surroundings context.entry) expression.now result }
 {
     match *expression {
         Expression::Access { base, index } => validate_access(context, base, index),
@@ -169,7 +169,7 @@ pub fn validate_expression<T: Typing>(
     mod_info: &ModuleInfo,
     kinds: &ExpressionKindTracker,
 ) -> Result<ShaderStages, ExpressionError>
-    requires can_judge { CanJudge (record {
+    requires ready { IsReady (record {
       capabilities = ctx.capabilities.0;
       resolved = ctx.overrides_resolved;
       subgroup_stages = ctx.subgroup_stages;
@@ -179,7 +179,7 @@ pub fn validate_expression<T: Typing>(
       infos = mod_info.now.lists;
       kinds = kinds.now;
     }) root expression.now }
-    ensures { IsExpressionReturned (record { accepts = T.accepts_types ctx.entry.typing.now; least_arguments = T.least_arguments ctx.entry.typing.now }) (record {
+    ensures { IsExpressionResult (record { accepts = T.accepts_types ctx.entry.typing.now; least_arguments = T.least_arguments ctx.entry.typing.now }) (record {
       capabilities = ctx.entry.capabilities.0;
       resolved = ctx.entry.overrides_resolved;
       subgroup_stages = ctx.entry.subgroup_stages;

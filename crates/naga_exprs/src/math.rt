@@ -3,10 +3,10 @@
 ghost use Rattle.std.specs.Prelude.{◌≡◌, ◌≤◌, length, map};
 ghost use Rattle.naga_ir.specs.declared.expression.Expression.TheVariants as form;
 ghost use Rattle.naga_exprs.specs.Math as rule;
-ghost use Rattle.naga_exprs.specs.Math.{argument_conditions, first_wrong, math_rule};
+ghost use Rattle.naga_exprs.specs.Math.{argument_checks, first_argument_error, math_rule};
 ghost use Rattle.naga_info.specs.Stages as stages;
-ghost use Rattle.naga_info.specs.Surroundings.{IsJudgeable, surroundings};
-ghost use Rattle.naga_types.specs.Judging.{granted, judged};
+ghost use Rattle.naga_info.specs.Surroundings.{IsReadySomewhere, surroundings};
+ghost use Rattle.naga_types.specs.Checks.{ok_unless, first_error_or};
 
 use bitflags::Flags;
 use naga_flags::flags::{Capabilities, ShaderStages};
@@ -20,7 +20,7 @@ use naga_typing::typing::Typing;
 
 /// Checks that the capability of a function is given, if it needs one.
 fn check_capability(capabilities: Capabilities, fun: MathFunction) -> Result<(), ExpressionError>
-    ensures { result ≡ granted (rule.lacks_float16 capabilities.0 fun) tt }
+    ensures { result ≡ ok_unless (rule.float16_error capabilities.0 fun) tt }
 {
     let keeps_float16 = matches!(
         fun,
@@ -42,7 +42,7 @@ fn check_arguments<T: Typing>(
 ) -> Result<(), ExpressionError>
     requires typed { length arguments.now ≡ length types.now }
     requires few { length arguments.now ≤ 4 }
-    ensures { result ≡ granted (first_wrong (record { accepts = T.accepts_types typing.now; least_arguments = T.least_arguments typing.now }) fun (map (λ t. t.now) types.now) arguments.now) tt }
+    ensures { result ≡ ok_unless (first_argument_error (record { accepts = T.accepts_types typing.now; least_arguments = T.least_arguments typing.now }) fun (map (λ t. t.now) types.now) arguments.now) tt }
 {
     for (index, argument) in arguments.iter().enumerate() {
         if !typing.accepts(fun, &types[..index + 1]) {
@@ -62,7 +62,7 @@ fn validate_arguments<T: Typing>(
 ) -> Result<ShaderStages, ExpressionError>
     requires typed { length arguments.now ≡ length types.now }
     requires few { length arguments.now ≤ 4 }
-    ensures { result ≡ judged (argument_conditions (record { accepts = T.accepts_types typing.now; least_arguments = T.least_arguments typing.now }) fun (map (λ t. t.now) types.now) arguments.now) stages.every_stage }
+    ensures { result ≡ first_error_or (argument_checks (record { accepts = T.accepts_types typing.now; least_arguments = T.least_arguments typing.now }) fun (map (λ t. t.now) types.now) arguments.now) stages.every_stage }
 {
     check_arguments(typing, fun, arguments, types)?;
     if types.len() < typing.min_arguments(fun, types) {
@@ -91,7 +91,7 @@ pub fn validate_math<T: Typing>(
     arg2: Option<Handle<ExpressionTag>>,
     arg3: Option<Handle<ExpressionTag>>,
 ) -> Result<ShaderStages, ExpressionError>
-    requires { IsJudgeable (surroundings context) (form.Math fun arg arg1 arg2 arg3) }
+    requires { IsReadySomewhere (surroundings context) (form.Math fun arg arg1 arg2 arg3) }
     ensures { result ≡ math_rule (record { accepts = T.accepts_types typing.now; least_arguments = T.least_arguments typing.now }) (surroundings context.entry) fun arg arg1 arg2 arg3 }
 {
     check_capability(context.capabilities, fun)?;

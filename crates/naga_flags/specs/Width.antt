@@ -1,5 +1,5 @@
 -- The widths that scalars may have.
-use Rattle.std.specs.Prelude.{◌==◌, ◌&&◌, ◌||◌, ℕ, Bool as Truth, false, Result, Ok, Err, codes, if◌then◌else◌}
+use Rattle.std.specs.Prelude.{◌==◌, ◌&&◌, ◌||◌, ℕ, Bool as Boolean, false, Result, Ok, Err, codes, if◌then◌else◌}
 use Rattle.naga_ir.specs.declared.types.Scalar.{Scalar}
 use Rattle.naga_ir.specs.declared.types.ScalarKind.TheVariants.{Sint, Uint, Float, Bool, AbstractInt, AbstractFloat}
 use Rattle.naga_flags.specs.Bits.{FLOAT64, SHADER_FLOAT16, SHADER_INT16, SHADER_INT64}
@@ -24,7 +24,7 @@ abbrev pub width_64 : ℕ
 width_64 = 8
 
 -- whether a scalar has a width that these capabilities allow
-abbrev pub is_good_width : ℕ → Scalar → Truth
+abbrev pub is_good_width : ℕ → Scalar → Boolean
 is_good_width capabilities s = elim s.kind [
   | Bool ↦ s.width == bool_width
   | Float ↦ s.width == width_32 || s.width == width_64 && has capabilities FLOAT64 || s.width == width_16 && has capabilities SHADER_FLOAT16
@@ -35,8 +35,8 @@ is_good_width capabilities s = elim s.kind [
 ]
 
 -- the error for a scalar whose width they do not allow
-abbrev pub width_refusal : Scalar → WidthError
-width_refusal s = elim s.kind [
+abbrev pub width_error : Scalar → WidthError
+width_error s = elim s.kind [
   | Bool ↦ Invalid s.kind s.width
   | Float ↦
       if s.width == width_64 then MissingCapability (codes "f64") (codes "FLOAT64")
@@ -60,4 +60,4 @@ immediates_of s = if s.width == width_16 then Err (InvalidScalar s) else Ok tt
 
 -- a scalar has an allowed width, or is refused
 abbrev pub width_rule : ℕ → Scalar → Result (Result (Unit {0}) ImmediateError) WidthError
-width_rule capabilities s = if is_good_width capabilities s then Ok (immediates_of s) else Err (width_refusal s)
+width_rule capabilities s = if is_good_width capabilities s then Ok (immediates_of s) else Err (width_error s)

@@ -2,7 +2,7 @@
 use Rattle.std.proofs.Common.{◌≡◌, ◌<◌, ℕ, List, [], ◌∷◌, ◌++◌, Option, Some, None, All, Contains, map, slice_get, length, subst, sym, refl, arith, option_to_list}
 use Rattle.std.specs.List.{flat_map}
 use Rattle.std.proofs.lemmas.List.Elements.{All-append, All-contains, Contains-append_left, Contains-append_right}
-use Rattle.naga_ir.specs.Handles.{Counts, Exists, GoBack, HandlesAccepted, MemberExists, NamesType, OrderedInModule, OrderedReference, SizeGatesHold, among_globals, parent_filter, calls_function, function_counts, in_function, initialiser_at, initialiser_of, module_counts, place_of, size_initialiser, sized_by}
+use Rattle.naga_ir.specs.Handles.{Counts, Exists, ReferencesPrecede, HandlesAccepted, MemberExists, NamesType, OrderedInModule, OrderedReference, SizesResolveFirst, among_globals, parent_filter, calls_function, function_counts, in_function, initialiser_at, initialiser_of, module_counts, place_of, size_initialiser, sized_by}
 use Rattle.naga_ir.specs.ItemReferences.{all_functions, body_references, constant_references, expression_references, function_references, global_lists, local_references, local_variable_references, named_references, other_references, override_references, signature_references, type_references}
 use Rattle.naga_ir.specs.References.{operands}
 use Rattle.naga_ir.specs.Parts.{parts, size_override}
@@ -29,7 +29,7 @@ use Rattle.naga_handles.specs.steps.OtherItems.{OtherItemsOk}
 pub all_accepted : (m : Module)
     → All (Exists (module_counts m)) (flat_map (λ (t : «Type»). type_references t.inner) m.types)
     → All (Exists (module_counts m)) (flat_map expression_references m.global_expressions)
-    → GoBack (OrderedReference (global_lists m)) → SizeGatesHold (global_lists m) → OtherItemsOk m → HandlesAccepted m
+    → ReferencesPrecede (OrderedReference (global_lists m)) → SizesResolveFirst (global_lists m) → OtherItemsOk m → HandlesAccepted m
 all_accepted m types expressions globals_back gates h = record {
   exist = record {
     globals =

@@ -11,7 +11,7 @@ use Rattle.naga_ir.specs.Operands.{present}
 use Rattle.naga_ir.specs.References.{named_item, named_type}
 use Rattle.naga_ir.specs.declared.expression.Expression.{Expression}
 use Rattle.naga_ir.specs.declared.ir.DiagnosticFilterNode.{DiagnosticFilterNode}
-use Rattle.naga_ir.specs.FirstFailure.{ChecksEach}
+use Rattle.naga_ir.specs.FirstError.{ChecksEach}
 use Rattle.naga_ir.specs.declared.reference.Reference.{Reference}
 use Rattle.naga_ir.specs.declared.reference.Reference.TheVariants as to
 use Rattle.naga_ir.proofs.StatementLemmas.{checks-along, checks-before, checks-none, checks-single, checks-then}

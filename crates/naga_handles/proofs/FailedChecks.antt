@@ -13,8 +13,8 @@ use Rattle.naga_ir.specs.declared.ir.Function.{Function}
 use Rattle.naga_ir.specs.declared.ir.Module.{Module}
 use Rattle.naga_ir.specs.declared.reference.Reference.{Reference}
 use Rattle.naga_ir.specs.declared.reference.Reference.TheVariants as to
-use Rattle.naga_ir.specs.FirstFailure.{ChecksEach}
-use Rattle.naga_ir.proofs.FirstFailure.{error-from-checks}
+use Rattle.naga_ir.specs.FirstError.{ChecksEach}
+use Rattle.naga_ir.proofs.FirstError.{error-from-checks}
 use Rattle.naga_handles.specs.steps.OtherItems.{IsHandleRefusal}
 use Rattle.naga_handles.specs.declared.error.ValidationFault.{ValidationFault}
 use Rattle.naga_handles.specs.Faults.{IsFault, IsHandleFault, IsNoFunction, PlainReference, forward_in_module, in_entry_point, invalid, missing, missing_member, no_entry_point, not_there, of_constant, of_override, other, plain_references}

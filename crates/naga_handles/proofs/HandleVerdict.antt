@@ -7,7 +7,7 @@ use Rattle.naga_ir.specs.Handles.{Exists, HandlesAccepted, module_counts}
 use Rattle.naga_ir.specs.ItemReferences.{expression_references, type_references}
 use Rattle.naga_ir.specs.declared.ir.Module.{Module}
 use Rattle.naga_ir.specs.declared.types.«Type».{«Type»}
-use Rattle.naga_handles.specs.Faults.{IsFault, MayRequestMemory}
+use Rattle.naga_handles.specs.Faults.{IsFault, NeedsMemory}
 use Rattle.naga_handles.specs.Order.{CanBeOrdered}
 use Rattle.naga_handles.specs.steps.OtherItems.{IsHandleRefusal, OtherItemsOk}
 use Rattle.naga_handles.specs.declared.error.ValidationFault.{ValidationFault}
@@ -26,7 +26,7 @@ all_right m can (Err fault) others = tt
 
 -- a result that is right in both cases decides whether they are right
 pub decides : (m : Module) (result : Result (Unit {0}) ValidationFault) → OnOk result (HandlesAccepted m) → IfErr result (IsHandleRefusal m)
-    → UnlessOutOfMemory (λ f. (f ≡ OutOfMemory) × MayRequestMemory m) result (λ _. HandlesAccepted m) (λ f. IsFault m f × (HandlesAccepted m → ⊥))
+    → UnlessOutOfMemory (λ f. (f ≡ OutOfMemory) × NeedsMemory m) result (λ _. HandlesAccepted m) (λ f. IsFault m f × (HandlesAccepted m → ⊥))
 decides m (Ok _) accepted refused = accepted
 decides m (Err f) accepted refused =
     ⊎_elim (λ (fault : IsFault m f). inr (fault, fault_breaks m f fault))

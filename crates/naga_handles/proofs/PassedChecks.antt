@@ -7,7 +7,7 @@ use Rattle.std.proofs.lemmas.Option.{same_Some, slice_get_within}
 use Rattle.naga_ir.specs.Handles.{Counts, Exists, MemberExists, OrderedOperands, function_counts, module_counts, own_operand, place_of}
 use Rattle.naga_ir.specs.ItemReferences.{all_functions, body_references, comment_references, constant_references, entry_point_references, expression_references, function_references, global_variable_references, local_references, local_variable_references, named_references, other_references, override_references, signature_references, special_types}
 use Rattle.naga_ir.specs.References.{operands}
-use Rattle.naga_ir.specs.FirstFailure.{ChecksEach}
+use Rattle.naga_ir.specs.FirstError.{ChecksEach}
 use Rattle.naga_ir.specs.declared.types.«Type».{«Type»}
 use Rattle.naga_ir.specs.declared.expression.Expression.{Expression}
 use Rattle.naga_ir.specs.declared.ir.DiagnosticFilterNode.{DiagnosticFilterNode}

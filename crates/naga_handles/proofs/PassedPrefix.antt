@@ -4,7 +4,7 @@ use Rattle.std.specs.Prelude.{Result, Ok, Err, All}
 use Rattle.std.specs.List.{flat_map}
 use Rattle.std.proofs.lemmas.List.Elements.{All-nil, All-append, All-head, All-tail, All-weaker}
 use Rattle.std.proofs.lemmas.Grind.{flat_map-append}
-use Rattle.naga_ir.specs.FirstFailure.{AcceptsAll, ChecksEach}
+use Rattle.naga_ir.specs.FirstError.{AcceptsAll, ChecksEach}
 use Rattle.naga_ir.proofs.StatementLemmas.{checks-along, checks-before, checks-none, checks-then}
 
 -- all items up to those that are left are accepted

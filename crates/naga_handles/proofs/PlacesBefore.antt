@@ -1,7 +1,7 @@
 -- Indices in their order, as far as they are less than another.
 use Rattle.std.proofs.Common.{◌≡◌, ◌<◌, ◌≤◌, ◌⊎◌, ⊎_elim, inl, inr, ℕ, zero, suc, Contains, List, [], ◌∷◌, refl, sym, subst, arith}
 use Rattle.std.proofs.lemmas.List.Elements.{All-contains, Contains-append_cases, Contains-append_right}
-use Rattle.naga_ir.specs.FirstFailure.{AcceptsAll, IsFirstFailure}
+use Rattle.naga_ir.specs.FirstError.{AcceptsAll, IsFirstErrorOf}
 use Rattle.naga_ir.specs.declared.reference.Reference.TheVariants as to
 use Rattle.naga_handles.specs.steps.ItemChecks.{IsOperandResult}
 use Rattle.naga_handles.specs.steps.VisitState.{AllBefore, NamesLate}
@@ -50,7 +50,7 @@ unfolding AllBefore
 accepted_before e operands accepted = λ p stands. All-contains (λ o. o < e) operands p accepted stands
 
 -- the first that is refused does not
-pub refused_late : (e : ℕ) (operands : List ℕ) (error : InvalidHandleError) → IsFirstFailure (IsOperandResult e) operands error → NamesLate to.Expression e operands error
+pub refused_late : (e : ℕ) (operands : List ℕ) (error : InvalidHandleError) → IsFirstErrorOf (IsOperandResult e) operands error → NamesLate to.Expression e operands error
 refused_late e operands error r =
     let stands : Contains operands r.item = subst (λ l. Contains l r.item) (sym r.at) (Contains-append_right r.before (r.item ∷ r.after) r.item (0, omega arith, refl)) in (
       r.item,

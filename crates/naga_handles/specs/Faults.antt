@@ -119,5 +119,5 @@ pub data IsFault (m : Module) : ValidationFault → Type 0 where
       → (MemberExists m.types (t, k) → ⊥) → IsFault m (MissingMember t (display_name x))
 
 -- memory may be requested: there are overrides, or a comment documents a missing member
-abbrev pub MayRequestMemory : Module → Type 0
-MayRequestMemory m = (0 < length m.overrides) ⊎ ((t : ℕ) × (name : List ℕ) × IsFault m (MissingMember t name))
+abbrev pub NeedsMemory : Module → Type 0
+NeedsMemory m = (0 < length m.overrides) ⊎ ((t : ℕ) × (name : List ℕ) × IsFault m (MissingMember t name))

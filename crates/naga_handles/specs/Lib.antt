@@ -1,6 +1,6 @@
 -- To read first, after those of naga_ir:
 -- Faults.IsHandleFault, IsFault: what may be wrong with the handles of a module, by the error that says so
--- Faults.MayRequestMemory: when the pass may request memory
+-- Faults.NeedsMemory: when the pass may request memory
 -- Order.CanBeOrdered: when types and global expressions can be visited
 -- Order.IsOrder, RanksFall: in which order, and that each follows what it needs
 pub mod Faults

@@ -1,7 +1,7 @@
 -- When the types and global expressions of a module can be visited, and in which order.
 use Rattle.std.specs.Prelude.{◌≡◌, ℕ, ◌+◌, ◌<◌, List, ◌++◌, All, Some, length, slice_get}
 use Rattle.std.specs.List.{flat_map}
-use Rattle.naga_ir.specs.Handles.{Exists, GoBack, OrderedReference, SizeGatesHold, module_counts, size_initialiser}
+use Rattle.naga_ir.specs.Handles.{Exists, ReferencesPrecede, OrderedReference, SizesResolveFirst, module_counts, size_initialiser}
 use Rattle.naga_ir.specs.ItemReferences.{GlobalLists, expression_references, global_lists, type_references}
 use Rattle.naga_ir.specs.Ranks.{DependsOn, rank_of_expression, rank_of_type}
 use Rattle.naga_ir.specs.declared.ir.Module.{Module}
@@ -18,8 +18,8 @@ use Rattle.naga_handles.specs.declared.order.Item.TheVariants as item
 pub record CanBeOrdered (m : Module) : Type 0 where
   pub exist : All (Exists (module_counts m)) (flat_map (λ (t : «Type»). type_references t.inner) m.types ++ flat_map expression_references m.global_expressions)
   pub initialisers : (t n : ℕ) → size_initialiser (global_lists m) t ≡ Some n → n < length m.global_expressions
-  pub back : GoBack (OrderedReference (global_lists m))
-  pub gates : SizeGatesHold (global_lists m)
+  pub back : ReferencesPrecede (OrderedReference (global_lists m))
+  pub gates : SizesResolveFirst (global_lists m)
 
 -- the index in the order of what a reference names, if it is a type or a global expression
 abbrev pub rank_of : GlobalLists → Reference → ℕ

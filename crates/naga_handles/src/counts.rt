@@ -3,7 +3,7 @@
 ghost use Rattle.std.specs.Prelude.{◌≡◌, ◌<◌, ◌↔◌, IfErr, IsOk, MatchResult};
 ghost use Rattle.naga_ir.specs.Handles.{Exists, function_counts, module_counts};
 ghost use Rattle.naga_ir.specs.References.{operands};
-ghost use Rattle.naga_ir.specs.FirstFailure.{ChecksEach};
+ghost use Rattle.naga_ir.specs.FirstError.{ChecksEach};
 ghost use Rattle.naga_handles.specs.Faults.{missing};
 ghost use Rattle.naga_handles.specs.steps.ItemChecks.{IsOperandResult};
 

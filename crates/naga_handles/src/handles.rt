@@ -9,9 +9,9 @@ ghost use Rattle.naga_ir.specs.ItemReferences as item;
 ghost use Rattle.naga_ir.specs.Handles.{HandlesAccepted, function_counts, module_counts};
 ghost use Rattle.naga_ir.specs.Operands.{present};
 ghost use Rattle.naga_ir.specs.declared.reference.Reference.TheVariants as to;
-ghost use Rattle.naga_ir.specs.FirstFailure.{ChecksEach};
+ghost use Rattle.naga_ir.specs.FirstError.{ChecksEach};
 ghost use Rattle.naga_arena.specs.Memory.{UnlessOutOfMemory};
-ghost use Rattle.naga_handles.specs.Faults.{IsFault, MayRequestMemory, display_name, text_of_unnamed};
+ghost use Rattle.naga_handles.specs.Faults.{IsFault, NeedsMemory, display_name, text_of_unnamed};
 ghost use Rattle.naga_handles.specs.steps.ItemChecks.{IsResult, IsEntryPointResult, IsMemberResult, IsOperandResult, HasMember, all_filter_checks, code_checks, documented_references, entry_point_checks, expression_checks, filter_checks, function_checks, checks_in, module_checks, numbered_checks, valued_references};
 ghost use Rattle.naga_handles.specs.steps.OtherItems.{IsHandleRefusal, OtherItemsOk};
 ghost use Rattle.naga_handles.specs.steps.Checks.{of_function};
@@ -54,7 +54,7 @@ use std::alloc::Global;
 /// comments. `MissingMember` is of a comment on a member. `OutOfMemory` if memory was refused, which
 /// can only be if the module has overrides or a `MissingMember` is due.
 pub fn validate_module_handles(alloc: Global, module: &Module) -> Result<(), ValidationFault>
-    ensures { UnlessOutOfMemory (λ fault. (fault ≡ ValidationFault.OutOfMemory) × MayRequestMemory «module».now) result (λ _. HandlesAccepted «module».now)
+    ensures { UnlessOutOfMemory (λ fault. (fault ≡ ValidationFault.OutOfMemory) × NeedsMemory «module».now) result (λ _. HandlesAccepted «module».now)
         (λ fault. IsFault «module».now fault × (HandlesAccepted «module».now → ⊥)) }
 {
     validate_all_handles(alloc, module)

@@ -12,7 +12,7 @@ use Rattle.naga_ir.specs.declared.expression.Expression.{Expression}
 use Rattle.naga_ir.specs.declared.expression.Expression.TheVariants as form
 use Rattle.naga_ir.specs.declared.expression.ImageQuery.{ImageQuery}
 use Rattle.naga_ir.specs.declared.reference.Reference.TheVariants as to
-use Rattle.naga_info.specs.Surroundings.{CanJudge, ExpressionSurroundings}
+use Rattle.naga_info.specs.Surroundings.{IsReady, ExpressionSurroundings}
 
 operands_of_sample : (s : Sample) → operands (expression_of s) ≡ s.image ∷ s.sampler ∷ s.coordinate ∷ option_to_list s.array_index ++ (option_to_list s.offset ++ (level_operands s.level ++ option_to_list s.depth_ref))
 unfolding operands
@@ -88,7 +88,7 @@ module _ (P : ℕ → Type 0) where
       (given 0 image (omega arith), all-right P (image ∷ []) (query_operands query) given)
 
 -- an operand can be looked up
-pub looked_up : (s : ExpressionSurroundings) (root : ℕ) (x : Expression) (o : ℕ) → CanJudge s root x → Contains (operands x) o → CanLookUp s o
+pub looked_up : (s : ExpressionSurroundings) (root : ℕ) (x : Expression) (o : ℕ) → IsReady s root x → Contains (operands x) o → CanLookUp s o
 looked_up s root x o can within = record {
   there =
       All-contains (Exists (function_counts s.«module» s.function)) (expression_references x) (to.Expression o) can.references

@@ -1,5 +1,5 @@
 -- What the rules of images ask of coordinates, and of the indexes of layers, samples and levels.
-use Rattle.std.specs.Prelude.{◌&&◌, ◌==◌, ℕ, Bool as Truth, [], ◌∷◌, Option, Some, None, is_some}
+use Rattle.std.specs.Prelude.{◌&&◌, ◌==◌, ℕ, Bool as Boolean, [], ◌∷◌, Option, Some, None, is_some}
 use Rattle.std.specs.Bool.{beq}
 use Rattle.naga_flags.specs.Width.{width_32}
 use Rattle.naga_ir.specs.contracts.types.ScalarKindPartialEq.TheImpl as of_kind
@@ -12,7 +12,7 @@ use Rattle.naga_info.specs.Surroundings.{ExpressionSurroundings, form_at}
 use Rattle.naga_info.specs.Words.{is_of, is_scalar_that}
 use Rattle.naga_info.specs.declared.expression_error.ExpressionError.{ExpressionError}
 use Rattle.naga_info.specs.declared.expression_error.ExpressionError.TheVariants as refusal
-use Rattle.naga_types.specs.Judging.{first, unless}
+use Rattle.naga_types.specs.Checks.{first, require}
 use Rattle.naga_types.specs.TypeRule.{is_integer}
 
 -- how many numbers the coordinates of an image of this dimension are
@@ -23,26 +23,26 @@ coordinate_count D3 = 3
 coordinate_count Cube = 3
 
 -- a form is that of so many scalars of a kind: of one, or of a vector
-abbrev pub is_of_kind : ℕ → ScalarKind → TypeInner → Truth
+abbrev pub is_of_kind : ℕ → ScalarKind → TypeInner → Boolean
 is_of_kind count kind inner = is_of count (λ scalar. of_kind.ghosts.eq scalar.kind kind) inner
 
 -- a form is that of the coordinates of samples of an image of this dimension: floating-point numbers
-abbrev pub are_coordinates : ImageDimension → TypeInner → Truth
+abbrev pub are_coordinates : ImageDimension → TypeInner → Boolean
 are_coordinates dim inner = is_of_kind (coordinate_count dim) Float inner
 
 -- a form is that of one integer of 32 bits
-abbrev pub is_index : TypeInner → Truth
+abbrev pub is_index : TypeInner → Boolean
 is_index inner = is_scalar_that (λ scalar. is_integer scalar.kind && scalar.width == width_32) inner
 
 -- the refusal of an operand, unless its form is so, or there is none
-abbrev pub unless_operand : ExpressionSurroundings → (TypeInner → Truth) → Option ℕ → (ℕ → ExpressionError) → Option ExpressionError
+abbrev pub unless_operand : ExpressionSurroundings → (TypeInner → Boolean) → Option ℕ → (ℕ → ExpressionError) → Option ExpressionError
 unless_operand s is None error = None
-unless_operand s is (Some e) error = unless (is (form_at s e)) (error e)
+unless_operand s is (Some e) error = require (is (form_at s e)) (error e)
 
 -- the refusal of a layer, unless one is chosen of an image that has several, and none of another
-abbrev pub misplaced_layer : Truth → Truth → Option ExpressionError
-misplaced_layer arrayed has_index = unless (beq arrayed has_index) refusal.InvalidImageArrayIndex
+abbrev pub layer_presence_error : Boolean → Boolean → Option ExpressionError
+layer_presence_error arrayed has_index = require (beq arrayed has_index) refusal.InvalidImageArrayIndex
 
 -- the refusal of a layer, unless it is chosen of an image that has several, and its index is of a form that is so
-abbrev pub bad_layer : ExpressionSurroundings → (TypeInner → Truth) → Truth → Option ℕ → Option ExpressionError
-bad_layer s is arrayed array_index = first (misplaced_layer arrayed (is_some array_index) ∷ unless_operand s is array_index refusal.InvalidImageArrayIndexType ∷ [])
+abbrev pub layer_error : ExpressionSurroundings → (TypeInner → Boolean) → Boolean → Option ℕ → Option ExpressionError
+layer_error s is arrayed array_index = first (layer_presence_error arrayed (is_some array_index) ∷ unless_operand s is array_index refusal.InvalidImageArrayIndexType ∷ [])

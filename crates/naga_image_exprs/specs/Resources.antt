@@ -1,5 +1,5 @@
 -- The images and samplers that operands stand for.
-use Rattle.std.specs.Prelude.{ℕ, Bool as Truth, Option, Some, None, Result, Ok, Err, ok_or, option_and_then, option_map, slice_get}
+use Rattle.std.specs.Prelude.{ℕ, Bool as Boolean, Option, Some, None, Result, Ok, Err, ok_or, option_and_then, option_map, slice_get}
 use Rattle.naga_image_exprs.specs.declared.resource.ImageType.{ImageType}
 use Rattle.naga_ir.specs.declared.expression.Expression.{Expression}
 use Rattle.naga_ir.specs.declared.expression.Expression.TheVariants as form
@@ -148,7 +148,7 @@ abbrev pub image_at : ExpressionSurroundings → ℕ → Result ImageType Expres
 image_at s image = and_then (resource_type s image) (image_type s)
 
 -- whether a form is that of a sampler that compares, if it is that of a sampler
-abbrev pub sampler_of : TypeInner → Option Truth
+abbrev pub sampler_of : TypeInner → Option Boolean
 sampler_of (Sampler comparison) = Some comparison
 sampler_of (Scalar scalar) = None
 sampler_of (Vector size scalar) = None
@@ -165,5 +165,5 @@ sampler_of (RayQuery vertex_return) = None
 sampler_of (BindingArray base size) = None
 
 -- whether the sampler of a type compares
-abbrev pub sampler_comparison : ExpressionSurroundings → ℕ → Result Truth ExpressionError
+abbrev pub sampler_comparison : ExpressionSurroundings → ℕ → Result Boolean ExpressionError
 sampler_comparison s ty = ok_or (option_and_then sampler_of (inner_in s.«module».types (Handle ty))) (refusal.ExpectedSamplerType ty)

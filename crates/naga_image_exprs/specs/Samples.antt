@@ -1,9 +1,9 @@
 -- The rule of samples of images.
-use Rattle.std.specs.Prelude.{◌≡◌, ◌&&◌, ◌||◌, ℕ, Bool as Truth, true, false, not, List, [], ◌∷◌, Option, Some, None, Result, Ok, Err, String, is_some, slice_get}
+use Rattle.std.specs.Prelude.{◌≡◌, ◌&&◌, ◌||◌, ℕ, Bool as Boolean, true, false, not, List, [], ◌∷◌, Option, Some, None, Result, Ok, Err, String, is_some, slice_get}
 use Rattle.std.specs.Bool.{beq}
 use Rattle.std.specs.declared.alloc.Global.{Global}
 use Rattle.naga_flags.specs.declared.flags.ShaderStages.{ShaderStages}
-use Rattle.naga_image_exprs.specs.Coordinates.{are_coordinates, bad_layer, coordinate_count, is_of_kind}
+use Rattle.naga_image_exprs.specs.Coordinates.{are_coordinates, layer_error, coordinate_count, is_of_kind}
 use Rattle.naga_image_exprs.specs.Resources.{and_then, image_type, resource_type, sampler_comparison}
 use Rattle.naga_image_exprs.specs.declared.resource.ImageType.{ImageType}
 use Rattle.naga_image_exprs.specs.declared.sample.Sample.{Sample}
@@ -19,13 +19,13 @@ use Rattle.naga_ir.specs.declared.types.ImageDimension.{ImageDimension}
 use Rattle.naga_ir.specs.declared.types.ImageDimension.TheVariants.{D1, D2, D3, Cube}
 use Rattle.naga_ir.specs.declared.types.ScalarKind.TheVariants.{Float, Sint}
 use Rattle.naga_ir.specs.declared.types.TypeInner.{TypeInner}
-use Rattle.naga_info.specs.Results.{IsReturned}
+use Rattle.naga_info.specs.Results.{IsRuleResult}
 use Rattle.naga_info.specs.Stages.{every_stage, fragment_stage}
 use Rattle.naga_info.specs.Surroundings.{ExpressionSurroundings, form_at}
 use Rattle.naga_info.specs.Words.{is_integer_scalar}
 use Rattle.naga_info.specs.declared.expression_error.ExpressionError.{ExpressionError}
 use Rattle.naga_info.specs.declared.expression_error.ExpressionError.TheVariants as refusal
-use Rattle.naga_types.specs.Judging.{first, judged, unless}
+use Rattle.naga_types.specs.Checks.{first, first_error_or, require}
 use Rattle.naga_types.specs.TypeRule.{is_external, is_flat, is_float, is_integer}
 use Rattle.naga_typing.specs.Kinds.{is_const}
 
@@ -34,7 +34,7 @@ abbrev pub expression_of : Sample → Expression
 expression_of x = form.ImageSample x.image x.sampler x.gather x.coordinate x.array_index x.offset x.level x.depth_ref x.clamp_to_edge
 
 -- what is sampled, and whether the sampler compares: both are resources, the one an image and the other a sampler
-abbrev pub sampled : ExpressionSurroundings → ℕ → ℕ → Result (ImageType × Truth) ExpressionError
+abbrev pub sampled : ExpressionSurroundings → ℕ → ℕ → Result (ImageType × Boolean) ExpressionError
 sampled s image sampler =
     and_then (resource_type s image) (λ image_ty.
     and_then (resource_type s sampler) (λ sampler_ty.
@@ -42,43 +42,43 @@ sampled s image sampler =
     and_then (image_type s image_ty) (λ found. Ok (found, comparison)))))
 
 -- a class can be sampled, or gathered from: what is gathered may be integers, and nothing is multisampled
-abbrev pub can_sample : ImageClass → Truth → Truth
+abbrev pub can_sample : ImageClass → Boolean → Boolean
 can_sample (Sampled kind multi) gathers = not multi && (is_float kind || is_integer kind && gathers)
 can_sample (Depth multi) gathers = not multi
 can_sample (Storage format access) gathers = false
 can_sample External gathers = true
 
 -- the refusal of a class, unless it can be sampled
-abbrev pub bad_class : ImageClass → Option SwizzleComponent → Option ExpressionError
-bad_class class gather = unless (can_sample class (is_some gather)) (refusal.InvalidImageClass class)
+abbrev pub class_error : ImageClass → Option SwizzleComponent → Option ExpressionError
+class_error class gather = require (can_sample class (is_some gather)) (refusal.InvalidImageClass class)
 
 -- a class is that of depths
-abbrev pub is_depth : ImageClass → Truth
+abbrev pub is_depth : ImageClass → Boolean
 is_depth (Depth multi) = true
 is_depth (Sampled kind multi) = false
 is_depth (Storage format access) = false
 is_depth External = false
 
 -- the refusal of a sampler, unless it compares exactly if there is a reference, and then depths
-abbrev pub bad_comparison : ImageClass → Truth → Option ℕ → Option ExpressionError
-bad_comparison class comparison depth_ref =
-    unless (beq comparison (is_some depth_ref) && (not comparison || is_depth class)) (refusal.ComparisonSamplingMismatch class comparison (is_some depth_ref))
+abbrev pub comparison_error : ImageClass → Boolean → Option ℕ → Option ExpressionError
+comparison_error class comparison depth_ref =
+    require (beq comparison (is_some depth_ref) && (not comparison || is_depth class)) (refusal.ComparisonSamplingMismatch class comparison (is_some depth_ref))
 
 -- the refusal of coordinates, unless they are floating-point numbers, as many as an image of this dimension wants
-abbrev pub bad_coordinate : ExpressionSurroundings → ImageDimension → ℕ → Option ExpressionError
-bad_coordinate s dim coordinate = unless (are_coordinates dim (form_at s coordinate)) (refusal.InvalidImageCoordinateType dim coordinate)
+abbrev pub coordinate_error : ExpressionSurroundings → ImageDimension → ℕ → Option ExpressionError
+coordinate_error s dim coordinate = require (are_coordinates dim (form_at s coordinate)) (refusal.InvalidImageCoordinateType dim coordinate)
 
 -- the refusal of an offset, unless it is known when the shader is compiled, and signed integers, as many as the coordinates
-abbrev pub bad_offset : ExpressionSurroundings → ImageDimension → Option ℕ → Option ExpressionError
-bad_offset s dim None = None
-bad_offset s dim (Some e) =
+abbrev pub sample_offset_error : ExpressionSurroundings → ImageDimension → Option ℕ → Option ExpressionError
+sample_offset_error s dim None = None
+sample_offset_error s dim (Some e) =
     first
-    (unless (is_const (slice_get s.kinds e)) refusal.InvalidSampleOffsetExprType ∷
-    unless (is_of_kind (coordinate_count dim) Sint (form_at s e)) (refusal.InvalidSampleOffset dim e) ∷
+    (require (is_const (slice_get s.kinds e)) refusal.InvalidSampleOffsetExprType ∷
+    require (is_of_kind (coordinate_count dim) Sint (form_at s e)) (refusal.InvalidSampleOffset dim e) ∷
     [])
 
 -- a level is chosen by derivatives, or is the first
-abbrev pub is_plain : SampleLevel → Truth
+abbrev pub is_plain : SampleLevel → Boolean
 is_plain Auto = true
 is_plain Zero = true
 is_plain (Exact e) = false
@@ -86,30 +86,30 @@ is_plain (Bias e) = false
 is_plain (Gradient x y) = false
 
 -- the refusal of a reference, unless it is a floating-point number, and the level is not given by an operand
-abbrev pub bad_depth_reference : ExpressionSurroundings → Option ℕ → SampleLevel → Option ExpressionError
-bad_depth_reference s None level = None
-bad_depth_reference s (Some e) level =
+abbrev pub depth_reference_error : ExpressionSurroundings → Option ℕ → SampleLevel → Option ExpressionError
+depth_reference_error s None level = None
+depth_reference_error s (Some e) level =
     first
-    (unless (is_of_kind 1 Float (form_at s e)) (refusal.InvalidDepthReference e) ∷
-    unless (is_plain level) refusal.InvalidDepthSampleLevel ∷
+    (require (is_of_kind 1 Float (form_at s e)) (refusal.InvalidDepthReference e) ∷
+    require (is_plain level) refusal.InvalidDepthSampleLevel ∷
     [])
 
 -- texels of an image of this dimension can be gathered
-abbrev pub can_gather : ImageDimension → Truth
+abbrev pub can_gather : ImageDimension → Boolean
 can_gather D2 = true
 can_gather Cube = true
 can_gather D1 = false
 can_gather D3 = false
 
 -- a component is the first
-abbrev pub is_first_component : SwizzleComponent → Truth
+abbrev pub is_first_component : SwizzleComponent → Boolean
 is_first_component X = true
 is_first_component Y = false
 is_first_component Z = false
 is_first_component W = false
 
 -- a level is the first
-abbrev pub is_first_level : SampleLevel → Truth
+abbrev pub is_first_level : SampleLevel → Boolean
 is_first_level Zero = true
 is_first_level Auto = false
 is_first_level (Exact e) = false
@@ -117,74 +117,74 @@ is_first_level (Bias e) = false
 is_first_level (Gradient x y) = false
 
 -- the refusal of a gather, unless it is in a plane or a cube, of the first component if there are depths, and of the first level
-abbrev pub bad_gather : ImageType → Option SwizzleComponent → SampleLevel → Option ExpressionError
-bad_gather image None level = None
-bad_gather image (Some component) level =
+abbrev pub gather_error : ImageType → Option SwizzleComponent → SampleLevel → Option ExpressionError
+gather_error image None level = None
+gather_error image (Some component) level =
     first
-    (unless (can_gather image.dim) (refusal.InvalidGatherDimension image.dim) ∷
-    unless (not (is_depth image.class) || is_first_component component) (refusal.InvalidGatherComponent component) ∷
-    unless (is_first_level level) refusal.InvalidGatherLevel ∷
+    (require (can_gather image.dim) (refusal.InvalidGatherDimension image.dim) ∷
+    require (not (is_depth image.class) || is_first_component component) (refusal.InvalidGatherComponent component) ∷
+    require (is_first_level level) refusal.InvalidGatherLevel ∷
     [])
 
 -- a class is that of floating-point numbers, not multisampled
-abbrev pub is_filtered : ImageClass → Truth
+abbrev pub is_filtered : ImageClass → Boolean
 is_filtered (Sampled kind multi) = is_float kind && not multi
 is_filtered (Depth multi) = false
 is_filtered (Storage format access) = false
 is_filtered External = false
 
 -- coordinates can be clamped in an image of two dimensions, of floating-point numbers or from outside, at the first level, and with nothing beside them: no gather, layer, offset or reference
-abbrev pub can_clamp : ImageType → Sample → Truth
+abbrev pub can_clamp : ImageType → Sample → Boolean
 can_clamp image sample =
     (is_filtered image.class || is_external image.class) && (is_flat image.dim && (is_first_level sample.level
     && (not (is_some sample.gather) && (not (is_some sample.array_index) && (not (is_some sample.offset) && not (is_some sample.depth_ref))))))
 
 -- the refusal to clamp, which carries a text, unless that is not asked for, or can be done
-abbrev pub bad_clamp : String Global → ImageType → Sample → Option ExpressionError
-bad_clamp text image sample = unless (not sample.clamp_to_edge || can_clamp image sample) (refusal.InvalidSampleClampCoordinateToEdge text)
+abbrev pub clamp_error : String Global → ImageType → Sample → Option ExpressionError
+clamp_error text image sample = require (not sample.clamp_to_edge || can_clamp image sample) (refusal.InvalidSampleClampCoordinateToEdge text)
 
 -- the refusal of an image from outside, unless coordinates in it are clamped
-abbrev pub bad_external : ImageClass → Truth → Option ExpressionError
-bad_external class clamp_to_edge = unless (not (is_external class) || clamp_to_edge) (refusal.InvalidImageClass class)
+abbrev pub external_error : ImageClass → Boolean → Option ExpressionError
+external_error class clamp_to_edge = require (not (is_external class) || clamp_to_edge) (refusal.InvalidImageClass class)
 
 -- values of a form number the levels of an image of a class: integers those of depths, and floating-point numbers all others
-abbrev pub numbers_levels : ImageClass → TypeInner → Truth
+abbrev pub numbers_levels : ImageClass → TypeInner → Boolean
 numbers_levels (Depth multi) inner = is_integer_scalar inner
 numbers_levels (Sampled kind multi) inner = is_of_kind 1 Float inner
 numbers_levels (Storage format access) inner = is_of_kind 1 Float inner
 numbers_levels External inner = is_of_kind 1 Float inner
 
 -- the refusal of the number of a level, unless it is an integer for depths, and a floating-point number for others
-abbrev pub bad_exact : ExpressionSurroundings → ImageClass → ℕ → Option ExpressionError
-bad_exact s class e = unless (numbers_levels class (form_at s e)) (refusal.InvalidSampleLevelExactType e)
+abbrev pub exact_level_error : ExpressionSurroundings → ImageClass → ℕ → Option ExpressionError
+exact_level_error s class e = require (numbers_levels class (form_at s e)) (refusal.InvalidSampleLevelExactType e)
 
 -- an image has one dimension
-abbrev pub is_line : ImageDimension → Truth
+abbrev pub is_line : ImageDimension → Boolean
 is_line D1 = true
 is_line D2 = false
 is_line D3 = false
 is_line Cube = false
 
 -- the refusal of the bias of a level, unless it is a floating-point number, and the image one of such, of more than one dimension
-abbrev pub bad_bias : ExpressionSurroundings → ImageType → ℕ → Option ExpressionError
-bad_bias s image e =
+abbrev pub bias_error : ExpressionSurroundings → ImageType → ℕ → Option ExpressionError
+bias_error s image e =
     first
-    (unless (is_of_kind 1 Float (form_at s e)) (refusal.InvalidSampleLevelBiasType e) ∷
-    unless (is_filtered image.class) (refusal.InvalidImageClass image.class) ∷
-    unless (not (is_line image.dim)) (refusal.InvalidSampleLevelBiasDimension image.dim) ∷
+    (require (is_of_kind 1 Float (form_at s e)) (refusal.InvalidSampleLevelBiasType e) ∷
+    require (is_filtered image.class) (refusal.InvalidImageClass image.class) ∷
+    require (not (is_line image.dim)) (refusal.InvalidSampleLevelBiasDimension image.dim) ∷
     [])
 
 -- the refusal of a derivative, unless it is like coordinates
-abbrev pub bad_derivative : ExpressionSurroundings → ImageDimension → ℕ → Option ExpressionError
-bad_derivative s dim e = unless (are_coordinates dim (form_at s e)) (refusal.InvalidSampleLevelGradientType dim e)
+abbrev pub gradient_error : ExpressionSurroundings → ImageDimension → ℕ → Option ExpressionError
+gradient_error s dim e = require (are_coordinates dim (form_at s e)) (refusal.InvalidSampleLevelGradientType dim e)
 
 -- the refusal of a level, by what it is given by
-abbrev pub bad_level : ExpressionSurroundings → ImageType → SampleLevel → Option ExpressionError
-bad_level s image Auto = None
-bad_level s image Zero = None
-bad_level s image (Exact e) = bad_exact s image.class e
-bad_level s image (Bias e) = bad_bias s image e
-bad_level s image (Gradient x y) = first (bad_derivative s image.dim x ∷ bad_derivative s image.dim y ∷ [])
+abbrev pub level_error : ExpressionSurroundings → ImageType → SampleLevel → Option ExpressionError
+level_error s image Auto = None
+level_error s image Zero = None
+level_error s image (Exact e) = exact_level_error s image.class e
+level_error s image (Bias e) = bias_error s image e
+level_error s image (Gradient x y) = first (gradient_error s image.dim x ∷ gradient_error s image.dim y ∷ [])
 
 -- the stages that may sample at a level: fragments alone have derivatives of their own
 abbrev pub level_stages : SampleLevel → ShaderStages
@@ -195,29 +195,29 @@ level_stages (Bias e) = fragment_stage
 level_stages (Gradient x y) = every_stage
 
 -- the conditions of a sample of this image by a sampler that compares or doesn't, if a refusal to clamp carries this text
-abbrev pub sample_conditions : ExpressionSurroundings → String Global → Sample → ImageType → Truth → List (Option ExpressionError)
-sample_conditions s text sample image comparison =
-    bad_layer s is_integer_scalar image.arrayed sample.array_index ∷
-    bad_class image.class sample.gather ∷
-    bad_comparison image.class comparison sample.depth_ref ∷
-    bad_coordinate s image.dim sample.coordinate ∷
-    bad_offset s image.dim sample.offset ∷
-    bad_depth_reference s sample.depth_ref sample.level ∷
-    bad_gather image sample.gather sample.level ∷
-    bad_clamp text image sample ∷
-    bad_external image.class sample.clamp_to_edge ∷
-    bad_level s image sample.level ∷
+abbrev pub sample_checks : ExpressionSurroundings → String Global → Sample → ImageType → Boolean → List (Option ExpressionError)
+sample_checks s text sample image comparison =
+    layer_error s is_integer_scalar image.arrayed sample.array_index ∷
+    class_error image.class sample.gather ∷
+    comparison_error image.class comparison sample.depth_ref ∷
+    coordinate_error s image.dim sample.coordinate ∷
+    sample_offset_error s image.dim sample.offset ∷
+    depth_reference_error s sample.depth_ref sample.level ∷
+    gather_error image sample.gather sample.level ∷
+    clamp_error text image sample ∷
+    external_error image.class sample.clamp_to_edge ∷
+    level_error s image sample.level ∷
     []
 
 -- the rule of a sample, if a refusal to clamp carries this text
 abbrev pub image_sample_rule : ExpressionSurroundings → String Global → Sample → Result ShaderStages ExpressionError
 image_sample_rule s text sample =
-    and_then (sampled s sample.image sample.sampler) (λ found. judged (sample_conditions s text sample found.0 found.1) (level_stages sample.level))
+    and_then (sampled s sample.image sample.sampler) (λ found. first_error_or (sample_checks s text sample found.0 found.1) (level_stages sample.level))
 
 -- what is meant by the rule of a sample, whose refusal to clamp carries some text
-abbrev pub IsImageSampleMeant : ExpressionSurroundings → Sample → Result ShaderStages ExpressionError → Type 0
-IsImageSampleMeant s sample meant = (text : String Global) × (meant ≡ image_sample_rule s text sample)
+abbrev pub IsImageSampleRule : ExpressionSurroundings → Sample → Result ShaderStages ExpressionError → Type 0
+IsImageSampleRule s sample meant = (text : String Global) × (meant ≡ image_sample_rule s text sample)
 
 -- a call returns what is meant by the rule of a sample, out of memory aside
-abbrev pub IsImageSampleReturned : ExpressionSurroundings → Sample → Result ShaderStages ExpressionError → Type 0
-IsImageSampleReturned s sample result = (meant : Result ShaderStages ExpressionError) × IsImageSampleMeant s sample meant × IsReturned meant result
+abbrev pub IsImageSampleResult : ExpressionSurroundings → Sample → Result ShaderStages ExpressionError → Type 0
+IsImageSampleResult s sample result = (meant : Result ShaderStages ExpressionError) × IsImageSampleRule s sample meant × IsRuleResult meant result

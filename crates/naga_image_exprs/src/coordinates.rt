@@ -4,7 +4,7 @@ ghost use Rattle.std.specs.Prelude.{◌≡◌, ◌<◌, IfSome, length};
 ghost use Rattle.naga_image_exprs.specs.Coordinates as rule;
 ghost use Rattle.naga_info.specs.Surroundings.{AreSound, surroundings};
 ghost use Rattle.naga_info.specs.Words as words;
-ghost use Rattle.naga_types.specs.Judging.{granted};
+ghost use Rattle.naga_types.specs.Checks.{ok_unless};
 
 use naga_info::context::FunctionContext;
 use naga_info::expression_error::ExpressionError;
@@ -53,7 +53,7 @@ pub(crate) fn is_index(inner: &TypeInner) -> bool
 
 /// Checks that a layer is chosen of an image that has several, and of no other.
 fn check_layer(arrayed: bool, has_index: bool) -> Result<(), ExpressionError>
-    ensures { result ≡ granted (rule.misplaced_layer arrayed has_index) tt }
+    ensures { result ≡ ok_unless (rule.layer_presence_error arrayed has_index) tt }
 {
     if arrayed != has_index {
         return Err(ExpressionError::InvalidImageArrayIndex);
@@ -69,7 +69,7 @@ pub(crate) fn check_sampled_layer(
 ) -> Result<(), ExpressionError>
     requires sound { AreSound (surroundings context) }
     requires known { IfSome array_index (λ e. e < length context.info.now.types) }
-    ensures { result ≡ granted (rule.bad_layer (surroundings context.entry) words.is_integer_scalar arrayed array_index) tt }
+    ensures { result ≡ ok_unless (rule.layer_error (surroundings context.entry) words.is_integer_scalar arrayed array_index) tt }
 {
     check_layer(arrayed, array_index.is_some())?;
     match array_index {
@@ -88,7 +88,7 @@ pub(crate) fn check_loaded_layer(
 ) -> Result<(), ExpressionError>
     requires sound { AreSound (surroundings context) }
     requires known { IfSome array_index (λ e. e < length context.info.now.types) }
-    ensures { result ≡ granted (rule.bad_layer (surroundings context.entry) rule.is_index arrayed array_index) tt }
+    ensures { result ≡ ok_unless (rule.layer_error (surroundings context.entry) rule.is_index arrayed array_index) tt }
 {
     check_layer(arrayed, array_index.is_some())?;
     match array_index {

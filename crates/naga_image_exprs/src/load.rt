@@ -4,8 +4,8 @@ ghost use Rattle.std.specs.Prelude.{◌≡◌, ◌<◌, IfSome, length};
 ghost use Rattle.naga_image_exprs.specs.Loads as rule;
 ghost use Rattle.naga_ir.specs.declared.expression.Expression.TheVariants as form;
 ghost use Rattle.naga_ir.specs.TypeWords.{is_mipmapped, is_multisampled};
-ghost use Rattle.naga_info.specs.Surroundings.{AreSound, IsJudgeable, surroundings};
-ghost use Rattle.naga_types.specs.Judging.{granted};
+ghost use Rattle.naga_info.specs.Surroundings.{AreSound, IsReadySomewhere, surroundings};
+ghost use Rattle.naga_types.specs.Checks.{ok_unless};
 
 use crate::coordinates::{check_loaded_layer, is_index};
 use crate::resource::image_at;
@@ -26,7 +26,7 @@ fn check_coordinate(
 ) -> Result<(), ExpressionError>
     requires sound { AreSound (surroundings context) }
     requires known { coordinate < length context.info.now.types }
-    ensures { result ≡ granted (rule.bad_coordinate (surroundings context.entry) dim coordinate) tt }
+    ensures { result ≡ ok_unless (rule.coordinate_error (surroundings context.entry) dim coordinate) tt }
 {
     match image_storage_coordinates(context.type_of(coordinate)) {
         Some(found) if found == dim => Ok(()),
@@ -42,7 +42,7 @@ fn check_sample(
 ) -> Result<(), ExpressionError>
     requires sound { AreSound (surroundings context) }
     requires known { IfSome sample (λ e. e < length context.info.now.types) }
-    ensures { result ≡ granted (rule.bad_sample (surroundings context.entry) (is_multisampled class) sample) tt }
+    ensures { result ≡ ok_unless (rule.sample_index_error (surroundings context.entry) (is_multisampled class) sample) tt }
 {
     match (sample, class.is_multisampled()) {
         (None, false) => Ok(()),
@@ -65,7 +65,7 @@ fn check_level(
 ) -> Result<(), ExpressionError>
     requires sound { AreSound (surroundings context) }
     requires known { IfSome level (λ e. e < length context.info.now.types) }
-    ensures { result ≡ granted (rule.bad_level (surroundings context.entry) (is_mipmapped class) level) tt }
+    ensures { result ≡ ok_unless (rule.level_error (surroundings context.entry) (is_mipmapped class) level) tt }
 {
     match (level, class.is_mipmapped()) {
         (None, false) => Ok(()),
@@ -106,7 +106,7 @@ pub fn validate_image_load(
     sample: Option<Handle<ExpressionTag>>,
     level: Option<Handle<ExpressionTag>>,
 ) -> Result<ShaderStages, ExpressionError>
-    requires { IsJudgeable (surroundings context) (form.ImageLoad image coordinate array_index sample level) }
+    requires { IsReadySomewhere (surroundings context) (form.ImageLoad image coordinate array_index sample level) }
     ensures { result ≡ rule.image_load_rule (surroundings context.entry) image coordinate array_index sample level }
 {
     let found = image_at(context, image)?;

@@ -4,8 +4,8 @@ ghost use Rattle.std.specs.Prelude.{◌≡◌, ◌<◌, All, length};
 ghost use Rattle.naga_image_exprs.specs.Queries as rule;
 ghost use Rattle.naga_ir.specs.References.{query_operands};
 ghost use Rattle.naga_ir.specs.declared.expression.Expression.TheVariants as form;
-ghost use Rattle.naga_info.specs.Surroundings.{AreSound, IsJudgeable, surroundings};
-ghost use Rattle.naga_types.specs.Judging.{granted};
+ghost use Rattle.naga_info.specs.Surroundings.{AreSound, IsReadySomewhere, surroundings};
+ghost use Rattle.naga_types.specs.Checks.{ok_unless};
 
 use crate::coordinates::is_index;
 use crate::resource::{ImageType, image_at};
@@ -25,7 +25,7 @@ fn check_level(
 ) -> Result<(), ExpressionError>
     requires sound { AreSound (surroundings context) }
     requires known { level < length context.info.now.types }
-    ensures { result ≡ granted (rule.bad_level (surroundings context.entry) image level) tt }
+    ensures { result ≡ ok_unless (rule.level_error (surroundings context.entry) image level) tt }
 {
     if !is_index(context.type_of(level)) {
         return Err(ExpressionError::InvalidImageOtherIndexType(level));
@@ -44,7 +44,7 @@ fn check_query(
 ) -> Result<(), ExpressionError>
     requires sound { AreSound (surroundings context) }
     requires known { All (λ e. e < length context.info.now.types) (query_operands query) }
-    ensures { result ≡ granted (rule.bad_query (surroundings context.entry) image query) tt }
+    ensures { result ≡ ok_unless (rule.query_error (surroundings context.entry) image query) tt }
 {
     let has_property = match query {
         ImageQuery::Size { level: None } => true,
@@ -76,7 +76,7 @@ pub fn validate_image_query(
     image: Handle<ExpressionTag>,
     query: ImageQuery,
 ) -> Result<ShaderStages, ExpressionError>
-    requires { IsJudgeable (surroundings context) (form.ImageQuery image query) }
+    requires { IsReadySomewhere (surroundings context) (form.ImageQuery image query) }
     ensures { result ≡ rule.image_query_rule (surroundings context.entry) image query }
 {
     let found = image_at(context, image)?;

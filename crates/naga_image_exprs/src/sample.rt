@@ -4,9 +4,9 @@ ghost use Rattle.std.specs.Prelude.{◌≡◌, ◌<◌, All, IfSome, length};
 ghost use Rattle.naga_image_exprs.specs.Samples as rule;
 ghost use Rattle.naga_image_exprs.specs.steps.KnownResources.{CanLookUp};
 ghost use Rattle.naga_ir.specs.References.{level_operands};
-ghost use Rattle.naga_info.specs.Surroundings.{AreSound, IsJudgeable, surroundings};
+ghost use Rattle.naga_info.specs.Surroundings.{AreSound, IsReadySomewhere, surroundings};
 ghost use Rattle.naga_info.specs.Words.{is_scalar_that};
-ghost use Rattle.naga_types.specs.Judging.{granted};
+ghost use Rattle.naga_types.specs.Checks.{ok_unless};
 ghost use Rattle.naga_types.specs.TypeRule.{is_integer};
 
 use crate::clamp::{check_clamp, is_filtered};
@@ -77,7 +77,7 @@ fn can_sample(class: ImageClass, gathers: bool) -> bool
 
 /// Checks that images of a class can be sampled, or gathered from.
 fn check_class(class: ImageClass, gather: Option<SwizzleComponent>) -> Result<(), ExpressionError>
-    ensures { result ≡ granted (rule.bad_class class gather) tt }
+    ensures { result ≡ ok_unless (rule.class_error class gather) tt }
 {
     if !can_sample(class, gather.is_some()) {
         return Err(ExpressionError::InvalidImageClass(class));
@@ -102,7 +102,7 @@ fn check_comparison(
     comparison: bool,
     depth_ref: Option<Handle<ExpressionTag>>,
 ) -> Result<(), ExpressionError>
-    ensures { result ≡ granted (rule.bad_comparison class comparison depth_ref) tt }
+    ensures { result ≡ ok_unless (rule.comparison_error class comparison depth_ref) tt }
 {
     let has_ref = depth_ref.is_some();
     if comparison != has_ref || comparison && !is_depth(class) {
@@ -123,7 +123,7 @@ fn check_coordinate(
 ) -> Result<(), ExpressionError>
     requires sound { AreSound (surroundings context) }
     requires known { coordinate < length context.info.now.types }
-    ensures { result ≡ granted (rule.bad_coordinate (surroundings context.entry) dim coordinate) tt }
+    ensures { result ≡ ok_unless (rule.coordinate_error (surroundings context.entry) dim coordinate) tt }
 {
     if !are_coordinates(context.type_of(coordinate), dim) {
         return Err(ExpressionError::InvalidImageCoordinateType(dim, coordinate));
@@ -140,7 +140,7 @@ fn check_offset(
     requires sound { AreSound (surroundings context) }
     requires known { IfSome offset (λ e. e < length context.info.now.types) }
     requires kind { IfSome offset (λ e. e < length context.kinds.now) }
-    ensures { result ≡ granted (rule.bad_offset (surroundings context.entry) dim offset) tt }
+    ensures { result ≡ ok_unless (rule.sample_offset_error (surroundings context.entry) dim offset) tt }
 {
     let Some(offset) = offset else {
         return Ok(());
@@ -163,7 +163,7 @@ fn check_depth_reference(
 ) -> Result<(), ExpressionError>
     requires sound { AreSound (surroundings context) }
     requires known { IfSome depth_ref (λ e. e < length context.info.now.types) }
-    ensures { result ≡ granted (rule.bad_depth_reference (surroundings context.entry) depth_ref level) tt }
+    ensures { result ≡ ok_unless (rule.depth_reference_error (surroundings context.entry) depth_ref level) tt }
 {
     let Some(depth_ref) = depth_ref else {
         return Ok(());
@@ -195,7 +195,7 @@ fn check_gather(
     gather: Option<SwizzleComponent>,
     level: SampleLevel,
 ) -> Result<(), ExpressionError>
-    ensures { result ≡ granted (rule.bad_gather image gather level) tt }
+    ensures { result ≡ ok_unless (rule.gather_error image gather level) tt }
 {
     let Some(component) = gather else {
         return Ok(());
@@ -214,7 +214,7 @@ fn check_gather(
 
 /// Checks that coordinates in an image from outside are clamped.
 fn check_external(class: ImageClass, clamp_to_edge: bool) -> Result<(), ExpressionError>
-    ensures { result ≡ granted (rule.bad_external class clamp_to_edge) tt }
+    ensures { result ≡ ok_unless (rule.external_error class clamp_to_edge) tt }
 {
     if class == ImageClass::External && !clamp_to_edge {
         return Err(ExpressionError::InvalidImageClass(class));
@@ -243,7 +243,7 @@ fn check_exact(
 ) -> Result<(), ExpressionError>
     requires sound { AreSound (surroundings context) }
     requires known { level < length context.info.now.types }
-    ensures { result ≡ granted (rule.bad_exact (surroundings context.entry) class level) tt }
+    ensures { result ≡ ok_unless (rule.exact_level_error (surroundings context.entry) class level) tt }
 {
     if !numbers_levels(class, context.type_of(level)) {
         return Err(ExpressionError::InvalidSampleLevelExactType(level));
@@ -259,7 +259,7 @@ fn check_bias(
 ) -> Result<(), ExpressionError>
     requires sound { AreSound (surroundings context) }
     requires known { bias < length context.info.now.types }
-    ensures { result ≡ granted (rule.bad_bias (surroundings context.entry) image bias) tt }
+    ensures { result ≡ ok_unless (rule.bias_error (surroundings context.entry) image bias) tt }
 {
     if !is_of_kind(context.type_of(bias), 1, ScalarKind::Float) {
         return Err(ExpressionError::InvalidSampleLevelBiasType(bias));
@@ -281,7 +281,7 @@ fn check_derivative(
 ) -> Result<(), ExpressionError>
     requires sound { AreSound (surroundings context) }
     requires known { derivative < length context.info.now.types }
-    ensures { result ≡ granted (rule.bad_derivative (surroundings context.entry) dim derivative) tt }
+    ensures { result ≡ ok_unless (rule.gradient_error (surroundings context.entry) dim derivative) tt }
 {
     if !are_coordinates(context.type_of(derivative), dim) {
         return Err(ExpressionError::InvalidSampleLevelGradientType(dim, derivative));
@@ -297,7 +297,7 @@ fn check_level(
 ) -> Result<(), ExpressionError>
     requires sound { AreSound (surroundings context) }
     requires known { All (λ e. e < length context.info.now.types) (level_operands level) }
-    ensures { result ≡ granted (rule.bad_level (surroundings context.entry) image level) tt }
+    ensures { result ≡ ok_unless (rule.level_error (surroundings context.entry) image level) tt }
 {
     match level {
         SampleLevel::Auto | SampleLevel::Zero => Ok(()),
@@ -361,8 +361,8 @@ pub fn validate_image_sample(
     context: FunctionContext<'_>,
     sample: &Sample,
 ) -> Result<ShaderStages, ExpressionError>
-    requires { IsJudgeable (surroundings context) (rule.expression_of sample.now) }
-    ensures { rule.IsImageSampleReturned (surroundings context.entry) sample.now result }
+    requires { IsReadySomewhere (surroundings context) (rule.expression_of sample.now) }
+    ensures { rule.IsImageSampleResult (surroundings context.entry) sample.now result }
 {
     let (image, comparison) = sampled(context, sample.image, sample.sampler)?;
     check_sampled_layer(context, image.arrayed, sample.array_index)?;

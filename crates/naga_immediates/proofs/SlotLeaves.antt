@@ -3,7 +3,7 @@ use Rattle.std.proofs.Common.{◌≡◌, ◌<◌, ◌≤◌, ◌+◌, ◌↔◌,
 use Rattle.std.proofs.lemmas.Option.{none-some}
 use Rattle.naga_immediates.proofs.SlotParts.{contains_at}
 use Rattle.naga_immediates.specs.LeafSlots.{HasNoArray, HasSlotsOfLeaves, LeavesHaveSlots, SharesLeaf}
-use Rattle.naga_immediates.specs.Slots.{AreExactly, HasPart, HasSlot, SharesByte, UsesSlot, byte_count, slot_count}
+use Rattle.naga_immediates.specs.Slots.{IsSetOf, HasPart, HasSlot, SharesByte, UsesSlot, byte_count, slot_count}
 use Rattle.naga_immediates.specs.Slots.HasPart.{itself, in_member}
 use Rattle.naga_immediates.specs.declared.immediates.ImmediateSlots.{ImmediateSlots}
 use Rattle.naga_ir.specs.ItemReferences.{GlobalLists}
@@ -128,10 +128,10 @@ module _ (g : GlobalLists) (whole : ℕ) (aligned : (u : ℕ) → IsInside g who
           record { part = p.part; first = p.first; is_part = p.has; shares = subst (λ size. SharesByte p.first size k) (sym p.size_is) (subst (λ first. SharesByte first h.leaf.size k) (sym p.first_is) h.shares) }
 
   -- a set of the slots that it uses has those of its leaves
-  pub slots_of_leaves : (n at : ℕ) (inner : TypeInner) (slots : ImmediateSlots) → inner_at g whole ≡ Some inner → AreExactly (UsesSlot g inner at) slots → HasSlotsOfLeaves g n whole at slots
+  pub slots_of_leaves : (n at : ℕ) (inner : TypeInner) (slots : ImmediateSlots) → inner_at g whole ≡ Some inner → IsSetOf (UsesSlot g inner at) slots → HasSlotsOfLeaves g n whole at slots
   slots_of_leaves n at inner slots is exactly = record { exactly = leaves; all = all }
     where
-      leaves : AreExactly (SharesLeaf g n whole at) slots
+      leaves : IsSetOf (SharesLeaf g n whole at) slots
       leaves k = ((λ has. let p = (exactly k).0 has in (p.0, (uses_leaves n at k inner is).0 p.1)), λ h. (exactly k).1 (h.0, (uses_leaves n at k inner is).1 h.1))
 
       within : LeavesHaveSlots g n whole at → (k : ℕ) → SharesLeaf g n whole at k → k < slot_count

@@ -10,11 +10,11 @@ use Rattle.std.proofs.lemmas.Nat.Bits.{bit_at-zero}
 use Rattle.std.proofs.lemmas.Option.{none-some, cond_some, get_or_from_slice_get, same_Some, slice_get-get_or, slice_get_read, slice_get_within}
 use Rattle.naga_arena.proofs.Elements.{contains-map}
 use Rattle.naga_immediates.proofs.SlotBits.{in_both, zero_not_one}
-use Rattle.naga_immediates.specs.Slots.{AreExactly, HasPart, HasSlot, SharesByte, UsesSlot, slot_count}
+use Rattle.naga_immediates.specs.Slots.{IsSetOf, HasPart, HasSlot, SharesByte, UsesSlot, slot_count}
 use Rattle.naga_immediates.specs.Slots.HasPart.{itself, in_member}
 use Rattle.naga_immediates.specs.declared.immediates.ImmediateSlots.{ImmediateSlots}
 use Rattle.naga_immediates.specs.declared.immediates.SlotWalk.{SlotWalk}
-use Rattle.naga_immediates.specs.steps.SlotWalk.{Gains, KnowsNoted, TypeUses, byte_of, note_count, place_of}
+use Rattle.naga_immediates.specs.steps.SlotWalk.{AddsSlotsOf, KnowsNoted, TypeUses, byte_of, note_count, place_of}
 use Rattle.naga_ir.proofs.ReferencesOfItems.{parts_come_before}
 use Rattle.naga_ir.specs.Handles.{ExistsGlobally, GlobalReferencesOk}
 use Rattle.naga_ir.specs.ItemReferences.{GlobalLists, type_references}
@@ -124,9 +124,9 @@ module _ (g : GlobalLists) where
     later k u = let before : u.place < i = u.before in record { place = u.place; m = u.m; before = omega arith; is_member = u.is_member; uses = u.uses }
 
     -- one more member is added
-    pub added : (next : ℕ) (new′ : ImmediateSlots) → next ≡ at + m.offset → Gains g m.ty next new new′ → GainsBefore members at (i + 1) old new′
+    pub added : (next : ℕ) (new′ : ImmediateSlots) → next ≡ at + m.offset → AddsSlotsOf g m.ty next new new′ → GainsBefore members at (i + 1) old new′
     added next new′ e gains =
-        let gains : Gains g m.ty (at + m.offset) new new′ = subst (λ n. Gains g m.ty n new new′) e gains in
+        let gains : AddsSlotsOf g m.ty (at + m.offset) new new′ = subst (λ n. AddsSlotsOf g m.ty n new new′) e gains in
         record {
           kept = λ k has. gains.kept k (h.kept k has);
           gained = λ k within u. ⊎_elim (λ before. gains.kept k (h.gained k within before)) (λ this. gains.gained k within this) (before_or_this k u);
@@ -147,7 +147,7 @@ module _ (g : GlobalLists) where
 
   -- when all members are added, all slots of the struct are
   pub all_added : (t : ℕ) (inner : TypeInner) (members : List StructMember) (span at i : ℕ) (old new : ImmediateSlots) → length members ≡ i → inner_at g t ≡ Some inner → inner ≡ Struct members span
-      → GainsBefore members at i old new → Gains g t at old new
+      → GainsBefore members at i old new → AddsSlotsOf g t at old new
   all_added t inner members span at i old new end is_its is h =
       let is_struct : inner_at g t ≡ Some (Struct members span) = is_its ∙ ap Some is in
       record {
@@ -158,10 +158,10 @@ module _ (g : GlobalLists) where
       }
 
   -- what is no struct is added at once
-  pub other_added : (t : ℕ) (inner : TypeInner) (at : ℕ) (old slots new : ImmediateSlots) → inner_at g t ≡ Some inner → IsNoStruct inner → AreExactly (SharesByte at (size_of g inner)) slots
-      → new ≡ record { 0 = bit_or old.0 slots.0 } → Gains g t at old new
+  pub other_added : (t : ℕ) (inner : TypeInner) (at : ℕ) (old slots new : ImmediateSlots) → inner_at g t ≡ Some inner → IsNoStruct inner → IsSetOf (SharesByte at (size_of g inner)) slots
+      → new ≡ record { 0 = bit_or old.0 slots.0 } → AddsSlotsOf g t at old new
   other_added t inner at old slots new is_its plain exactly e =
-      subst (Gains g t at old) (sym e) record {
+      subst (AddsSlotsOf g t at old) (sym e) record {
         kept = λ k has. (in_both old.0 slots.0 k).1 (inl has);
         gained = λ k within u. (in_both old.0 slots.0 k).1 (inr ((exactly k).1 (within, (used_by_other inner at k plain).0 (subst (λ x. UsesSlot g x at k) (same_Some u.inner inner (sym u.is_its ∙ is_its)) u.uses))));
         only = λ k has. ⊎_elim (λ had. inl had) (λ found. let p = (exactly k).0 found in inr (p.0, record { inner = inner; is_its = is_its; uses = (used_by_other inner at k plain).1 p.1 })) ((in_both old.0 slots.0 k).0 has);
@@ -204,7 +204,7 @@ module _ (g : GlobalLists) (members : List StructMember) (at at′ i : ℕ) (old
   is_at = slice_get_read members (length members) i m refl within e
 
   -- it walks through one more
-  pub walks_on : (byte : ℕ) (walk′ : SlotWalk) → Some byte ≡ byte_of (at′ + m.offset) → KnowsNoted g walk′ → Gains g m.ty byte walk.slots walk′.slots → next ≡ walk′ → IsWalking g members at (i + 1) old next
+  pub walks_on : (byte : ℕ) (walk′ : SlotWalk) → Some byte ≡ byte_of (at′ + m.offset) → KnowsNoted g walk′ → AddsSlotsOf g m.ty byte walk.slots walk′.slots → next ≡ walk′ → IsWalking g members at (i + 1) old next
   walks_on byte walk′ is known gains e′ =
       subst (IsWalking g members at (i + 1) old) (sym e′)
       record { noted = known; gains = added g members at i old walk.slots h.gains m is_at byte walk′.slots (byte_is _ byte is ∙ ap (λ n. n + m.offset) same) gains }
@@ -230,7 +230,7 @@ starts g members at walk none nothing =
 
 -- when all members are walked through, the slots are exactly those that the struct uses
 pub walked : (g : GlobalLists) (inner : TypeInner) (members : List StructMember) (span at i : ℕ) (walk : SlotWalk) → length members ≡ i → inner ≡ Struct members span → IsWalking g members at i (record { 0 = 0 }) walk
-    → AreExactly (UsesSlot g inner at) walk.slots
+    → IsSetOf (UsesSlot g inner at) walk.slots
 walked g inner members span at i walk end is h k = (there, back)
   where
     there : HasSlot walk.slots k → (k < slot_count) × UsesSlot g inner at k

@@ -6,11 +6,11 @@ use Rattle.std.specs.Int.RustNames.{bit_or}
 use Rattle.std.proofs.lemmas.Bool.{cases_lt}
 use Rattle.std.proofs.lemmas.Nat.Bits.{bit_at-lt, same_from_bits}
 use Rattle.naga_immediates.proofs.SlotBits.{in_both, same_bit}
-use Rattle.naga_immediates.specs.Slots.{AreExactly, SharesByte, slot_count}
+use Rattle.naga_immediates.specs.Slots.{IsSetOf, SharesByte, slot_count}
 use Rattle.naga_immediates.specs.declared.immediates.ImmediateSlots.{ImmediateSlots}
 
 -- sets have the same slots if the same holds of each slot
-pub exactly_too : (P Q : ℕ → Type 0) (slots : ImmediateSlots) → ((k : ℕ) → k < slot_count → P k ↔ Q k) → AreExactly P slots → AreExactly Q slots
+pub exactly_too : (P Q : ℕ → Type 0) (slots : ImmediateSlots) → ((k : ℕ) → k < slot_count → P k ↔ Q k) → IsSetOf P slots → IsSetOf Q slots
 exactly_too P Q slots same exactly k =
     ((λ has. let h = (exactly k).0 has in (h.0, (same k h.0).0 h.1)), λ h. (exactly k).1 (h.0, (same k h.0).1 h.1))
 
@@ -29,7 +29,7 @@ same_size first size size′ k e = (subst (λ n. SharesByte first n k) e, subst 
 
 -- so a size that is no number of 32 bits may be read as the greatest one
 pub greatest_size : (first size : ℕ) (found : Option ℕ) (slots : ImmediateSlots) → MatchOption found (4294967295 < size) (λ n. n ≡ size)
-    → AreExactly (SharesByte first (unwrap_or found 4294967295)) slots → AreExactly (SharesByte first size) slots
+    → IsSetOf (SharesByte first (unwrap_or found 4294967295)) slots → IsSetOf (SharesByte first size) slots
 greatest_size first size None slots many = exactly_too _ _ slots (λ k within. all_bytes first size k many within)
 greatest_size first size (Some n) slots is = exactly_too _ _ slots (λ k within. same_size first n size k is)
 
@@ -47,7 +47,7 @@ shared_by_both offset size more k = (there, ⊎_elim first second)
     second (byte, a, b, c, d) = (byte, omega arith, omega arith, c, d)
 
 -- so their slots are those of both
-pub ranges_join : (offset size more : ℕ) (first second both : ImmediateSlots) → AreExactly (SharesByte offset size) first → AreExactly (SharesByte (offset + size) more) second → AreExactly (SharesByte offset (size + more)) both
+pub ranges_join : (offset size more : ℕ) (first second both : ImmediateSlots) → IsSetOf (SharesByte offset size) first → IsSetOf (SharesByte (offset + size) more) second → IsSetOf (SharesByte offset (size + more)) both
     → record { 0 = bit_or first.0 second.0 } ≡ both
 ranges_join offset size more first second both one other all = ap (λ n. let slots : ImmediateSlots = record { 0 = n } in slots) (same_from_bits (bit_or first.0 second.0) both.0 same)
   where

@@ -1,6 +1,6 @@
 -- The slots of a type by its leaves, for types without arrays.
 use Rattle.std.specs.Prelude.{◌≡◌, ◌+◌, ◌≤◌, ◌↔◌, ℕ, List, Some}
-use Rattle.naga_immediates.specs.Slots.{AreExactly, HasSlot, SharesByte, byte_count}
+use Rattle.naga_immediates.specs.Slots.{IsSetOf, HasSlot, SharesByte, byte_count}
 use Rattle.naga_immediates.specs.declared.immediates.ImmediateSlots.{ImmediateSlots}
 use Rattle.naga_ir.specs.ItemReferences.{GlobalLists}
 use Rattle.naga_ir.specs.declared.types.ArraySize.{ArraySize}
@@ -24,5 +24,5 @@ LeavesHaveSlots g n t at = (path : List ℕ) (leaf : LeafBytes) → leaf_at g (e
 
 -- a set of exactly the slots that a type uses from byte `at` on has exactly those of its leaves; if these have slots alone, it has all that they have
 pub record HasSlotsOfLeaves (g : GlobalLists) (n t at : ℕ) (slots : ImmediateSlots) : Type 0 where
-  pub exactly : AreExactly (SharesLeaf g n t at) slots
+  pub exactly : IsSetOf (SharesLeaf g n t at) slots
   pub all : LeavesHaveSlots g n t at → (k : ℕ) → HasSlot slots k ↔ SharesLeaf g n t at k

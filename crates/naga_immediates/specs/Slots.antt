@@ -44,8 +44,8 @@ abbrev pub SharesByte : (first size k : ℕ) → Type 0
 SharesByte first size k = (byte : ℕ) × (first ≤ byte) × (byte < first + size) × (slot_size * k ≤ byte) × (byte < slot_size * k + slot_size)
 
 -- a set has exactly the slots of which this holds
-abbrev pub AreExactly : (ℕ → Type 0) → ImmediateSlots → Type 0
-AreExactly P slots = (k : ℕ) → HasSlot slots k ↔ ((k < slot_count) × P k)
+abbrev pub IsSetOf : (ℕ → Type 0) → ImmediateSlots → Type 0
+IsSetOf P slots = (k : ℕ) → HasSlot slots k ↔ ((k < slot_count) × P k)
 
 -- a part of a value that is no struct, reached through members of structs alone: its form and its first byte, if the value begins at byte `at`
 pub data HasPart (g : GlobalLists) : TypeInner → ℕ → TypeInner → ℕ → Type 0 where
@@ -80,9 +80,9 @@ abbrev pub BaseExists : List Expression → ℕ → Type 0
 BaseExists xs pointer = (base index : ℕ) → slice_get xs pointer ≡ Some (AccessIndex base index) → base < length xs
 
 -- what a pointer into a variable of a form reaches, as far as slots distinguish it: a value of a form, and its first byte
-pub data Reaches (g : GlobalLists) (xs : List Expression) (whole : TypeInner) (pointer : ℕ) : TypeInner → ℕ → Type 0 where
-  member : (m : StructMember) (inner : TypeInner) → AccessesMember xs whole pointer m → inner_at g m.ty ≡ Some inner → Reaches g xs whole pointer inner m.offset
-  all : AccessesNone xs whole pointer → Reaches g xs whole pointer whole 0
+pub data Touches (g : GlobalLists) (xs : List Expression) (whole : TypeInner) (pointer : ℕ) : TypeInner → ℕ → Type 0 where
+  member : (m : StructMember) (inner : TypeInner) → AccessesMember xs whole pointer m → inner_at g m.ty ≡ Some inner → Touches g xs whole pointer inner m.offset
+  all : AccessesNone xs whole pointer → Touches g xs whole pointer whole 0
 
 -- the type of a variable exists
 abbrev pub IsTyped : GlobalLists → Option Variable → Type 0
@@ -94,13 +94,13 @@ abbrev pub form_of_variable : GlobalLists → Option Variable → Option TypeInn
 form_of_variable g variable = option_and_then (λ (v : Variable). inner_at g v.ty) variable
 
 -- a set has exactly the slots of what a pointer into a variable reaches
-pub record AreSlotsReached (g : GlobalLists) (xs : List Expression) (variable : Option Variable) (pointer : ℕ) (slots : ImmediateSlots) : Type 0 where
+pub record AreSlotsTouched (g : GlobalLists) (xs : List Expression) (variable : Option Variable) (pointer : ℕ) (slots : ImmediateSlots) : Type 0 where
   pub whole : TypeInner
   pub inner : TypeInner
   pub first : ℕ
   pub is_whole : form_of_variable g variable ≡ Some whole
-  pub reached : Reaches g xs whole pointer inner first
-  pub exactly : AreExactly (UsesSlot g inner first) slots
+  pub reached : Touches g xs whole pointer inner first
+  pub exactly : IsSetOf (UsesSlot g inner first) slots
 
 -- variables in a space hold immediate data
 abbrev pub is_immediate : AddressSpace → Bool

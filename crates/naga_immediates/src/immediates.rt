@@ -3,8 +3,8 @@
 ghost use Rattle.std.specs.Prelude.{◌≡◌, ℕ, ◌+◌, ◌-◌, ◌^◌, ◌<◌, ◌↔◌, All, IsOk, IsTrue, MatchOption, None, Some, length, min, replicate, slice_get};
 ghost use Rattle.naga_immediates.specs.SlotText as text;
 ghost use Rattle.naga_immediates.specs.Slots as spec;
-ghost use Rattle.naga_immediates.specs.Slots.{AccessesMember, AreExactly, HasSlot, SharesByte, UsesSlot, immediate_size, lists_with, slot_count};
-ghost use Rattle.naga_immediates.specs.steps.SlotWalk.{Gains, KnowsNoted, byte_of, note_count, place_of};
+ghost use Rattle.naga_immediates.specs.Slots.{AccessesMember, IsSetOf, HasSlot, SharesByte, UsesSlot, immediate_size, lists_with, slot_count};
+ghost use Rattle.naga_immediates.specs.steps.SlotWalk.{AddsSlotsOf, KnowsNoted, byte_of, note_count, place_of};
 ghost use Rattle.naga_ir.specs.Handles.{GlobalReferencesOk, HandlesAccepted};
 ghost use Rattle.naga_ir.specs.ItemReferences.{global_lists};
 ghost use Rattle.naga_ir.specs.declared.types.«Type».{«Type»};
@@ -63,7 +63,7 @@ impl ImmediateSlots {
     /// The slots of which `size_bytes` bytes from `offset` on have a byte. If there are no bytes, that
     /// is none. Bytes from 256 on are in no slot; sums are whole numbers.
     pub fn from_range(offset: u32, size_bytes: u32) -> ImmediateSlots
-        ensures { AreExactly (SharesByte offset size_bytes) result }
+        ensures { IsSetOf (SharesByte offset size_bytes) result }
     {
         if size_bytes == 0 {
             return ImmediateSlots(0);
@@ -95,7 +95,7 @@ impl ImmediateSlots {
     ) -> ImmediateSlots
         requires exist { ReferencesExist (lists_with types.now gctx) ty.now }
         requires references { GlobalReferencesOk (lists_with types.now gctx) }
-        ensures { AreExactly (UsesSlot (lists_with types.now gctx.entry) ty.now offset) result }
+        ensures { IsSetOf (UsesSlot (lists_with types.now gctx.entry) ty.now offset) result }
     {
         let gctx = GlobalCtx { types, ..gctx };
         let TypeInner::Struct { members, .. } = ty else {
@@ -157,7 +157,7 @@ impl ImmediateSlots {
         requires global { global < length global_vars.now }
         requires typed { spec.IsTyped (lists_of gctx) (slice_get global_vars.now global) }
         requires references { GlobalReferencesOk (lists_of gctx) }
-        ensures { spec.AreSlotsReached (lists_of gctx.entry) expressions.now (slice_get global_vars.now global) pointer result }
+        ensures { spec.AreSlotsTouched (lists_of gctx.entry) expressions.now (slice_get global_vars.now global) pointer result }
     {
         let whole = &gctx.types[global_vars[global].ty].inner;
         match accessed_member(pointer, expressions, whole) {
@@ -250,7 +250,7 @@ fn place_of(ty: Handle<TypeTag>, byte: u8) -> usize
 fn slots_of_part(inner: &TypeInner, offset: u32, gctx: GlobalCtx<'_>) -> ImmediateSlots
     requires exist { ReferencesExist (lists_of gctx) inner.now }
     requires references { GlobalReferencesOk (lists_of gctx) }
-    ensures { AreExactly (SharesByte offset (size_of (lists_of gctx.entry) inner.now)) result }
+    ensures { IsSetOf (SharesByte offset (size_of (lists_of gctx.entry) inner.now)) result }
 {
     ImmediateSlots::from_range(offset, try_size(inner, gctx).unwrap_or(u32::MAX))
 }
@@ -314,7 +314,7 @@ impl SlotWalk {
         requires references { GlobalReferencesOk (lists_of gctx) }
         requires noted { KnowsNoted (lists_of gctx) self.old }
         ensures noted { KnowsNoted (lists_of gctx.entry) self.new }
-        ensures gains { Gains (lists_of gctx.entry) ty byte self.old.slots self.new.slots }
+        ensures gains { AddsSlotsOf (lists_of gctx.entry) ty byte self.old.slots self.new.slots }
     {
         let inner = &gctx.types[ty].inner;
         let TypeInner::Struct { members, .. } = inner else {

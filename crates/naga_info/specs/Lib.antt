@@ -4,8 +4,8 @@
 -- FunctionTypes.function_resolves, AreFunctionTypes: the type of an expression of a function, and of all of them
 -- FunctionTypes.AreTypesBefore, IsUntyped: the types of the expressions before a place; why the one there has none
 -- Surroundings.ExpressionSurroundings: what an expression of a function is judged by, beside its form
--- Surroundings.CanJudge, AreSound, IsJudgeable: what has to be known of an expression that is judged
--- Results.IsReturned: what a call returns, out of memory aside
+-- Surroundings.IsReady, AreSound, IsReadySomewhere: what has to be known of an expression that is judged
+-- Results.IsRuleResult: what a call returns, out of memory aside
 -- Stages.every_stage: the stages that may use most expressions
 pub mod FunctionTypes
 pub mod ModuleInfo

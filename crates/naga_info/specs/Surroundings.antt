@@ -1,5 +1,5 @@
 -- What an expression of a function is judged by, beside its form.
-use Rattle.std.specs.Prelude.{◌≡◌, ◌<◌, ◌≤◌, ℕ, Bool as Truth, false, List, Option, Some, None, All, length, slice_get}
+use Rattle.std.specs.Prelude.{◌≡◌, ◌<◌, ◌≤◌, ℕ, Bool as Boolean, false, List, Option, Some, None, All, length, slice_get}
 use Rattle.naga_flags.specs.declared.flags.ShaderStages.{ShaderStages}
 use Rattle.naga_flags.specs.declared.flags.TypeFlags.{TypeFlags}
 use Rattle.naga_info.specs.ModuleInfo.{ModuleInfoLists}
@@ -20,7 +20,7 @@ use Rattle.naga_typing.specs.declared.typifier.TypeResolution.{TypeResolution}
 -- what an expression is judged by: the capabilities, whether overrides must have their values, the stages that may use subgroup operations, the module, the function, the types of its expressions, what is known of the module, and the kinds of the function's expressions
 pub record ExpressionSurroundings : Type 0 where
   pub capabilities : ℕ
-  pub resolved : Truth
+  pub resolved : Boolean
   pub subgroup_stages : ShaderStages
   pub «module» : Module
   pub function : Function
@@ -75,7 +75,7 @@ abbrev pub ResultIsKnown : ExpressionSurroundings → Expression → Type 0
 ResultIsKnown s x = (f : ℕ) → x ≡ form.CallResult f → f < length s.infos.functions
 
 -- an expression can be judged at a place: all that it refers to exists, its operands precede it, and their types and kinds are known
-pub record CanJudge (s : ExpressionSurroundings) (root : ℕ) (x : Expression) : Type 0 where
+pub record IsReady (s : ExpressionSurroundings) (root : ℕ) (x : Expression) : Type 0 where
   pub sound : AreSound s
   pub references : All (Exists (function_counts s.«module» s.function)) (expression_references x)
   pub before : All (λ o. o < root) (operands x)
@@ -85,5 +85,5 @@ pub record CanJudge (s : ExpressionSurroundings) (root : ℕ) (x : Expression) :
   pub called : ResultIsKnown s x
 
 -- an expression can be judged at some place
-abbrev pub IsJudgeable : ExpressionSurroundings → Expression → Type 0
-IsJudgeable s x = (root : ℕ) × CanJudge s root x
+abbrev pub IsReadySomewhere : ExpressionSurroundings → Expression → Type 0
+IsReadySomewhere s x = (root : ℕ) × IsReady s root x

@@ -1,5 +1,5 @@
 -- What the rules of several forms ask of operands.
-use Rattle.std.specs.Prelude.{◌||◌, ◌&&◌, ◌==◌, ℕ, Bool as Truth, true, false, Option, Some, None}
+use Rattle.std.specs.Prelude.{◌||◌, ◌&&◌, ◌==◌, ℕ, Bool as Boolean, true, false, Option, Some, None}
 use Rattle.naga_ir.specs.Sizes.{components}
 use Rattle.naga_ir.specs.TypeWords.{vector_size_and_scalar}
 use Rattle.naga_ir.specs.contracts.types.TypeInnerPartialEq.TheImpl as of_inner
@@ -11,12 +11,12 @@ use Rattle.naga_ir.specs.declared.types.VectorSize.{VectorSize}
 use Rattle.naga_types.specs.TypeRule.{is_float, is_integer}
 
 -- there is a scalar, and it is so
-abbrev pub has_scalar : (ScalarType → Truth) → Option (Option VectorSize × ScalarType) → Truth
+abbrev pub has_scalar : (ScalarType → Boolean) → Option (Option VectorSize × ScalarType) → Boolean
 has_scalar is (Some found) = is found.1
 has_scalar is None = false
 
 -- a form is a scalar that is so, or a vector of such
-abbrev pub consists_of : (ScalarType → Truth) → TypeInner → Truth
+abbrev pub consists_of : (ScalarType → Boolean) → TypeInner → Boolean
 consists_of is inner = has_scalar is (vector_size_and_scalar inner)
 
 -- how many components a scalar or a vector has
@@ -25,24 +25,24 @@ component_count None = 1
 component_count (Some size) = components size
 
 -- there is a scalar that is so, and as many components
-abbrev pub has_components : ℕ → (ScalarType → Truth) → Option (Option VectorSize × ScalarType) → Truth
+abbrev pub has_components : ℕ → (ScalarType → Boolean) → Option (Option VectorSize × ScalarType) → Boolean
 has_components count is (Some found) = component_count found.0 == count && is found.1
 has_components count is None = false
 
 -- a form is that of so many scalars that are so: of one, or of a vector
-abbrev pub is_of : ℕ → (ScalarType → Truth) → TypeInner → Truth
+abbrev pub is_of : ℕ → (ScalarType → Boolean) → TypeInner → Boolean
 is_of count is inner = has_components count is (vector_size_and_scalar inner)
 
 -- a form is a scalar that is so
-abbrev pub is_scalar_that : (ScalarType → Truth) → TypeInner → Truth
+abbrev pub is_scalar_that : (ScalarType → Boolean) → TypeInner → Boolean
 is_scalar_that is inner = is_of 1 is inner
 
 -- a form is that of one integer, of any width
-abbrev pub is_integer_scalar : TypeInner → Truth
+abbrev pub is_integer_scalar : TypeInner → Boolean
 is_integer_scalar inner = is_scalar_that (λ scalar. is_integer scalar.kind) inner
 
 -- a kind is that of truth values
-abbrev pub is_bool : ScalarKind → Truth
+abbrev pub is_bool : ScalarKind → Boolean
 is_bool Bool = true
 is_bool Sint = false
 is_bool Uint = false
@@ -51,9 +51,9 @@ is_bool AbstractInt = false
 is_bool AbstractFloat = false
 
 -- a kind is one of numbers with a width of their own
-abbrev pub is_number : ScalarKind → Truth
+abbrev pub is_number : ScalarKind → Boolean
 is_number kind = is_integer kind || is_float kind
 
 -- two forms are equal
-abbrev pub are_equal : TypeInner → TypeInner → Truth
+abbrev pub are_equal : TypeInner → TypeInner → Boolean
 are_equal x y = of_inner.ghosts.eq x y

@@ -1,4 +1,4 @@
-pub mod FirstFailure
+pub mod FirstError
 pub mod Handles
 pub mod Keys
 pub mod ModuleItems

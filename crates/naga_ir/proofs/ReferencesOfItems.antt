@@ -4,7 +4,7 @@ use Rattle.std.specs.List.{flat_map}
 use Rattle.std.proofs.lemmas.List.Concat.{flat_map-cons}
 use Rattle.std.proofs.lemmas.List.Elements.{All-contains, All-contains_itself, Contains-append_left, Contains-append_right}
 use Rattle.std.proofs.lemmas.Option.{same_Some}
-use Rattle.naga_ir.specs.Handles.{ExistsGlobally, GlobalReferencesOk, GoBack, OrderedOperands, operand, own_operand, part, place_of}
+use Rattle.naga_ir.specs.Handles.{ExistsGlobally, GlobalReferencesOk, ReferencesPrecede, OrderedOperands, operand, own_operand, part, place_of}
 use Rattle.naga_ir.specs.ItemReferences.{GlobalLists, constant_references, expression_references, override_references, type_references}
 use Rattle.naga_ir.specs.References.{named_item, named_type, operands}
 use Rattle.naga_ir.specs.declared.expression.Expression.{Expression}
@@ -87,5 +87,5 @@ module _ (g : GlobalLists) (ok : GlobalReferencesOk g) where
   ordered_operand _ _ (own_operand e o x at names) = ok.back _ _ (operand e o x at names)
 
   -- the operands of global expressions go back
-  pub operands_go_back : GoBack (OrderedOperands g.expressions)
+  pub operands_go_back : ReferencesPrecede (OrderedOperands g.expressions)
   operands_go_back = ordered_operand

@@ -5,7 +5,7 @@ use Rattle.std.proofs.lemmas.List.Elements.{All-nil, All-cons, All-append}
 use Rattle.std.proofs.lemmas.List.{take_more, take_all, take-append-drop, map-append, append-nil}
 use Rattle.std.specs.List.{flat_map}
 use Rattle.naga_ir.specs.steps.StatementParts.{Form, references_of}
-use Rattle.naga_ir.specs.FirstFailure.{AcceptsAll, IsFirstFailure, ChecksEach}
+use Rattle.naga_ir.specs.FirstError.{AcceptsAll, IsFirstErrorOf, ChecksEach}
 use Rattle.naga_ir.specs.Statements.{References, own_references, own_operands, own_target, inner_references, statement_step, block_step, case_step, statement_references, block_references, case_references}
 use Rattle.naga_ir.specs.declared.reference.Reference.{Reference}
 use Rattle.naga_ir.specs.declared.reference.Reference.TheVariants as to
@@ -100,7 +100,7 @@ unfolding case_references block_references
 case-out c = fold_out-SwitchCase References References References statement_step block_step case_step c
 
 -- a refusal stays the first if more items follow
-pub first-before : {A E : Type 0} {check : A → Result (Unit {0}) E → Type 0} {e : E} (xs ys : List A) → IsFirstFailure check xs e → IsFirstFailure check (xs ++ ys) e
+pub first-before : {A E : Type 0} {check : A → Result (Unit {0}) E → Type 0} {e : E} (xs ys : List A) → IsFirstErrorOf check xs e → IsFirstErrorOf check (xs ++ ys) e
 first-before xs ys h = record {
   before = h.before;
   item = h.item;
@@ -111,7 +111,7 @@ first-before xs ys h = record {
 }
 
 -- a refusal stays the first if accepted items precede
-pub first-after : {A E : Type 0} {check : A → Result (Unit {0}) E → Type 0} {e : E} (xs ys : List A) → AcceptsAll check xs → IsFirstFailure check ys e → IsFirstFailure check (xs ++ ys) e
+pub first-after : {A E : Type 0} {check : A → Result (Unit {0}) E → Type 0} {e : E} (xs ys : List A) → AcceptsAll check xs → IsFirstErrorOf check ys e → IsFirstErrorOf check (xs ++ ys) e
 first-after {check = check} xs ys all h = record {
   before = xs ++ h.before;
   item = h.item;

@@ -2,7 +2,7 @@
 use Rattle.std.proofs.Common.{◌≡◌, ℕ, ◌<◌, zero, suc, List, [], ◌∷◌, map, Some, None, All, Contains, slice_get, slice_index_or, subst, refl, sym, ap, arith}
 use Rattle.std.proofs.lemmas.Option.{same_Some}
 use Rattle.std.proofs.lemmas.List.Elements.{All-nil, All-cons}
-use Rattle.naga_ir.specs.Handles.{Exists, EverythingExists, GoBack, HandlesAccepted, MemberExists, OrderedInModule, OrderedReference, SizeGatesHold, among_globals, parent_filter, calls_function, constant, function_counts, in_function, module_counts, operand, override, part, place_of, size_initialiser, size_type}
+use Rattle.naga_ir.specs.Handles.{Exists, EverythingExists, ReferencesPrecede, HandlesAccepted, MemberExists, OrderedInModule, OrderedReference, SizesResolveFirst, among_globals, parent_filter, calls_function, constant, function_counts, in_function, module_counts, operand, override, part, place_of, size_initialiser, size_type}
 use Rattle.naga_ir.specs.ItemReferences.{GlobalLists, function_references, global_lists}
 use Rattle.naga_ir.specs.References.{named_item, named_type, operands}
 use Rattle.naga_ir.specs.Parts.{parts, size_override}
@@ -61,7 +61,7 @@ circular = record {
 }
 
 -- if the initialiser names the array itself, the gate of the size is broken
-pub names_itself : ¬ (SizeGatesHold (global_lists (of_lists (naming 1) [])))
+pub names_itself : ¬ (SizesResolveFirst (global_lists (of_lists (naming 1) [])))
 unfolding size_initialiser size_override named_type
 names_itself holds =
     let before : 1 < 1 = holds 1 0 0 1 refl (omega arith) (ZeroValue 1, refl, refl) in omega (arith, before)
@@ -76,13 +76,13 @@ named_earlier = record {
 }
 
 -- that breaks the gate too
-pub named_before_the_size : ¬ (SizeGatesHold (global_lists (of_lists named_earlier [])))
+pub named_before_the_size : ¬ (SizesResolveFirst (global_lists (of_lists named_earlier [])))
 unfolding size_initialiser size_override named_type
 named_before_the_size holds =
     let before : 1 < 1 = holds 1 1 0 1 refl (omega arith) (ZeroValue 1, refl, refl) in omega (arith, before)
 
 -- what names itself by way of a constant does not go back
-pub names_each_other : ¬ (GoBack (OrderedInModule (of_lists circular [])))
+pub names_each_other : ¬ (ReferencesPrecede (OrderedInModule (of_lists circular [])))
 names_each_other back =
     let before : 0 < 0 = back _ _ (among_globals _ _ (constant 0 0 (record { name = None; ty = 0; init = 0 }) refl refl)) in omega (arith, before)
 
@@ -180,7 +180,7 @@ module _ where
   go_back s t (calls_function i j f at c) = cc
   go_back s t (parent_filter i j n at p) = cc
 
-  gates_hold : SizeGatesHold (global_lists three)
+  gates_hold : SizesResolveFirst (global_lists three)
   unfolding size_initialiser size_override named_type
   gates_hold zero n e u size before names = cc
   gates_hold (suc zero) n zero u size before names =

@@ -106,8 +106,8 @@ place_of (to.DiagnosticFilterNode d) = d
 place_of (to.Emit range) = range.start
 
 -- of each pair the second precedes the first
-abbrev pub GoBack : (Reference → Reference → Type 0) → Type 0
-GoBack Pairs = (s t : Reference) → Pairs s t → place_of t < place_of s
+abbrev pub ReferencesPrecede : (Reference → Reference → Type 0) → Type 0
+ReferencesPrecede Pairs = (s t : Reference) → Pairs s t → place_of t < place_of s
 
 -- the initialiser of an override, if it has one
 abbrev pub initialiser_of : Option Override → Option ℕ
@@ -133,14 +133,14 @@ abbrev pub NamesType : GlobalLists → ℕ → ℕ → Type 0
 NamesType g e u = (x : Expression) × (slice_get g.expressions e ≡ Some x) × (named_type x ≡ Some u)
 
 -- an expression up to the initialiser that sizes a type names only types that precede that type
-abbrev pub SizeGatesHold : GlobalLists → Type 0
-SizeGatesHold g = (t n e u : ℕ) → size_initialiser g t ≡ Some n → e ≤ n → NamesType g e u → u < t
+abbrev pub SizesResolveFirst : GlobalLists → Type 0
+SizesResolveFirst g = (t n e u : ℕ) → size_initialiser g t ≡ Some n → e ≤ n → NamesType g e u → u < t
 
 -- the handles of a module are right: everything exists, references go back, and the gates of sizes hold
 pub record HandlesAccepted (m : Module) : Type 0 where
   pub exist : EverythingExists m
-  pub back : GoBack (OrderedInModule m)
-  pub gates : SizeGatesHold (global_lists m)
+  pub back : ReferencesPrecede (OrderedInModule m)
+  pub gates : SizesResolveFirst (global_lists m)
 
 -- what is referred to is no local variable, and exists if it is a type, constant, override or global expression
 abbrev pub ExistsGlobally : GlobalLists → Reference → Type 0
@@ -157,13 +157,13 @@ ExistsGlobally g (to.Emit range) = ⊤
 -- among types, constants, overrides and global expressions references exist and go back
 pub record GlobalReferencesOk (g : GlobalLists) : Type 0 where
   pub exist : All (ExistsGlobally g) (global_references g)
-  pub back : GoBack (OrderedReference g)
+  pub back : ReferencesPrecede (OrderedReference g)
 
 -- the types of a function's arguments exist, and so does what its expressions refer to, whose operands go back
 pub record ExpressionReferencesOk (m : Module) (f : Function) : Type 0 where
   pub arguments : All (λ (a : FunctionArgument). a.ty < length m.types) f.arguments
   pub expressions : All (Exists (function_counts m f)) (flat_map expression_references f.expressions)
-  pub back : GoBack (OrderedOperands f.expressions)
+  pub back : ReferencesPrecede (OrderedOperands f.expressions)
 
 -- the references of a function's arguments and expressions are right, and the types of its variables exist
 pub record FunctionReferencesOk (m : Module) (f : Function) : Type 0 where

@@ -7,15 +7,15 @@
 -- Statements.block_references: what a block refers to, at any depth
 -- ItemReferences.function_references, global_references, other_references: what all other items refer to
 -- Handles.EverythingExists: no reference of a module is dangling
--- Handles.OrderedInModule, GoBack: which references have to go back, and that they do
--- Handles.SizeGatesHold: no expression that sizes a type names that type or a later one, and none before it does
+-- Handles.OrderedInModule, ReferencesPrecede: which references have to go back, and that they do
+-- Handles.SizesResolveFirst: no expression that sizes a type names that type or a later one, and none before it does
 -- Handles.HandlesAccepted: these three
 -- Handles.GlobalReferencesOk: the same of types and global expressions
 -- Handles.ExpressionReferencesOk: the same of the arguments and expressions of a function
 -- Handles.FunctionReferencesOk: and of its variables
 -- Ranks.rank_of_type, rank_of_expression: the index of each in the order of visits
 pub mod Distinct
-pub mod FirstFailure
+pub mod FirstError
 pub mod Handles
 pub mod ItemReferences
 pub mod Literals

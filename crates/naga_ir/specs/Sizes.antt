@@ -1,5 +1,5 @@
 -- Numbers of components and their alignment.
-use Rattle.std.specs.Prelude.{ℕ, Bool as Truth, true, false}
+use Rattle.std.specs.Prelude.{ℕ, Bool as Boolean, true, false}
 use Rattle.naga_ir.specs.declared.types.ScalarKind.{ScalarKind}
 use Rattle.naga_ir.specs.declared.types.ScalarKind.TheVariants.{Sint, Uint, Float, Bool, AbstractInt, AbstractFloat}
 use Rattle.naga_ir.specs.declared.types.CooperativeSize.{CooperativeSize}
@@ -8,7 +8,7 @@ use Rattle.naga_ir.specs.declared.types.VectorSize.{VectorSize}
 use Rattle.naga_ir.specs.declared.types.VectorSize.TheVariants.{Bi, Tri, Quad}
 
 -- a kind is one of numbers, unless it is that of truth values
-abbrev pub is_numeric : ScalarKind → Truth
+abbrev pub is_numeric : ScalarKind → Boolean
 is_numeric Sint = true
 is_numeric Uint = true
 is_numeric Float = true

@@ -1,5 +1,5 @@
 -- What can be read off a type alone.
-use Rattle.std.specs.Prelude.{ℕ, Bool as Truth, false, not, Option, Some, None, ⊤}
+use Rattle.std.specs.Prelude.{ℕ, Bool as Boolean, false, not, Option, Some, None, ⊤}
 use Rattle.naga_ir.specs.declared.types.Scalar.{Scalar as ScalarType}
 use Rattle.naga_ir.specs.declared.types.ImageClass.{ImageClass}
 use Rattle.naga_ir.specs.declared.types.ImageClass.TheVariants.{Sampled, Depth, Storage, External}
@@ -93,14 +93,14 @@ pointer_base (RayQuery vertex_return) = None
 pointer_base (BindingArray base size) = None
 
 -- whether an image has several samples of each value
-abbrev pub is_multisampled : ImageClass → Truth
+abbrev pub is_multisampled : ImageClass → Boolean
 is_multisampled (Sampled kind multi) = multi
 is_multisampled (Depth multi) = multi
 is_multisampled (Storage format access) = false
 is_multisampled External = false
 
 -- whether an image may have several levels
-abbrev pub is_mipmapped : ImageClass → Truth
+abbrev pub is_mipmapped : ImageClass → Boolean
 is_mipmapped (Sampled kind multi) = not multi
 is_mipmapped (Depth multi) = not multi
 is_mipmapped (Storage format access) = false

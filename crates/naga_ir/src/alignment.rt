@@ -75,7 +75,7 @@ impl Alignment {
     /// The least multiple of the alignment that is `n` bytes or more. It may exceed `u32::MAX`.
     pub fn round_up(self, n: u32) -> u64
         ensures multiple { result % self ≡ 0 }
-        ensures not_below { n ≤ result }
+        ensures known_index_error { n ≤ result }
         ensures least { result < n + self }
     {
         u64::from(n).next_multiple_of(u64::from(self.bytes))

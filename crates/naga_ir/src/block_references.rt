@@ -7,7 +7,7 @@ ghost use Rattle.naga_ir.specs.steps.StatementParts.{call_arguments, operands_of
 ghost use Rattle.naga_ir.specs.steps.StatementParts as spec;
 ghost use Rattle.naga_ir.specs.Statements.{block_references, case_references, statement_references};
 ghost use Rattle.naga_ir.specs.Statements as of;
-ghost use Rattle.naga_ir.specs.FirstFailure.{ChecksEach};
+ghost use Rattle.naga_ir.specs.FirstError.{ChecksEach};
 ghost use Rattle.naga_ir.specs.declared.reference.Reference.TheVariants as to;
 ghost use Rattle.naga_ir.specs.declared.statement.Statement.TheViews.{out-Statement};
 

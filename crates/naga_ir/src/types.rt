@@ -26,7 +26,7 @@ pub enum ScalarKind {
     Uint,
     /// Floating-point numbers.
     Float,
-    /// Truth values.
+    /// Boolean values.
     Bool,
     /// WGSL's abstract integers, of constant expressions alone.
     AbstractInt,
@@ -60,7 +60,7 @@ pub struct Scalar {
 }
 
 impl Scalar {
-    /// Truth values.
+    /// Boolean values.
     pub const BOOL: Scalar = Scalar {
         kind: ScalarKind::Bool,
         width: BOOL_WIDTH,

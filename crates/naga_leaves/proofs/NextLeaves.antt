@@ -7,7 +7,7 @@ use Rattle.naga_ir.specs.ItemReferences.{GlobalLists}
 use Rattle.naga_leaves.proofs.Places.{no_end}
 use Rattle.naga_leaves.proofs.Steps.{first_is, leaf_here, past_none, same_start, unmoved_start}
 use Rattle.naga_leaves.specs.LeavesFrom.{HasNoneFrom, HasSameFrom, IsFirstLeaf}
-use Rattle.naga_leaves.specs.Cursor.{ComesToSame, IsAtEnd, IsCursor, IsNext, IsOverSame, elements_for, left_of, lists_under, start_of}
+use Rattle.naga_leaves.specs.Cursor.{YieldsSame, IsAtEnd, IsCursor, IsNext, IsOverSame, elements_for, fuel, lists_under, start_of}
 use Rattle.naga_leaves.specs.Leaf.{bytes_of}
 use Rattle.naga_leaves.specs.declared.cursor.Leaves.{Leaves}
 use Rattle.naga_leaves.specs.declared.cursor.Place.{Place}
@@ -42,13 +42,13 @@ over_itself : (a : Leaves) → IsOverSame a a
 over_itself a = record { lists = refl; length = refl; ty = refl }
 
 -- a cursor that does nothing comes to the same
-pub stays : (a : Leaves) → ComesToSame a a
+pub stays : (a : Leaves) → YieldsSame a a
 stays a = record { over = over_itself a; same = no_leaf_passed (lists_under a) (elements_for a) a.place.ty (start_of a) }
 
 start_begun : (a : Leaves) → a.is_begun ≡ true → start_of a ≡ place_start a.place
 start_begun a e = ap (λ (b : Bool). if b then place_start a.place else []) e
 
-left_begun : (a : Leaves) → a.is_begun ≡ true → left_of a ≡ place_left a.place
+left_begun : (a : Leaves) → a.is_begun ≡ true → fuel a ≡ place_left a.place
 left_begun a e = ap (λ (b : Bool). if b then place_left a.place else suc (place_left a.place)) e
 
 -- what is so of the type of one cursor is so of that of another that goes over the same
@@ -61,12 +61,12 @@ over P a b same h =
 then_over : (a b : Leaves) (place : Place) → IsOverSame a b → place.ty ≡ b.place.ty → IsOverSame a (record b { place = place })
 then_over a b place same e = record { lists = same.lists; length = same.length; ty = e ∙ same.ty }
 
-module _ (a b : Leaves) (come : ComesToSame a b) (begun : b.is_begun ≡ true) (place : Place) (ty : place.ty ≡ b.place.ty) where
+module _ (a b : Leaves) (come : YieldsSame a b) (begun : b.is_begun ≡ true) (place : Place) (ty : place.ty ≡ b.place.ty) where
   abbrev Now : Leaves
   Now = record b { place = place }
 
   -- after leaves that were passed comes the next one
-  pub comes_to_next : (l : LeafBytes) → left_of b ≤ left_of a
+  pub comes_to_next : (l : LeafBytes) → fuel b ≤ fuel a
       → IsFirstLeaf (lists_under b) (elements_for b) b.place.ty (place_start b.place) place.path.items (place_start place) l → place_left place < place_left b.place
       → IsNext a Now l
   comes_to_next l fewer first less =
@@ -85,7 +85,7 @@ module _ (a b : Leaves) (come : ComesToSame a b) (begun : b.is_begun ≡ true) (
       sums la lb ln pb pn e f h k = omega arith
 
   -- after a step that passed no leaf the same come
-  pub comes_on : HasSameFrom (lists_under b) (elements_for b) b.place.ty (place_start b.place) (place_start place) → ComesToSame a Now
+  pub comes_on : HasSameFrom (lists_under b) (elements_for b) b.place.ty (place_start b.place) (place_start place) → YieldsSame a Now
   comes_on next =
       let from_start : HasSameFrom (lists_under b) (elements_for b) b.place.ty (start_of b) (start_of Now) =
       subst (λ s. HasSameFrom (lists_under b) (elements_for b) b.place.ty s (start_of Now)) (sym (start_begun b begun))
@@ -97,14 +97,14 @@ module _ (a b : Leaves) (come : ComesToSame a b) (begun : b.is_begun ≡ true) (
             (over (λ g n t. HasSameFrom g (elements g n) t (start_of b) (start_of Now)) a b come.over from_start);
       }
 
-  pub fewer_left : left_of b ≤ left_of a → place_left place < place_left b.place → left_of Now ≤ left_of a
+  pub fewer_left : fuel b ≤ fuel a → place_left place < place_left b.place → fuel Now ≤ fuel a
   fewer_left fewer less = sums _ _ _ _ _ (left_begun b begun) (left_begun Now begun) fewer less
     where
       sums : (la lb ln pb pn : ℕ) → lb ≡ pb → ln ≡ pn → lb ≤ la → pn < pb → ln ≤ la
       sums la lb ln pb pn e f h k = omega arith
 
   -- a place that did not move leaves the same
-  pub comes_nowhere : IsUnmoved b.place place → ComesToSame a Now
+  pub comes_nowhere : IsUnmoved b.place place → YieldsSame a Now
   comes_nowhere same =
       comes_on (subst (HasSameFrom (lists_under b) (elements_for b) b.place.ty (place_start b.place)) (sym (unmoved_start (lists_under b) (elements_for b) b.place place same))
       (no_leaf_passed (lists_under b) (elements_for b) b.place.ty (place_start b.place)))
@@ -136,7 +136,7 @@ module _ (a : Leaves) (is : IsCursor a) (fresh : a.is_begun ≡ false) where
   start_fresh : start_of a ≡ []
   start_fresh = ap (λ (b : Bool). if b then place_start a.place else []) fresh
 
-  left_fresh : left_of a ≡ suc (place_left a.place)
+  left_fresh : fuel a ≡ suc (place_left a.place)
   left_fresh = ap (λ (b : Bool). if b then place_left a.place else suc (place_left a.place)) fresh
 
   start_now : place_start a.place ≡ [] ++ 0 ∷ []
@@ -160,7 +160,7 @@ module _ (a : Leaves) (is : IsCursor a) (fresh : a.is_begun ≡ false) where
             subst (λ s. IsFirstLeaf (lists_under a) (elements_for a) a.place.ty s a.place.path.items (place_start a.place) (bytes_of leaf)) (sym start_fresh)
             (subst (λ p. IsFirstLeaf (lists_under a) (elements_for a) a.place.ty [] p (place_start a.place) (bytes_of leaf)) (sym at_nothing)
             (subst (λ r. IsFirstLeaf (lists_under a) (elements_for a) a.place.ty [] [] r (bytes_of leaf)) (sym start_now) first));
-        fewer = let l : left_of a ≡ suc (place_left a.place) = left_fresh in omega arith;
+        fewer = let l : fuel a ≡ suc (place_left a.place) = left_fresh in omega arith;
       }
 
   -- and one that is none is passed
@@ -172,7 +172,7 @@ module _ (a : Leaves) (is : IsCursor a) (fresh : a.is_begun ≡ false) where
           subst (λ s. HasSameFrom (lists_under a) (elements_for a) a.place.ty s (place_start a.place)) (sym start_fresh)
           (subst (HasSameFrom (lists_under a) (elements_for a) a.place.ty []) (sym start_now) (past_none (lists_under a) (elements_for a) a.place.ty [] (leaf_of_whole ∙ sym none)));
     };
-    fewer = let l : left_of a ≡ suc (place_left a.place) = left_fresh in omega arith;
+    fewer = let l : fuel a ≡ suc (place_left a.place) = left_fresh in omega arith;
   }
 
   -- to begin is to come to the whole, or to pass it

@@ -12,7 +12,7 @@ use Rattle.naga_leaves.proofs.Path.{moved_begins, moved_twice}
 use Rattle.naga_leaves.proofs.Places.{are_indexes, as_many, back, leaf_at_none, leaf_at_part, leaf_in_place, part_precedes, part_there}
 use Rattle.naga_leaves.proofs.Weights.{outer_more, entering, leaving, passing}
 use Rattle.naga_leaves.specs.LeavesFrom.{HasLeafFrom, HasNoneFrom, HasSameFrom, IsFirstLeaf}
-use Rattle.naga_leaves.specs.Order.{ComesFrom}
+use Rattle.naga_leaves.specs.Order.{IsAtOrAfter}
 use Rattle.naga_leaves.specs.declared.cursor.Place.{Place}
 use Rattle.naga_leaves.specs.declared.cursor.Step.{Step}
 use Rattle.naga_leaves.specs.declared.cursor.Step.TheVariants.{Leaf, Other, End}
@@ -50,7 +50,7 @@ module _ (g : GlobalLists) (elements_of : Elements) (t : ℕ) where
   pub past_far : (p : List ℕ) (n : ℕ) → ((rest : List ℕ) → IfSome (leaf_at g elements_of t (p ++ n ∷ rest)) (λ leaf. largest_u64 < leaf.first))
       → HasSameFrom g elements_of t (p ++ n ∷ []) (p ++ (n + 1) ∷ [])
   past_far p n far = record {
-    into = λ q l h. record { has = h.has; after = ⊎_elim (λ (e : (rest : List ℕ) × (q ≡ p ++ n ∷ rest)). absurd (too_far q l h e.0 e.1)) (λ (a : ComesFrom (p ++ (n + 1) ∷ []) q). a) (extends_or_next p q n h.after) };
+    into = λ q l h. record { has = h.has; after = ⊎_elim (λ (e : (rest : List ℕ) × (q ≡ p ++ n ∷ rest)). absurd (too_far q l h e.0 e.1)) (λ (a : IsAtOrAfter (p ++ (n + 1) ∷ []) q). a) (extends_or_next p q n h.after) };
     back = λ q l h. record { has = h.has; after = from_lesser p q n (n + 1) (omega arith) h.after };
   }
     where
@@ -73,7 +73,7 @@ module _ (g : GlobalLists) (elements_of : Elements) (t : ℕ) where
     pub past_part : (r : List ℕ) (i : ℕ) → p ≡ r ++ i ∷ [] → HasSameFrom g elements_of t (p ++ n ∷ []) (r ++ (i + 1) ∷ [])
     past_part r i e = record {
       into = λ q l h. record { has = h.has; after = past_next r q i (subst (λ p. Past p q) e (is_past q l h)) };
-      back = λ q l h. record { has = h.has; after = subst (λ p. ComesFrom (p ++ n ∷ []) q) (sym e) (from_below r q i n h.after) };
+      back = λ q l h. record { has = h.has; after = subst (λ p. IsAtOrAfter (p ++ n ∷ []) q) (sym e) (from_below r q i n h.after) };
     }
 
     -- and at the whole nothing is left

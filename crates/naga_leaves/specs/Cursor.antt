@@ -25,12 +25,12 @@ abbrev pub start_of : Leaves → List ℕ
 start_of leaves = if leaves.is_begun then place_start leaves.place else []
 
 -- more than the calls that still return a leaf
-abbrev pub left_of : Leaves → ℕ
-left_of leaves = if leaves.is_begun then place_left leaves.place else suc (place_left leaves.place)
+abbrev pub fuel : Leaves → ℕ
+fuel leaves = if leaves.is_begun then place_left leaves.place else suc (place_left leaves.place)
 
 -- a cursor has still to come to a leaf at a path
-abbrev pub IsToCome : Leaves → List ℕ → LeafBytes → Type 0
-IsToCome leaves path leaf = HasLeafFrom (lists_under leaves) (elements_for leaves) leaves.place.ty (start_of leaves) path leaf
+abbrev pub IsRemaining : Leaves → List ℕ → LeafBytes → Type 0
+IsRemaining leaves path leaf = HasLeafFrom (lists_under leaves) (elements_for leaves) leaves.place.ty (start_of leaves) path leaf
 
 -- a cursor is at a part of a value, and before its first step at the whole
 pub record IsCursor (leaves : Leaves) : Type 0 where
@@ -39,9 +39,9 @@ pub record IsCursor (leaves : Leaves) : Type 0 where
   pub whole : leaves.is_begun ≡ false → (leaves.place.path.items ≡ []) × (leaves.place.next ≡ 0)
 
 -- a cursor has still to come to all leaves of a type
-pub record ComesToAll (g : GlobalLists) (elements_of : Elements) (t : ℕ) (leaves : Leaves) : Type 0 where
-  pub all : (path : List ℕ) (leaf : LeafBytes) → HasLeaf g elements_of t path leaf → IsToCome leaves path leaf
-  pub only : (path : List ℕ) (leaf : LeafBytes) → IsToCome leaves path leaf → HasLeaf g elements_of t path leaf
+pub record YieldsAll (g : GlobalLists) (elements_of : Elements) (t : ℕ) (leaves : Leaves) : Type 0 where
+  pub all : (path : List ℕ) (leaf : LeafBytes) → HasLeaf g elements_of t path leaf → IsRemaining leaves path leaf
+  pub only : (path : List ℕ) (leaf : LeafBytes) → IsRemaining leaves path leaf → HasLeaf g elements_of t path leaf
 
 -- a cursor goes over the same type as before
 pub record IsOverSame (before now : Leaves) : Type 0 where
@@ -53,14 +53,14 @@ pub record IsOverSame (before now : Leaves) : Type 0 where
 pub record IsNext (before now : Leaves) (leaf : LeafBytes) : Type 0 where
   pub over : IsOverSame before now
   pub first : IsFirstLeaf (lists_under before) (elements_for before) before.place.ty (start_of before) (path_of now) (start_of now) leaf
-  pub fewer : left_of now < left_of before
+  pub fewer : fuel now < fuel before
 
 -- a cursor has still to come to the leaves that it had still to come to
-pub record ComesToSame (before now : Leaves) : Type 0 where
+pub record YieldsSame (before now : Leaves) : Type 0 where
   pub over : IsOverSame before now
   pub same : HasSameFrom (lists_under before) (elements_for before) before.place.ty (start_of before) (start_of now)
 
 -- a cursor had no leaf to come to, and has none
 pub record IsAtEnd (before now : Leaves) : Type 0 where
-  pub same : ComesToSame before now
+  pub same : YieldsSame before now
   pub none : HasNoneFrom (lists_under before) (elements_for before) before.place.ty (start_of before)

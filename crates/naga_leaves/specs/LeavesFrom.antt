@@ -2,7 +2,7 @@
 use Rattle.std.specs.Prelude.{◌≡◌, ◌≢◌, ◌≤◌, ℕ, List, Some, All}
 use Rattle.naga_arena.specs.Numbers.{largest_u32, largest_u64}
 use Rattle.naga_ir.specs.ItemReferences.{GlobalLists}
-use Rattle.naga_leaves.specs.Order.{ComesFrom}
+use Rattle.naga_leaves.specs.Order.{IsAtOrAfter}
 use Rattle.naga_typing.specs.Leaves.{Elements, LeafBytes, leaf_at}
 
 -- a type has a leaf at a path of indexes of 32 bits, and it begins at a byte of 64 bits
@@ -14,7 +14,7 @@ pub record HasLeaf (g : GlobalLists) (elements_of : Elements) (t : ℕ) (path : 
 -- a type has a leaf at a path from another path on
 pub record HasLeafFrom (g : GlobalLists) (elements_of : Elements) (t : ℕ) (start path : List ℕ) (leaf : LeafBytes) : Type 0 where
   pub has : HasLeaf g elements_of t path leaf
-  pub after : ComesFrom start path
+  pub after : IsAtOrAfter start path
 
 -- a type has no leaf from a path on
 abbrev pub HasNoneFrom : GlobalLists → Elements → ℕ → List ℕ → Type 0
@@ -28,6 +28,6 @@ pub record HasSameFrom (g : GlobalLists) (elements_of : Elements) (t : ℕ) (a b
 -- of the leaves from one path on this is the first, and all others are those from a second path on
 pub record IsFirstLeaf (g : GlobalLists) (elements_of : Elements) (t : ℕ) (start path rest : List ℕ) (leaf : LeafBytes) : Type 0 where
   pub has : HasLeafFrom g elements_of t start path leaf
-  pub first : (other : List ℕ) (l : LeafBytes) → HasLeafFrom g elements_of t start other l → ComesFrom path other
+  pub first : (other : List ℕ) (l : LeafBytes) → HasLeafFrom g elements_of t start other l → IsAtOrAfter path other
   pub others : (other : List ℕ) (l : LeafBytes) → HasLeafFrom g elements_of t start other l → other ≢ path → HasLeafFrom g elements_of t rest other l
   pub no_more : (other : List ℕ) (l : LeafBytes) → HasLeafFrom g elements_of t rest other l → HasLeafFrom g elements_of t start other l × (other ≢ path)

@@ -2,7 +2,7 @@
 use Rattle.std.specs.Prelude.{◌≡◌, ◌<◌, ◌⊎◌, ℕ, List, [], ◌∷◌, ⊤}
 
 -- a path comes at another or after it in lexicographic order, in which a path precedes all that it begins
-abbrev pub ComesFrom : List ℕ → List ℕ → Type 0
-ComesFrom [] path = ⊤
-ComesFrom (i ∷ start) [] = ⊥
-ComesFrom (i ∷ start) (j ∷ path) = (i < j) ⊎ ((i ≡ j) × ComesFrom start path)
+abbrev pub IsAtOrAfter : List ℕ → List ℕ → Type 0
+IsAtOrAfter [] path = ⊤
+IsAtOrAfter (i ∷ start) [] = ⊥
+IsAtOrAfter (i ∷ start) (j ∷ path) = (i < j) ⊎ ((i ≡ j) × IsAtOrAfter start path)

@@ -5,7 +5,7 @@ ghost use Rattle.naga_arena.specs.Numbers.{largest_u32};
 ghost use Rattle.naga_ir.specs.Handles.{GlobalReferencesOk};
 ghost use Rattle.naga_ir.specs.ItemReferences.{global_lists};
 ghost use Rattle.naga_leaves.specs.Leaf.{bytes_of};
-ghost use Rattle.naga_leaves.specs.Cursor.{ComesToAll, ComesToSame, IsAtEnd, IsCursor, IsNext, path_of};
+ghost use Rattle.naga_leaves.specs.Cursor.{YieldsAll, YieldsSame, IsAtEnd, IsCursor, IsNext, path_of};
 ghost use Rattle.naga_leaves.specs.steps.NextLeaf.{ComesOn};
 ghost use Rattle.naga_leaves.specs.steps.Parts.{part_of};
 ghost use Rattle.naga_leaves.specs.Places.{IsEntered, IsPlace, IsUnmoved, part_of_type};
@@ -160,7 +160,7 @@ pub fn leaves_of<'a>(
     requires exists { ty < length_of «module».now.types }
     requires references { GlobalReferencesOk (global_lists «module».now) }
     ensures cursor { IsCursor result }
-    ensures all { ComesToAll (global_lists «module».now) (elements (global_lists «module».now) length) ty result }
+    ensures all { YieldsAll (global_lists «module».now) (elements (global_lists «module».now) length) ty result }
 {
     Leaves {
         gctx: to_ctx(module),
@@ -212,7 +212,7 @@ impl<'a> Leaves<'a> {
         requires { IsCursor self.old }
         ensures cursor { IsCursor self.new }
         ensures ok { IfOk result (λ found. MatchOption found (IsAtEnd self.old self.new) (λ leaf. IsNext self.old self.new (bytes_of leaf))) }
-        ensures err { OnErr result (ComesToSame self.old self.new) }
+        ensures err { OnErr result (YieldsSame self.old self.new) }
     {
         if let Some(leaf) = self.begin() {
             return Ok(Some(leaf));

@@ -5,13 +5,13 @@ use Rattle.std.specs.Prelude.{Result, Ok, Err}
 use Rattle.naga_flags.specs.declared.flags.ShaderStages.{ShaderStages}
 use Rattle.naga_ir.specs.declared.expression.BinaryOperator.{BinaryOperator}
 use Rattle.naga_ir.specs.declared.types.TypeInner.{TypeInner}
-use Rattle.naga_info.specs.Results.{IsReturned}
+use Rattle.naga_info.specs.Results.{IsRuleResult}
 use Rattle.naga_info.specs.Stages.{every_stage}
 use Rattle.naga_info.specs.Surroundings.{ExpressionSurroundings, form_at}
 use Rattle.naga_info.specs.declared.expression_error.ExpressionError.{ExpressionError}
 use Rattle.naga_info.specs.declared.expression_error.ExpressionError.TheVariants.{InvalidBinaryOperandTypes}
-use Rattle.naga_operator_exprs.specs.Binary.{IsBinaryReturned, accepted, forbidden_constant, forbidden_on_right, misfit, operands_fit, refusal_of}
-use Rattle.naga_operator_exprs.specs.Integers.{HasForbidden}
+use Rattle.naga_operator_exprs.specs.Binary.{IsBinaryResult, accepted, forbidden_constant, forbidden_on_right, wrong_operands, operands_fit, refusal_of}
+use Rattle.naga_operator_exprs.specs.Integers.{ContainsForbidden}
 use Rattle.naga_operator_exprs.specs.declared.integers.Forbidden.{Forbidden}
 use Rattle.naga_operator_exprs.specs.declared.integers.Place.TheVariants.{InFunction}
 
@@ -29,32 +29,32 @@ module _ (s : ExpressionSurroundings) (op : BinaryOperator) (left right : ℕ) (
   found forbidden h = subst (λ a. forbidden_on_right op a ≡ forbidden) on_left h
 
   -- the operands don't fit
-  pub of_misfit : operands_fit op x y ≡ false → IsReturned (Err (InvalidBinaryOperandTypes op left x right y)) result → IsBinaryReturned s op left right result
+  pub of_misfit : operands_fit op x y ≡ false → IsRuleResult (Err (InvalidBinaryOperandTypes op left x right y)) result → IsBinaryResult s op left right result
   of_misfit h returned = (
     Err (InvalidBinaryOperandTypes op left (form_at s left) right (form_at s right)),
-    misfit (fit false h),
-    subst₂ (λ a b. IsReturned (Err (InvalidBinaryOperandTypes op left a right b)) result) on_left on_right returned,
+    wrong_operands (fit false h),
+    subst₂ (λ a b. IsRuleResult (Err (InvalidBinaryOperandTypes op left a right b)) result) on_left on_right returned,
   )
 
   -- the constant on the right is forbidden
-  pub of_forbidden : (forbidden : Forbidden) → operands_fit op x y ≡ true → forbidden_on_right op x ≡ Some forbidden → HasForbidden s forbidden (InFunction right)
-      → IsReturned (Err (refusal_of forbidden x right)) result → IsBinaryReturned s op left right result
+  pub of_forbidden : (forbidden : Forbidden) → operands_fit op x y ≡ true → forbidden_on_right op x ≡ Some forbidden → ContainsForbidden s forbidden (InFunction right)
+      → IsRuleResult (Err (refusal_of forbidden x right)) result → IsBinaryResult s op left right result
   of_forbidden forbidden fits h has returned = (
     Err (refusal_of forbidden (form_at s left) right),
     forbidden_constant forbidden (fit true fits) (found (Some forbidden) h, has),
-    subst (λ a. IsReturned (Err (refusal_of forbidden a right)) result) on_left returned,
+    subst (λ a. IsRuleResult (Err (refusal_of forbidden a right)) result) on_left returned,
   )
 
   -- nothing is forbidden
-  pub of_no_rule : operands_fit op x y ≡ true → forbidden_on_right op x ≡ None → result ≡ Ok every_stage → IsBinaryReturned s op left right result
+  pub of_no_rule : operands_fit op x y ≡ true → forbidden_on_right op x ≡ None → result ≡ Ok every_stage → IsBinaryResult s op left right result
   of_no_rule fits h is =
       (Ok every_stage, accepted (fit true fits) (λ forbidden held. none_held (forbidden_on_right op (form_at s left)) forbidden (found None h) held.0), inl is)
 
   -- no constant on the right is forbidden
-  pub of_allowed : (forbidden : Forbidden) → operands_fit op x y ≡ true → forbidden_on_right op x ≡ Some forbidden → (HasForbidden s forbidden (InFunction right) → ⊥)
-      → result ≡ Ok every_stage → IsBinaryReturned s op left right result
+  pub of_allowed : (forbidden : Forbidden) → operands_fit op x y ≡ true → forbidden_on_right op x ≡ Some forbidden → (ContainsForbidden s forbidden (InFunction right) → ⊥)
+      → result ≡ Ok every_stage → IsBinaryResult s op left right result
   of_allowed forbidden fits h allowed is = (
     Ok every_stage,
-    accepted (fit true fits) (λ other held. allowed (subst (λ f. HasForbidden s f (InFunction right)) (sym (same_Some forbidden other (sym (found (Some forbidden) h) ∙ held.0))) held.1)),
+    accepted (fit true fits) (λ other held. allowed (subst (λ f. ContainsForbidden s f (InFunction right)) (sym (same_Some forbidden other (sym (found (Some forbidden) h) ∙ held.0))) held.1)),
     inl is,
   )

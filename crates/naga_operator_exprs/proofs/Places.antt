@@ -14,7 +14,7 @@ use Rattle.naga_ir.specs.declared.ir.Module.{Module}
 use Rattle.naga_ir.specs.declared.reference.Reference.{Reference}
 use Rattle.naga_ir.specs.declared.reference.Reference.TheVariants as to
 use Rattle.naga_info.specs.Surroundings.{AreSound, ExpressionSurroundings}
-use Rattle.naga_operator_exprs.specs.Integers.{beside, expression_at}
+use Rattle.naga_operator_exprs.specs.Integers.{operand_place, expression_at}
 use Rattle.naga_operator_exprs.specs.declared.integers.Place.{Place}
 use Rattle.naga_operator_exprs.specs.declared.integers.Place.TheVariants.{InFunction, InModule}
 use Rattle.naga_operator_exprs.specs.steps.Places.{PlaceExists, rank}
@@ -55,12 +55,12 @@ module _ (s : ExpressionSurroundings) (sound : AreSound s) where
   type_exists (InModule e) x at = global_type_exists g global_ok e x at
 
   -- an operand comes before
-  pub operand_before : (p : Place) (x : Expression) (o : ℕ) → PlaceExists s p → expression_at s p ≡ Some x → Contains (operands x) o → rank s (beside p o) < rank s p
+  pub operand_before : (p : Place) (x : Expression) (o : ℕ) → PlaceExists s p → expression_at s p ≡ Some x → Contains (operands x) o → rank s (operand_place p o) < rank s p
   operand_before (InFunction e) x o there at within = let back : o < e = sound.in_function.back (to.Expression e) (to.Expression o) (own_operand e o x at within) in omega (arith, back)
   operand_before (InModule e) x o there at within = let back : o < e = global_ok.back (to.Expression e) (to.Expression o) (operand e o x at within) in back
 
   -- and exists
-  pub operand_exists : (p : Place) (x : Expression) (o : ℕ) → PlaceExists s p → expression_at s p ≡ Some x → Contains (operands x) o → PlaceExists s (beside p o)
+  pub operand_exists : (p : Place) (x : Expression) (o : ℕ) → PlaceExists s p → expression_at s p ≡ Some x → Contains (operands x) o → PlaceExists s (operand_place p o)
   operand_exists (InFunction e) x o there at within = let back : o < e = sound.in_function.back (to.Expression e) (to.Expression o) (own_operand e o x at within) in omega (arith, back, there)
   operand_exists (InModule e) x o there at within = let back : o < e = global_ok.back (to.Expression e) (to.Expression o) (operand e o x at within) in omega (arith, back, there)
 

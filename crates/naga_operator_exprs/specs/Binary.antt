@@ -1,5 +1,5 @@
 -- The rule of operators on two values.
-use Rattle.std.specs.Prelude.{◌≡◌, ◌&&◌, ◌||◌, ◌*◌, ℕ, Bool as Truth, true, false, Option, Some, None, Result, Ok, Err}
+use Rattle.std.specs.Prelude.{◌≡◌, ◌&&◌, ◌||◌, ◌*◌, ℕ, Bool as Boolean, true, false, Option, Some, None, Result, Ok, Err}
 use Rattle.naga_flags.specs.declared.flags.ShaderStages.{ShaderStages}
 use Rattle.naga_ir.specs.declared.expression.BinaryOperator.{BinaryOperator}
 use Rattle.naga_ir.specs.declared.expression.BinaryOperator.TheVariants.{Add, Subtract, Multiply, Divide, Modulo, Equal, NotEqual, Less, LessEqual, Greater, GreaterEqual, And, ExclusiveOr, InclusiveOr, LogicalAnd, LogicalOr, ShiftLeft, ShiftRight}
@@ -11,23 +11,23 @@ use Rattle.naga_ir.specs.declared.types.ScalarKind.TheVariants.{Sint, Uint, Floa
 use Rattle.naga_ir.specs.declared.types.TypeInner.{TypeInner}
 use Rattle.naga_ir.specs.declared.types.TypeInner.TheVariants.{Scalar, Vector, Matrix, CooperativeMatrix, Atomic, Pointer, ValuePointer, Array, Struct, Image, Sampler, AccelerationStructure, RayQuery, BindingArray}
 use Rattle.naga_ir.specs.declared.types.VectorSize.{VectorSize}
-use Rattle.naga_info.specs.Results.{IsReturned}
+use Rattle.naga_info.specs.Results.{IsRuleResult}
 use Rattle.naga_info.specs.Stages.{every_stage}
 use Rattle.naga_info.specs.Surroundings.{ExpressionSurroundings, form_at}
 use Rattle.naga_info.specs.Words.{are_equal, consists_of, is_bool, is_number}
 use Rattle.naga_info.specs.declared.expression_error.ExpressionError.{ExpressionError}
 use Rattle.naga_info.specs.declared.expression_error.ExpressionError.TheVariants.{DivideByZero, InvalidBinaryOperandTypes, ShiftAmountTooLarge}
-use Rattle.naga_operator_exprs.specs.Integers.{HasForbidden}
+use Rattle.naga_operator_exprs.specs.Integers.{ContainsForbidden}
 use Rattle.naga_operator_exprs.specs.Product.{can_multiply}
 use Rattle.naga_operator_exprs.specs.declared.integers.Forbidden.{Forbidden}
 use Rattle.naga_operator_exprs.specs.declared.integers.Forbidden.TheVariants.{AtLeast, Zero}
 use Rattle.naga_operator_exprs.specs.declared.integers.Place.TheVariants.{InFunction}
-use Rattle.naga_types.specs.Judging.{only_if}
+use Rattle.naga_types.specs.Checks.{when}
 use Rattle.naga_types.specs.TypeMethods.{is_sized}
 use Rattle.naga_types.specs.TypeRule.{is_integer}
 
 -- a kind is that of unsigned integers
-abbrev pub is_unsigned : ScalarKind → Truth
+abbrev pub is_unsigned : ScalarKind → Boolean
 is_unsigned Uint = true
 is_unsigned Sint = false
 is_unsigned Float = false
@@ -36,11 +36,11 @@ is_unsigned AbstractInt = false
 is_unsigned AbstractFloat = false
 
 -- two forms are equal, and each is a scalar whose kind is so, or a vector of such
-abbrev pub are_both : (ScalarKind → Truth) → TypeInner → TypeInner → Truth
+abbrev pub are_both : (ScalarKind → Boolean) → TypeInner → TypeInner → Boolean
 are_both is x y = consists_of (λ scalar. is scalar.kind) x && are_equal x y
 
 -- a form is that of matrices, of either kind
-abbrev pub is_any_matrix : TypeInner → Truth
+abbrev pub is_any_matrix : TypeInner → Boolean
 is_any_matrix (Matrix columns rows scalar) = true
 is_any_matrix (CooperativeMatrix columns rows scalar role) = true
 is_any_matrix (Scalar scalar) = false
@@ -57,24 +57,24 @@ is_any_matrix (RayQuery vertex_return) = false
 is_any_matrix (BindingArray base size) = false
 
 -- two forms are added: equal ones, of numbers, vectors of numbers, or matrices
-abbrev pub can_add : TypeInner → TypeInner → Truth
+abbrev pub can_add : TypeInner → TypeInner → Boolean
 can_add x y = are_both is_number x y || is_any_matrix x && are_equal x y
 
 -- two sizes are equal, or there are none
-abbrev pub same_size : Option VectorSize → Option VectorSize → Truth
+abbrev pub same_size : Option VectorSize → Option VectorSize → Boolean
 same_size (Some m) (Some n) = of_size.ghosts.eq m n
 same_size None None = true
 same_size (Some m) None = false
 same_size None (Some n) = false
 
 -- integers are shifted by as many unsigned integers
-abbrev pub can_shift : Option (Option VectorSize × ScalarType) → Option (Option VectorSize × ScalarType) → Truth
+abbrev pub can_shift : Option (Option VectorSize × ScalarType) → Option (Option VectorSize × ScalarType) → Boolean
 can_shift (Some x) (Some y) = is_integer x.1.kind && is_unsigned y.1.kind && same_size x.0 y.0
 can_shift (Some x) None = false
 can_shift None _ = false
 
 -- the operands of an operator fit
-abbrev pub operands_fit : BinaryOperator → TypeInner → TypeInner → Truth
+abbrev pub operands_fit : BinaryOperator → TypeInner → TypeInner → Boolean
 operands_fit Add x y = can_add x y
 operands_fit Subtract x y = can_add x y
 operands_fit Multiply x y = can_multiply x y
@@ -100,15 +100,15 @@ bits_per_byte = 8
 
 -- what an integer must not be shifted by: as many bits as it has, or more
 abbrev pub forbidden_shift : Option (Option VectorSize × ScalarType) → Option Forbidden
-forbidden_shift (Some x) = only_if (is_integer x.1.kind) (Some (AtLeast (bits_per_byte * x.1.width)))
+forbidden_shift (Some x) = when (is_integer x.1.kind) (Some (AtLeast (bits_per_byte * x.1.width)))
 forbidden_shift None = None
 
 -- what a constant must not be on the right of an operator, by the form on the left
 abbrev pub forbidden_on_right : BinaryOperator → TypeInner → Option Forbidden
 forbidden_on_right ShiftLeft x = forbidden_shift (vector_size_and_scalar x)
 forbidden_on_right ShiftRight x = forbidden_shift (vector_size_and_scalar x)
-forbidden_on_right Divide x = only_if (consists_of (λ scalar. is_integer scalar.kind) x) (Some Zero)
-forbidden_on_right Modulo x = only_if (consists_of (λ scalar. is_integer scalar.kind) x) (Some Zero)
+forbidden_on_right Divide x = when (consists_of (λ scalar. is_integer scalar.kind) x) (Some Zero)
+forbidden_on_right Modulo x = when (consists_of (λ scalar. is_integer scalar.kind) x) (Some Zero)
 forbidden_on_right Add x = None
 forbidden_on_right Subtract x = None
 forbidden_on_right Multiply x = None
@@ -130,16 +130,16 @@ refusal_of (AtLeast bound) x right = ShiftAmountTooLarge x right
 refusal_of Zero x right = DivideByZero
 
 -- the right operand is a constant expression that holds a number which the operator forbids
-abbrev pub HoldsForbidden : ExpressionSurroundings → BinaryOperator → ℕ → ℕ → Forbidden → Type 0
-HoldsForbidden s op left right forbidden = (forbidden_on_right op (form_at s left) ≡ Some forbidden) × HasForbidden s forbidden (InFunction right)
+abbrev pub RightIsForbidden : ExpressionSurroundings → BinaryOperator → ℕ → ℕ → Forbidden → Type 0
+RightIsForbidden s op left right forbidden = (forbidden_on_right op (form_at s left) ≡ Some forbidden) × ContainsForbidden s forbidden (InFunction right)
 
 -- what is meant by the rule of an operator: the operands don't fit; or they do, and a constant on the right is forbidden; or they do, and none is
-pub data IsBinaryMeant (s : ExpressionSurroundings) (op : BinaryOperator) (left right : ℕ) : Result ShaderStages ExpressionError → Type 0 where
-  misfit : operands_fit op (form_at s left) (form_at s right) ≡ false → IsBinaryMeant s op left right (Err (InvalidBinaryOperandTypes op left (form_at s left) right (form_at s right)))
-  forbidden_constant : (forbidden : Forbidden) → operands_fit op (form_at s left) (form_at s right) ≡ true → HoldsForbidden s op left right forbidden
-      → IsBinaryMeant s op left right (Err (refusal_of forbidden (form_at s left) right))
-  accepted : operands_fit op (form_at s left) (form_at s right) ≡ true → ((forbidden : Forbidden) → HoldsForbidden s op left right forbidden → ⊥) → IsBinaryMeant s op left right (Ok every_stage)
+pub data IsBinaryRule (s : ExpressionSurroundings) (op : BinaryOperator) (left right : ℕ) : Result ShaderStages ExpressionError → Type 0 where
+  wrong_operands : operands_fit op (form_at s left) (form_at s right) ≡ false → IsBinaryRule s op left right (Err (InvalidBinaryOperandTypes op left (form_at s left) right (form_at s right)))
+  forbidden_constant : (forbidden : Forbidden) → operands_fit op (form_at s left) (form_at s right) ≡ true → RightIsForbidden s op left right forbidden
+      → IsBinaryRule s op left right (Err (refusal_of forbidden (form_at s left) right))
+  accepted : operands_fit op (form_at s left) (form_at s right) ≡ true → ((forbidden : Forbidden) → RightIsForbidden s op left right forbidden → ⊥) → IsBinaryRule s op left right (Ok every_stage)
 
 -- a call returns what is meant by the rule of an operator, out of memory aside
-abbrev pub IsBinaryReturned : ExpressionSurroundings → BinaryOperator → ℕ → ℕ → Result ShaderStages ExpressionError → Type 0
-IsBinaryReturned s op left right result = (meant : Result ShaderStages ExpressionError) × IsBinaryMeant s op left right meant × IsReturned meant result
+abbrev pub IsBinaryResult : ExpressionSurroundings → BinaryOperator → ℕ → ℕ → Result ShaderStages ExpressionError → Type 0
+IsBinaryResult s op left right result = (meant : Result ShaderStages ExpressionError) × IsBinaryRule s op left right meant × IsRuleResult meant result

@@ -1,5 +1,5 @@
 -- The rule of `a * b + c` of cooperative matrices.
-use Rattle.std.specs.Prelude.{ℕ, Bool as Truth, false, [], ◌∷◌, Option, Result}
+use Rattle.std.specs.Prelude.{ℕ, Bool as Boolean, false, [], ◌∷◌, Option, Result}
 use Rattle.naga_flags.specs.declared.flags.ShaderStages.{ShaderStages}
 use Rattle.naga_ir.specs.contracts.types.CooperativeRolePartialEq.TheImpl as of_role
 use Rattle.naga_ir.specs.declared.types.CooperativeRole.{CooperativeRole}
@@ -10,10 +10,10 @@ use Rattle.naga_info.specs.Stages.{compute_stage}
 use Rattle.naga_info.specs.Surroundings.{ExpressionSurroundings, form_at}
 use Rattle.naga_info.specs.declared.expression_error.ExpressionError.{ExpressionError}
 use Rattle.naga_info.specs.declared.expression_error.ExpressionError.TheVariants.{InvalidCooperativeOperand}
-use Rattle.naga_types.specs.Judging.{judged, unless}
+use Rattle.naga_types.specs.Checks.{first_error_or, require}
 
 -- a form is a cooperative matrix of a role
-abbrev pub has_role : CooperativeRole → TypeInner → Truth
+abbrev pub has_role : CooperativeRole → TypeInner → Boolean
 has_role wanted (CooperativeMatrix columns rows scalar role) = of_role.ghosts.eq role wanted
 has_role wanted (Scalar scalar) = false
 has_role wanted (Vector size scalar) = false
@@ -30,9 +30,9 @@ has_role wanted (RayQuery vertex_return) = false
 has_role wanted (BindingArray base size) = false
 
 -- the refusal of an operand of `a * b + c`, unless it has its role
-abbrev pub lacks_role : ExpressionSurroundings → CooperativeRole → ℕ → Option ExpressionError
-lacks_role s role operand = unless (has_role role (form_at s operand)) (InvalidCooperativeOperand operand)
+abbrev pub role_error : ExpressionSurroundings → CooperativeRole → ℕ → Option ExpressionError
+role_error s role operand = require (has_role role (form_at s operand)) (InvalidCooperativeOperand operand)
 
 -- the rule of `a * b + c` of cooperative matrices, which only compute shaders may use
 abbrev pub cooperative_multiply_add_rule : ExpressionSurroundings → ℕ → ℕ → ℕ → Result ShaderStages ExpressionError
-cooperative_multiply_add_rule s a b c = judged (lacks_role s A a ∷ lacks_role s B b ∷ lacks_role s C c ∷ []) compute_stage
+cooperative_multiply_add_rule s a b c = first_error_or (role_error s A a ∷ role_error s B b ∷ role_error s C c ∷ []) compute_stage

@@ -1,5 +1,5 @@
 -- The whole numbers in a constant expression.
-use Rattle.std.specs.Prelude.{◌≡◌, ◌==◌, leb, ℕ, ℤ, pos, negsuc, Bool as Truth, true, false, Option, Some, None, Contains, List, slice_get}
+use Rattle.std.specs.Prelude.{◌≡◌, ◌==◌, leb, ℕ, ℤ, pos, negsuc, Bool as Boolean, true, false, Option, Some, None, Contains, List, slice_get}
 use Rattle.naga_ir.specs.declared.expression.Expression.{Expression}
 use Rattle.naga_ir.specs.declared.expression.Expression.TheVariants as form
 use Rattle.naga_ir.specs.declared.expression.Literal.{Literal}
@@ -22,9 +22,9 @@ expression_at s (place.InFunction e) = slice_get s.function.expressions e
 expression_at s (place.InModule e) = slice_get s.«module».global_expressions e
 
 -- the place of an operand of the expression at a place
-abbrev pub beside : Place → ℕ → Place
-beside (place.InFunction e) o = place.InFunction o
-beside (place.InModule e) o = place.InModule o
+abbrev pub operand_place : Place → ℕ → Place
+operand_place (place.InFunction e) o = place.InFunction o
+operand_place (place.InModule e) o = place.InModule o
 
 -- the value of a literal, if it is an integer with a width of its own
 abbrev pub integer_of : Literal → Option ℤ
@@ -42,7 +42,7 @@ integer_of (literal.AbstractInt n) = None
 integer_of (literal.AbstractFloat bits) = None
 
 -- the zero of a type is an integer, or a vector of integers
-abbrev pub is_integer_zero : ExpressionSurroundings → ℕ → Truth
+abbrev pub is_integer_zero : ExpressionSurroundings → ℕ → Boolean
 is_integer_zero s ty = consists_of (λ scalar. is_integer scalar.kind) (form_in (inner_in s.«module».types (Handle ty)))
 
 -- a number is the integer that an expression is by itself: a literal, or the zero of an integer or of a vector of integers
@@ -51,19 +51,19 @@ pub data IsOwnInteger (s : ExpressionSurroundings) : Expression → ℤ → Type
   zero_value : (ty : ℕ) → is_integer_zero s ty ≡ true → IsOwnInteger s (form.ZeroValue ty) (pos 0)
 
 -- a number is in the expression at a place: it is that integer itself, or it is in what is splatted, in a component, or in the initialiser of a constant
-pub data HasInteger (s : ExpressionSurroundings) : Place → ℤ → Type 0 where
-  itself : (p : Place) (x : Expression) (n : ℤ) → expression_at s p ≡ Some x → IsOwnInteger s x n → HasInteger s p n
-  splatted : (p : Place) (size : VectorSize) (value : ℕ) (n : ℤ) → expression_at s p ≡ Some (form.Splat size value) → HasInteger s (beside p value) n → HasInteger s p n
-  component : (p : Place) (ty : ℕ) (components : List ℕ) (c : ℕ) (n : ℤ) → expression_at s p ≡ Some (form.Compose ty components) → Contains components c → HasInteger s (beside p c) n → HasInteger s p n
-  initialiser : (p : Place) (c : ℕ) (d : Constant) (n : ℤ) → expression_at s p ≡ Some (form.Constant c) → slice_get s.«module».constants c ≡ Some d → HasInteger s (place.InModule d.init) n → HasInteger s p n
+pub data ContainsInteger (s : ExpressionSurroundings) : Place → ℤ → Type 0 where
+  itself : (p : Place) (x : Expression) (n : ℤ) → expression_at s p ≡ Some x → IsOwnInteger s x n → ContainsInteger s p n
+  splatted : (p : Place) (size : VectorSize) (value : ℕ) (n : ℤ) → expression_at s p ≡ Some (form.Splat size value) → ContainsInteger s (operand_place p value) n → ContainsInteger s p n
+  component : (p : Place) (ty : ℕ) (components : List ℕ) (c : ℕ) (n : ℤ) → expression_at s p ≡ Some (form.Compose ty components) → Contains components c → ContainsInteger s (operand_place p c) n → ContainsInteger s p n
+  initialiser : (p : Place) (c : ℕ) (d : Constant) (n : ℤ) → expression_at s p ≡ Some (form.Constant c) → slice_get s.«module».constants c ≡ Some d → ContainsInteger s (place.InModule d.init) n → ContainsInteger s p n
 
 -- whether a number is forbidden
-abbrev pub is_forbidden : Forbidden → ℤ → Truth
+abbrev pub is_forbidden : Forbidden → ℤ → Boolean
 is_forbidden (AtLeast bound) (pos k) = leb bound k
 is_forbidden (AtLeast bound) (negsuc k) = false
 is_forbidden Zero (pos k) = k == 0
 is_forbidden Zero (negsuc k) = false
 
 -- a forbidden number is in the expression at a place
-abbrev pub HasForbidden : ExpressionSurroundings → Forbidden → Place → Type 0
-HasForbidden s forbidden p = (n : ℤ) × HasInteger s p n × (is_forbidden forbidden n ≡ true)
+abbrev pub ContainsForbidden : ExpressionSurroundings → Forbidden → Place → Type 0
+ContainsForbidden s forbidden p = (n : ℤ) × ContainsInteger s p n × (is_forbidden forbidden n ≡ true)

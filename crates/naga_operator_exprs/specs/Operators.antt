@@ -1,5 +1,5 @@
 -- The rules of operators on one value, of selections, derivatives, queries and conversions.
-use Rattle.std.specs.Prelude.{◌&&◌, ◌||◌, leb, ℕ, Bool as Truth, true, false, List, [], ◌∷◌, Option, Some, None, Result, is_some, unwrap_or}
+use Rattle.std.specs.Prelude.{◌&&◌, ◌||◌, leb, ℕ, Bool as Boolean, true, false, List, [], ◌∷◌, Option, Some, None, Result, is_some, unwrap_or}
 use Rattle.naga_flags.specs.Width.{is_good_width, width_32}
 use Rattle.naga_flags.specs.declared.flags.ShaderStages.{ShaderStages}
 use Rattle.naga_ir.specs.declared.expression.RelationalFunction.{RelationalFunction}
@@ -19,11 +19,11 @@ use Rattle.naga_info.specs.Surroundings.{ExpressionSurroundings, form_at}
 use Rattle.naga_info.specs.Words.{are_equal, consists_of, is_bool}
 use Rattle.naga_info.specs.declared.expression_error.ExpressionError.{ExpressionError}
 use Rattle.naga_info.specs.declared.expression_error.ExpressionError.TheVariants as refusal
-use Rattle.naga_types.specs.Judging.{granted, judged, unless}
+use Rattle.naga_types.specs.Checks.{ok_unless, first_error_or, require}
 use Rattle.naga_types.specs.TypeRule.{is_float, is_integer}
 
 -- a kind is that of signed integers
-abbrev pub is_signed : ScalarKind → Truth
+abbrev pub is_signed : ScalarKind → Boolean
 is_signed Sint = true
 is_signed Uint = false
 is_signed Float = false
@@ -32,57 +32,57 @@ is_signed AbstractInt = false
 is_signed AbstractFloat = false
 
 -- an operator on one value takes values of a kind
-abbrev pub takes : UnaryOperator → ScalarKind → Truth
+abbrev pub takes : UnaryOperator → ScalarKind → Boolean
 takes Negate kind = is_float kind || is_signed kind
 takes LogicalNot kind = is_bool kind
 takes BitwiseNot kind = is_integer kind
 
 -- the rule of an operator on one value
 abbrev pub unary_rule : ExpressionSurroundings → UnaryOperator → ℕ → Result ShaderStages ExpressionError
-unary_rule s op e = granted (unless (consists_of (λ scalar. takes op scalar.kind) (form_at s e)) (refusal.InvalidUnaryOperandType op e)) every_stage
+unary_rule s op e = ok_unless (require (consists_of (λ scalar. takes op scalar.kind) (form_at s e)) (refusal.InvalidUnaryOperandType op e)) every_stage
 
 -- one truth value chooses between values of any size, and several between vectors of as many components
-abbrev pub chooses_size : Option VectorSize → Option VectorSize → Truth
+abbrev pub chooses_size : Option VectorSize → Option VectorSize → Boolean
 chooses_size None size = true
 chooses_size (Some n) (Some m) = of_size.ghosts.eq n m
 chooses_size (Some n) None = false
 
 -- a condition chooses between values of a form, scalars or vectors: it is a truth value, or a vector of as many as these have components
-abbrev pub chooses : Option (Option VectorSize × ScalarType) → Option (Option VectorSize × ScalarType) → Truth
+abbrev pub chooses : Option (Option VectorSize × ScalarType) → Option (Option VectorSize × ScalarType) → Boolean
 chooses (Some condition) (Some value) = is_bool condition.1.kind && chooses_size condition.0 value.0
 chooses (Some condition) None = false
 chooses None _ = false
 
 -- the conditions of a selection: the values have one type, and the condition chooses between such
-abbrev pub select_conditions : TypeInner → TypeInner → TypeInner → List (Option ExpressionError)
-select_conditions condition accept reject =
-    unless (are_equal accept reject) (refusal.SelectValuesTypeMismatch accept reject) ∷
-    unless (chooses (vector_size_and_scalar condition) (vector_size_and_scalar accept)) (refusal.SelectConditionNotABool condition) ∷
+abbrev pub select_checks : TypeInner → TypeInner → TypeInner → List (Option ExpressionError)
+select_checks condition accept reject =
+    require (are_equal accept reject) (refusal.SelectValuesTypeMismatch accept reject) ∷
+    require (chooses (vector_size_and_scalar condition) (vector_size_and_scalar accept)) (refusal.SelectConditionNotABool condition) ∷
     []
 
 -- the rule of a selection
 abbrev pub select_rule : ExpressionSurroundings → ℕ → ℕ → ℕ → Result ShaderStages ExpressionError
-select_rule s condition accept reject = judged (select_conditions (form_at s condition) (form_at s accept) (form_at s reject)) every_stage
+select_rule s condition accept reject = first_error_or (select_checks (form_at s condition) (form_at s accept) (form_at s reject)) every_stage
 
 -- the rule of a derivative: of floating-point numbers of at least 32 bits, and vectors of such, among fragments
 abbrev pub derivative_rule : ExpressionSurroundings → ℕ → Result ShaderStages ExpressionError
-derivative_rule s e = granted (unless (consists_of (λ scalar. is_float scalar.kind && leb width_32 scalar.width) (form_at s e)) refusal.InvalidDerivative) fragment_stage
+derivative_rule s e = ok_unless (require (consists_of (λ scalar. is_float scalar.kind && leb width_32 scalar.width) (form_at s e)) refusal.InvalidDerivative) fragment_stage
 
 -- a form is a vector of truth values
-abbrev pub is_vector_of_bools : Option (Option VectorSize × ScalarType) → Truth
+abbrev pub is_vector_of_bools : Option (Option VectorSize × ScalarType) → Boolean
 is_vector_of_bools (Some found) = is_some found.0 && is_bool found.1.kind
 is_vector_of_bools None = false
 
 -- the refusal of an argument, unless that of a query of truth values is a vector of such, and that of a query of numbers a floating-point number or a vector of such
-abbrev pub bad_argument : RelationalFunction → ℕ → TypeInner → Option ExpressionError
-bad_argument All e inner = unless (is_vector_of_bools (vector_size_and_scalar inner)) (refusal.InvalidBooleanVector e)
-bad_argument Any e inner = unless (is_vector_of_bools (vector_size_and_scalar inner)) (refusal.InvalidBooleanVector e)
-bad_argument IsNan e inner = unless (consists_of (λ scalar. is_float scalar.kind) inner) (refusal.InvalidFloatArgument e)
-bad_argument IsInf e inner = unless (consists_of (λ scalar. is_float scalar.kind) inner) (refusal.InvalidFloatArgument e)
+abbrev pub relational_argument_error : RelationalFunction → ℕ → TypeInner → Option ExpressionError
+relational_argument_error All e inner = require (is_vector_of_bools (vector_size_and_scalar inner)) (refusal.InvalidBooleanVector e)
+relational_argument_error Any e inner = require (is_vector_of_bools (vector_size_and_scalar inner)) (refusal.InvalidBooleanVector e)
+relational_argument_error IsNan e inner = require (consists_of (λ scalar. is_float scalar.kind) inner) (refusal.InvalidFloatArgument e)
+relational_argument_error IsInf e inner = require (consists_of (λ scalar. is_float scalar.kind) inner) (refusal.InvalidFloatArgument e)
 
 -- the rule of a query of a value
 abbrev pub relational_rule : ExpressionSurroundings → RelationalFunction → ℕ → Result ShaderStages ExpressionError
-relational_rule s fun argument = granted (bad_argument fun argument (form_at s argument)) every_stage
+relational_rule s fun argument = ok_unless (relational_argument_error fun argument (form_at s argument)) every_stage
 
 -- the scalar that a conversion converts: that of a scalar, a vector or a matrix
 abbrev pub cast_scalar : TypeInner → Option ScalarType
@@ -102,10 +102,10 @@ cast_scalar (RayQuery vertex_return) = None
 cast_scalar (BindingArray base size) = None
 
 -- a scalar can be converted to this kind, and to this width or else its own
-abbrev pub can_cast : ℕ → ScalarKind → Option ℕ → Option ScalarType → Truth
+abbrev pub can_cast : ℕ → ScalarKind → Option ℕ → Option ScalarType → Boolean
 can_cast capabilities kind width (Some scalar) = is_good_width capabilities (record { kind = kind; width = unwrap_or width scalar.width })
 can_cast capabilities kind width None = false
 
 -- the rule of a conversion
 abbrev pub as_rule : ExpressionSurroundings → ℕ → ScalarKind → Option ℕ → Result ShaderStages ExpressionError
-as_rule s e kind convert = granted (unless (can_cast s.capabilities kind convert (cast_scalar (form_at s e))) refusal.InvalidCastArgument) every_stage
+as_rule s e kind convert = ok_unless (require (can_cast s.capabilities kind convert (cast_scalar (form_at s e))) refusal.InvalidCastArgument) every_stage

@@ -1,5 +1,5 @@
 -- Which types multiply.
-use Rattle.std.specs.Prelude.{◌==◌, ◌&&◌, ◌||◌, ℕ, Bool as Truth, true, false, Option, Some, None}
+use Rattle.std.specs.Prelude.{◌==◌, ◌&&◌, ◌||◌, ℕ, Bool as Boolean, true, false, Option, Some, None}
 use Rattle.naga_ir.specs.Sizes.{components}
 use Rattle.naga_ir.specs.TypeWords.{scalar_of}
 use Rattle.naga_ir.specs.contracts.types.ScalarPartialEq.TheImpl as of_scalar
@@ -8,13 +8,13 @@ use Rattle.naga_ir.specs.declared.types.TypeInner.{TypeInner}
 use Rattle.naga_ir.specs.declared.types.TypeInner.TheVariants.{Scalar, Vector, Matrix, CooperativeMatrix, Atomic, Pointer, ValuePointer, Array, Struct, Image, Sampler, AccelerationStructure, RayQuery, BindingArray}
 use Rattle.naga_info.specs.Words.{is_number}
 use Rattle.naga_types.specs.Composing.{is_vector_of}
-use Rattle.naga_types.specs.Judging.{only_if}
+use Rattle.naga_types.specs.Checks.{when}
 use Rattle.naga_types.specs.TypeRule.{is_float}
 
 -- the columns of a left factor: those of a matrix, and the components of a vector of floating-point numbers, which is one row
 abbrev pub columns_of_left : TypeInner → Option ℕ
 columns_of_left (Matrix columns rows scalar) = Some (components columns)
-columns_of_left (Vector size scalar) = only_if (is_float scalar.kind) (Some (components size))
+columns_of_left (Vector size scalar) = when (is_float scalar.kind) (Some (components size))
 columns_of_left (Scalar scalar) = None
 columns_of_left (CooperativeMatrix columns rows scalar role) = None
 columns_of_left (Atomic scalar) = None
@@ -31,7 +31,7 @@ columns_of_left (BindingArray base size) = None
 -- the rows of a right factor: those of a matrix, and the components of a vector of floating-point numbers, which is one column
 abbrev pub rows_of_right : TypeInner → Option ℕ
 rows_of_right (Matrix columns rows scalar) = Some (components rows)
-rows_of_right (Vector size scalar) = only_if (is_float scalar.kind) (Some (components size))
+rows_of_right (Vector size scalar) = when (is_float scalar.kind) (Some (components size))
 rows_of_right (Scalar scalar) = None
 rows_of_right (CooperativeMatrix columns rows scalar role) = None
 rows_of_right (Atomic scalar) = None
@@ -46,13 +46,13 @@ rows_of_right (RayQuery vertex_return) = None
 rows_of_right (BindingArray base size) = None
 
 -- two numbers exist and are equal
-abbrev pub agree : Option ℕ → Option ℕ → Truth
+abbrev pub agree : Option ℕ → Option ℕ → Boolean
 agree (Some m) (Some n) = m == n
 agree (Some m) None = false
 agree None _ = false
 
 -- a form is that of matrices
-abbrev pub is_matrix : TypeInner → Truth
+abbrev pub is_matrix : TypeInner → Boolean
 is_matrix (Matrix columns rows scalar) = true
 is_matrix (Scalar scalar) = false
 is_matrix (Vector size scalar) = false
@@ -69,11 +69,11 @@ is_matrix (RayQuery vertex_return) = false
 is_matrix (BindingArray base size) = false
 
 -- of two factors one is a matrix, and the left has as many columns as the right has rows
-abbrev pub multiply_by_dimensions : TypeInner → TypeInner → Truth
+abbrev pub multiply_by_dimensions : TypeInner → TypeInner → Boolean
 multiply_by_dimensions x y = (is_matrix x || is_matrix y) && agree (columns_of_left x) (rows_of_right y)
 
 -- two factors are vectors of one size and scalar, which multiply by components
-abbrev pub multiply_by_components : TypeInner → TypeInner → Truth
+abbrev pub multiply_by_components : TypeInner → TypeInner → Boolean
 multiply_by_components (Vector size scalar) y = is_vector_of size scalar (Some y)
 multiply_by_components (Scalar scalar) y = false
 multiply_by_components (Matrix columns rows scalar) y = false
@@ -90,7 +90,7 @@ multiply_by_components (RayQuery vertex_return) y = false
 multiply_by_components (BindingArray base size) y = false
 
 -- a scalar multiplies what consists of it, and a floating-point number any matrix
-abbrev pub multiplies : ScalarType → TypeInner → Truth
+abbrev pub multiplies : ScalarType → TypeInner → Boolean
 multiplies scalar (Scalar s) = of_scalar.ghosts.eq scalar s
 multiplies scalar (Vector size s) = of_scalar.ghosts.eq scalar s
 multiplies scalar (CooperativeMatrix columns rows s role) = of_scalar.ghosts.eq scalar s
@@ -107,7 +107,7 @@ multiplies scalar (RayQuery vertex_return) = false
 multiplies scalar (BindingArray base size) = false
 
 -- the first of two factors is a scalar that multiplies the second
-abbrev pub scales : TypeInner → TypeInner → Truth
+abbrev pub scales : TypeInner → TypeInner → Boolean
 scales (Scalar scalar) y = multiplies scalar y
 scales (Vector size scalar) y = false
 scales (Matrix columns rows scalar) y = false
@@ -124,15 +124,15 @@ scales (RayQuery vertex_return) y = false
 scales (BindingArray base size) y = false
 
 -- two scalars exist, the first is a number, and both have one width
-abbrev pub are_numbers_of_one_width : Option ScalarType → Option ScalarType → Truth
+abbrev pub are_numbers_of_one_width : Option ScalarType → Option ScalarType → Boolean
 are_numbers_of_one_width (Some x) (Some y) = is_number x.kind && x.width == y.width
 are_numbers_of_one_width (Some x) None = false
 are_numbers_of_one_width None _ = false
 
 -- two forms multiply, widths aside: by dimensions, by components, or as one of them is a scalar that multiplies the other
-abbrev pub forms_multiply : TypeInner → TypeInner → Truth
+abbrev pub forms_multiply : TypeInner → TypeInner → Boolean
 forms_multiply x y = multiply_by_dimensions x y || multiply_by_components x y || scales x y || scales y x
 
 -- two types multiply: their scalars have one width, those of the first are numbers, and their forms multiply
-abbrev pub can_multiply : TypeInner → TypeInner → Truth
+abbrev pub can_multiply : TypeInner → TypeInner → Boolean
 can_multiply x y = are_numbers_of_one_width (scalar_of x) (scalar_of y) && forms_multiply x y

@@ -1,7 +1,7 @@
 //! The rule of operators on two values.
 
 ghost use Rattle.std.specs.Prelude.{◌≡◌, ◌<◌, Err, length};
-ghost use Rattle.naga_info.specs.Results.{IsReturned};
+ghost use Rattle.naga_info.specs.Results.{IsRuleResult};
 ghost use Rattle.naga_info.specs.Surroundings.{AreSound, surroundings};
 ghost use Rattle.naga_ir.specs.TypeWords.{vector_size_and_scalar};
 ghost use Rattle.naga_info.specs.Words.{consists_of, is_bool, is_number};
@@ -152,7 +152,7 @@ fn refuse_operands(
     right: Handle<ExpressionTag>,
     right_type: &TypeInner,
 ) -> Result<ShaderStages, ExpressionError>
-    ensures { IsReturned (Err (refusal.InvalidBinaryOperandTypes op left left_type.now right right_type.now)) result }
+    ensures { IsRuleResult (Err (refusal.InvalidBinaryOperandTypes op left left_type.now right right_type.now)) result }
 {
     Err(ExpressionError::InvalidBinaryOperandTypes {
         op,
@@ -169,7 +169,7 @@ fn refuse_constant(
     left_type: &TypeInner,
     right: Handle<ExpressionTag>,
 ) -> Result<ShaderStages, ExpressionError>
-    ensures { IsReturned (Err (rule.refusal_of forbidden left_type.now right)) result }
+    ensures { IsRuleResult (Err (rule.refusal_of forbidden left_type.now right)) result }
 {
     match forbidden {
         Forbidden::AtLeast(_) => Err(ExpressionError::ShiftAmountTooLarge {
@@ -200,7 +200,7 @@ pub fn validate_binary(
     requires left { left < length context.info.now.types }
     requires right { right < length context.info.now.types }
     requires exists { right < length context.function.now.expressions }
-    ensures { rule.IsBinaryReturned (surroundings context.entry) op left right result }
+    ensures { rule.IsBinaryResult (surroundings context.entry) op left right result }
 {
     let left_type = context.type_of(left);
     let right_type = context.type_of(right);

@@ -4,7 +4,7 @@ ghost use Rattle.std.specs.Prelude.{◌≡◌, ◌↔◌, ◌<◌, IfNone, IfSom
 ghost use Rattle.naga_ir.specs.References.{named_type};
 ghost use Rattle.naga_info.specs.Surroundings.{AreSound, surroundings};
 ghost use Rattle.naga_operator_exprs.specs.Integers as spec;
-ghost use Rattle.naga_operator_exprs.specs.Integers.{HasForbidden, expression_at};
+ghost use Rattle.naga_operator_exprs.specs.Integers.{ContainsForbidden, expression_at};
 ghost use Rattle.naga_operator_exprs.specs.steps.Places.{AreComponents, HasNoSourceAt, IsSource, IsSourceOrItself, OwnForbidden, PlaceExists, is_forbidden_found};
 
 use naga_info::context::FunctionContext;
@@ -33,8 +33,8 @@ pub enum Place {
 
 impl Place {
     /// The place of an operand of the expression at this place.
-    fn beside(self, operand: Handle<ExpressionTag>) -> Place
-        ensures { result ≡ spec.beside self operand }
+    fn operand_place(self, operand: Handle<ExpressionTag>) -> Place
+        ensures { result ≡ spec.operand_place self operand }
     {
         match self {
             Place::InFunction(_) => Place::InFunction(operand),
@@ -66,9 +66,9 @@ fn only_source<'a>(context: FunctionContext<'a>, place: &Place) -> Option<Place>
         Expression::Constant(handle) => {
             Some(Place::InModule(context.module.constants[*handle].init))
         }
-        Expression::Splat { value, .. } => Some(place.beside(*value)),
+        Expression::Splat { value, .. } => Some(place.operand_place(*value)),
         Expression::Compose { components, .. } => match components.as_slice() {
-            [component] => Some(place.beside(*component)),
+            [component] => Some(place.operand_place(*component)),
             _ => None,
         },
         Expression::Literal(_)
@@ -242,11 +242,11 @@ pub(crate) fn has_forbidden<'a>(
 ) -> bool
     requires sound { AreSound (surroundings context) }
     requires exists { PlaceExists (surroundings context) place }
-    ensures { IsTrue result ↔ HasForbidden (surroundings context.entry) forbidden place }
+    ensures { IsTrue result ↔ ContainsForbidden (surroundings context.entry) forbidden place }
 {
     let last = source(context, place);
     for component in components_at(context, &last) {
-        if has_forbidden(context, forbidden, last.beside(*component)) {
+        if has_forbidden(context, forbidden, last.operand_place(*component)) {
             return true;
         }
     }

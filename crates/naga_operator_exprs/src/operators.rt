@@ -1,10 +1,10 @@
 //! The rules of operators on one value, of selections, derivatives, queries and conversions.
 
 ghost use Rattle.std.specs.Prelude.{◌≡◌, ◌<◌, length};
-ghost use Rattle.naga_info.specs.Results.{IsReturned};
+ghost use Rattle.naga_info.specs.Results.{IsRuleResult};
 ghost use Rattle.naga_info.specs.Surroundings.{AreSound, surroundings};
 ghost use Rattle.naga_operator_exprs.specs.Operators as rule;
-ghost use Rattle.naga_types.specs.Judging.{granted};
+ghost use Rattle.naga_types.specs.Checks.{ok_unless};
 
 use naga_flags::flags::ShaderStages;
 use naga_flags::width::check_width;
@@ -91,7 +91,7 @@ pub fn validate_select(
     requires condition { condition < length context.info.now.types }
     requires accept { accept < length context.info.now.types }
     requires reject { reject < length context.info.now.types }
-    ensures { IsReturned (rule.select_rule (surroundings context.entry) condition accept reject) result }
+    ensures { IsRuleResult (rule.select_rule (surroundings context.entry) condition accept reject) result }
 {
     let condition_type = context.type_of(condition);
     let accept_type = context.type_of(accept);
@@ -140,7 +140,7 @@ fn check_argument(
     argument: Handle<ExpressionTag>,
     inner: &TypeInner,
 ) -> Result<(), ExpressionError>
-    ensures { result ≡ granted (rule.bad_argument fun argument inner.now) tt }
+    ensures { result ≡ ok_unless (rule.relational_argument_error fun argument inner.now) tt }
 {
     let shape = inner.vector_size_and_scalar();
     match fun {

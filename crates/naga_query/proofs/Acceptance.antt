@@ -10,7 +10,7 @@ use Rattle.naga_query.specs.Accepted.{AreHandlesRight, IsAcceptedModule}
 use Rattle.naga_types.specs.declared.info.TypeInfo.{TypeInfo}
 use Rattle.naga_typing.specs.Typings.{Resolves}
 use Rattle.naga_valid.specs.Accepted.{Accepts}
-use Rattle.naga_valid.specs.Functions.{CanJudgeInOrder}
+use Rattle.naga_valid.specs.Functions.{AreFunctionsReadyInOrder}
 use Rattle.naga_valid.specs.State.{Settings}
 
 -- a result that is as a rule says has what follows from the rule
@@ -25,7 +25,7 @@ right_handles m handles = record { handles = handles; references = global_refere
 
 -- a module that is accepted, whose functions can be validated in order
 pub accepted_module : (resolves : Resolves) (m : Module) (settings : Settings) (infos : List TypeInfo) (lists : ModuleInfoLists)
-    → Accepts resolves m settings infos lists → length m.types ≤ length lists.type_flags → CanJudgeInOrder m → IsAcceptedModule m infos lists
+    → Accepts resolves m settings infos lists → length m.types ≤ length lists.type_flags → AreFunctionsReadyInOrder m → IsAcceptedModule m infos lists
 accepted_module resolves m settings infos lists h flags in_order =
     let types = h.accepted.known.types.accepted in
     let handles = types.laid_out.handles in

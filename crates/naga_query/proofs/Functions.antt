@@ -10,7 +10,7 @@ use Rattle.naga_ir.specs.declared.ir.Function.{Function}
 use Rattle.naga_ir.specs.declared.ir.Module.{Module}
 use Rattle.naga_query.specs.Accepted.{IsFunctionAt}
 use Rattle.naga_types.proofs.LayoutParts.{contains-place}
-use Rattle.naga_valid.specs.Functions.{CanJudgeFunction, CanJudgeInOrder}
+use Rattle.naga_valid.specs.Functions.{IsFunctionReady, AreFunctionsReadyInOrder}
 
 module _ (m : Module) (f : Function) (n : ℕ) where
   -- its references are right if the handles of the module are
@@ -26,7 +26,7 @@ module _ (m : Module) (f : Function) (n : ℕ) where
   preceding_within (inr (i, e, at, is, all)) = omega (arith, all)
 
   -- it can be validated once those that precede it are known
-  pub can_judge_at : CanJudgeInOrder m → IsFunctionAt m f n → CanJudgeFunction m f n
-  can_judge_at in_order (inl at) = in_order.functions n f at
-  can_judge_at in_order (inr (i, e, at, is, all)) =
-      subst (λ (g : Function). CanJudgeFunction m g n) (sym is) (subst (CanJudgeFunction m e.function) (sym all) (in_order.entry_points i e at))
+  pub ready_at : AreFunctionsReadyInOrder m → IsFunctionAt m f n → IsFunctionReady m f n
+  ready_at in_order (inl at) = in_order.functions n f at
+  ready_at in_order (inr (i, e, at, is, all)) =
+      subst (λ (g : Function). IsFunctionReady m g n) (sym is) (subst (IsFunctionReady m e.function) (sym all) (in_order.entry_points i e at))

@@ -1,5 +1,5 @@
 -- When an expression of a function can be validated.
-use Rattle.std.proofs.Common.{◌≡◌, ◌<◌, ◌≤◌, ◌∷◌, ℕ, Bool as Truth, List, inl, inr, [], Contains, Some, All, length, slice_get, arith, refl, subst, sym}
+use Rattle.std.proofs.Common.{◌≡◌, ◌<◌, ◌≤◌, ◌∷◌, ℕ, Bool as Boolean, List, inl, inr, [], Contains, Some, All, length, slice_get, arith, refl, subst, sym}
 use Rattle.std.specs.List.{flat_map}
 use Rattle.std.proofs.lemmas.List.Elements.{All-contains, All-nil}
 use Rattle.std.proofs.lemmas.Option.{slice_get_within}
@@ -14,17 +14,17 @@ use Rattle.naga_ir.specs.declared.expression.Expression.TheVariants as form
 use Rattle.naga_ir.specs.declared.ir.Function.{Function}
 use Rattle.naga_ir.specs.declared.ir.Module.{Module}
 use Rattle.naga_ir.specs.declared.reference.Reference.{Reference}
-use Rattle.naga_info.specs.Surroundings.{AreSound, CanJudge, ExpressionSurroundings}
+use Rattle.naga_info.specs.Surroundings.{AreSound, IsReady, ExpressionSurroundings}
 use Rattle.naga_query.specs.Accepted.{CanValidateIn, IsKnownBefore, IsThereOrArgument}
 use Rattle.naga_typing.proofs.ExpressionTypes.{Typed, next_place}
 use Rattle.naga_typing.proofs.Iteration.{accepts_all, next_item}
 use Rattle.naga_typing.specs.declared.expression_kind.ExpressionKind.{ExpressionKind}
 use Rattle.naga_typing.specs.declared.typifier.TypeResolution.{TypeResolution}
-use Rattle.naga_valid.specs.Functions.{CanJudgeFunction}
+use Rattle.naga_valid.specs.Functions.{IsFunctionReady}
 use Rattle.naga_valid.specs.State.{State}
 
 -- what an expression is validated with, under a validator's settings
-abbrev pub surroundings_under : {T : Type 0} → State T → Truth → Module → Function → ModuleInfoLists → List TypeResolution → List ExpressionKind → ExpressionSurroundings
+abbrev pub surroundings_under : {T : Type 0} → State T → Boolean → Module → Function → ModuleInfoLists → List TypeResolution → List ExpressionKind → ExpressionSurroundings
 surroundings_under state resolved m f lists types kinds = record {
   capabilities = state.capabilities.0;
   resolved = resolved;
@@ -47,8 +47,8 @@ module _ (s : ExpressionSurroundings) (place : ℕ) (known : CanValidateIn s.«m
   sound = record { handles = known.handles; in_function = in_function; types_exist = before.types_exist; flags = known.flags }
 
   -- the expression that stands there can be
-  can_judge : (x : Expression) → slice_get s.function.expressions place ≡ Some x → CanJudge s place x
-  can_judge x at =
+  ready : (x : Expression) → slice_get s.function.expressions place ≡ Some x → IsReady s place x
+  ready x at =
       let earlier : (o : ℕ) → Contains (operands x) o → o < place = λ o names. in_function.back _ _ (own_operand place o x at names) in
       record {
         sound = sound;
@@ -69,8 +69,8 @@ module _ (s : ExpressionSurroundings) (place : ℕ) (known : CanValidateIn s.«m
   no_operands i = refl
 
   -- so can an argument
-  can_judge_argument : (i : ℕ) → CanJudge s place (form.FunctionArgument i)
-  can_judge_argument i = record {
+  ready_argument : (i : ℕ) → IsReady s place (form.FunctionArgument i)
+  ready_argument i = record {
     sound = sound;
     references = subst (All Here) (sym (no_references i)) (All-nil Here);
     before = subst (All (λ (o : ℕ). o < place)) (sym (no_operands i)) (All-nil (λ (o : ℕ). o < place));
@@ -80,12 +80,12 @@ module _ (s : ExpressionSurroundings) (place : ℕ) (known : CanValidateIn s.«m
     called = λ f same. cc same;
   }
 
-  pub can_judge_either : (x : Expression) → IsThereOrArgument s.function place x → CanJudge s place x
-  can_judge_either x (inl at) = can_judge x at
-  can_judge_either x (inr (i, is)) = subst (CanJudge s place) (sym is) (can_judge_argument i)
+  pub ready_either : (x : Expression) → IsThereOrArgument s.function place x → IsReady s place x
+  ready_either x (inl at) = ready x at
+  ready_either x (inr (i, is)) = subst (IsReady s place) (sym is) (ready_argument i)
 
 -- a function whose callees are known can be validated once more functions are known
-pub known_later : (m : Module) (f : Function) (n more : ℕ) → n ≤ more → CanJudgeFunction m f n → CanJudgeFunction m f more
+pub known_later : (m : Module) (f : Function) (n more : ℕ) → n ≤ more → IsFunctionReady m f n → IsFunctionReady m f more
 known_later m f n more below can = record {
   references = can.references;
   calls = λ e called at. let b = can.calls e called at in omega (arith, b, below);

@@ -1,5 +1,5 @@
 -- What is known of modules that are accepted, and when expressions of their functions can be validated.
-use Rattle.std.specs.Prelude.{◌≡◌, ◌⊎◌, ◌<◌, ◌≤◌, ℕ, Bool as Truth, List, [], All, IsOk, Some, length, slice_get}
+use Rattle.std.specs.Prelude.{◌≡◌, ◌⊎◌, ◌<◌, ◌≤◌, ℕ, Bool as Boolean, List, [], All, IsOk, Some, length, slice_get}
 use Rattle.naga_immediates.specs.Slots.{IsTyped}
 use Rattle.naga_info.specs.ModuleInfo.{ModuleInfoLists, ModuleInfoWithRoom}
 use Rattle.naga_ir.specs.Handles.{GlobalReferencesOk, HandlesAccepted}
@@ -16,7 +16,7 @@ use Rattle.naga_typing.specs.declared.expression_kind.ExpressionKind.{Expression
 use Rattle.naga_typing.specs.declared.typifier.TypeResolution.{TypeResolution}
 use Rattle.naga_typing.specs.Typings.{Resolves}
 use Rattle.naga_valid.specs.Accepted.{Accepts}
-use Rattle.naga_valid.specs.Functions.{CanJudgeFunction, CanJudgeInOrder}
+use Rattle.naga_valid.specs.Functions.{IsFunctionReady, AreFunctionsReadyInOrder}
 use Rattle.naga_valid.specs.State.{State, settings_of}
 
 -- the handles of the module `m` are right
@@ -36,19 +36,19 @@ pub record IsAcceptedModule (m : Module) (infos : List TypeInfo) (lists : Module
   pub laid_out : All IsOk (layout_results (global_lists m))
   pub as_many : length infos ≡ length m.types
   pub flags : length m.types ≤ length lists.type_flags
-  pub in_order : CanJudgeInOrder m
+  pub in_order : AreFunctionsReadyInOrder m
   pub functions : lists.functions ≡ []
   pub entry_points : lists.entry_points ≡ []
 
 -- a validator in the state `state`, whose typing resolves so, accepts the module `m` and returns what is known of it; `resolved` says whether overrides have to have their values
-abbrev pub IsAcceptedBy : {T : Type 0} → Resolves → State T → Truth → Module → ModuleInfoWithRoom → Type 0
+abbrev pub IsAcceptedBy : {T : Type 0} → Resolves → State T → Boolean → Module → ModuleInfoWithRoom → Type 0
 IsAcceptedBy resolves state resolved m info = Accepts resolves m (settings_of state resolved) state.infos info.lists
 
 -- the functions of the module `m` can be validated, and these lists have an info of each
 pub record AreFunctionsKnown (m : Module) (lists : ModuleInfoLists) : Type 0 where
   pub handles : HandlesAccepted m
   pub flags : length m.types ≤ length lists.type_flags
-  pub in_order : CanJudgeInOrder m
+  pub in_order : AreFunctionsReadyInOrder m
   pub functions : length lists.functions ≡ length m.functions
 
 -- the function `f` has every argument that its expressions name
@@ -58,7 +58,7 @@ ArgumentsAreThere f = (e i : ℕ) → slice_get f.expressions e ≡ Some (form.F
 -- the expressions of the function `f` of the module `m` can be validated, of which these lists are known
 pub record CanValidateIn (m : Module) (f : Function) (lists : ModuleInfoLists) : Type 0 where
   pub handles : HandlesAccepted m
-  pub function : CanJudgeFunction m f (length lists.functions)
+  pub function : IsFunctionReady m f (length lists.functions)
   pub arguments : ArgumentsAreThere f
   pub flags : length m.types ≤ length lists.type_flags
 

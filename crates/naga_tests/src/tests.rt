@@ -125,7 +125,7 @@ pub(crate) fn aligned(rt: &impl Abort, bytes: u32) -> Alignment {
 
 /// The info of the last type of a module, if all its types are validated one after another, or why the
 /// first that is refused is. Overrides need no values.
-pub(crate) fn judged(
+pub(crate) fn result_of_last(
     rt: &impl Abort,
     alloc: Global,
     capabilities: Capabilities,

@@ -7,7 +7,7 @@ use Rattle.naga_arena.specs.Numbers.{largest_u32, largest_u64}
 use Rattle.naga_ir.specs.declared.expression.Expression.TheVariants as expr
 use Rattle.naga_ir.specs.declared.expression.Literal.{Literal}
 use Rattle.naga_ir.specs.declared.expression.Literal.TheVariants.{F64, F32, F16, U16, I16, U32, I32, U64, I64, Bool, AbstractInt, AbstractFloat}
-use Rattle.naga_text.specs.Forms.{Fill, literal_form}
+use Rattle.naga_text.specs.Forms.{Matches, literal_form}
 use Rattle.naga_text.specs.Tables.{chosen}
 use Rattle.naga_text.specs.Words.{integer_up_to, largest_i16, largest_i32, largest_i64, largest_u16, number_up_to}
 use Rattle.naga_text.specs.steps.LineForms.{literal_expression_of, literal_of, literal_readers}
@@ -17,7 +17,7 @@ use Rattle.naga_text.proofs.WordLaws.{within}
 
 -- what a reader reads of a value's word has the form of a literal of this type
 abbrev HasForm : List ℕ → (List ℕ → Option Literal) → Type 0
-HasForm ty reader = (w : List ℕ) (l : Literal) → reader w ≡ Some l → Fill (literal_form l) (ty ∷ w ∷ [])
+HasForm ty reader = (w : List ℕ) (l : Literal) → reader w ≡ Some l → Matches (literal_form l) (ty ∷ w ∷ [])
 
 -- what holds of each literal that is made of a value that was read holds of the one that was made
 made : {V : Type 0} (make : V → Literal) (read : Option V) (P : Literal → Type 0) (l : Literal) → option_map make read ≡ Some l → ((v : V) → read ≡ Some v → P (make v)) → P l
@@ -25,8 +25,8 @@ made make None P l h each = absurd (none-some l h)
 made make (Some v) P l h each = subst P (same_Some (make v) l h) (each v refl)
 
 -- a reader that makes literals of values has their form
-of_value : {V : Type 0} (ty : List ℕ) (make : V → Literal) (reader : List ℕ → Option V) → ((w : List ℕ) (v : V) → reader w ≡ Some v → Fill (literal_form (make v)) (ty ∷ w ∷ [])) → HasForm ty (λ w. option_map make (reader w))
-of_value ty make reader filled w l h = made make (reader w) (λ l. Fill (literal_form l) (ty ∷ w ∷ [])) l h (filled w)
+of_value : {V : Type 0} (ty : List ℕ) (make : V → Literal) (reader : List ℕ → Option V) → ((w : List ℕ) (v : V) → reader w ≡ Some v → Matches (literal_form (make v)) (ty ∷ w ∷ [])) → HasForm ty (λ w. option_map make (reader w))
+of_value ty make reader filled w l h = made make (reader w) (λ l. Matches (literal_form l) (ty ∷ w ∷ [])) l h (filled w)
 
 -- a number up to 1 is that of its truth value
 bit_of : (n : ℕ) → n ≤ 1 → n ≡ cond (n == 1) 1 0
@@ -71,7 +71,7 @@ afloat_found : HasForm (codes "afloat") (λ w. option_map AbstractFloat (number_
 afloat_found = of_value (codes "afloat") AbstractFloat (number_up_to largest_u64) (λ w v e. (refl, (e, tt)))
 
 -- what is read of two words is a literal of this form
-pub literal_found : (t v : List ℕ) (l : Literal) → literal_of t v ≡ Some l → Fill (literal_form l) (t ∷ v ∷ [])
+pub literal_found : (t v : List ℕ) (l : Literal) → literal_of t v ≡ Some l → Matches (literal_form l) (t ∷ v ∷ [])
 literal_found t v l h =
     option_and_then_some _ (chosen literal_readers t) l h λ reader e h.
     let each_row : AllByRecursion (λ row. HasForm row.0 row.1) literal_readers =
@@ -94,5 +94,5 @@ filled (Bool true) = λ t e v f. rw (e, f) refl
 filled (AbstractInt value) = λ t e v f. rw (e, f) refl
 filled (AbstractFloat bits) = λ t e v f. rw (e, f) refl
 
-pub literal_again : (ws : List (List ℕ)) (l : Literal) → Fill (literal_form l) ws → literal_expression_of ws ≡ Some (expr.Literal l)
+pub literal_again : (ws : List (List ℕ)) (l : Literal) → Matches (literal_form l) ws → literal_expression_of ws ≡ Some (expr.Literal l)
 literal_again ws l h = by_parts (literal_form l) ws (λ ws. literal_expression_of ws ≡ Some (expr.Literal l)) h (filled l)

@@ -5,23 +5,23 @@ use Rattle.naga_ir.specs.declared.types.Binding.{Binding}
 use Rattle.naga_ir.specs.declared.types.Binding.TheVariants.{BuiltIn, Location}
 use Rattle.naga_ir.specs.declared.types.StructMember.{StructMember}
 use Rattle.naga_text.specs.Words.{handle_of, number_of, pieces_of}
-use Rattle.naga_text.specs.Forms.{Fill, binding_parts, handle, member_part, of_32_bits}
+use Rattle.naga_text.specs.Forms.{Matches, binding_parts, handle, member_part, u32_word}
 use Rattle.naga_text.specs.WordForms.{binding_of, member_in, member_of}
 use Rattle.naga_text.proofs.PartLaws.{by_parts}
 
 -- a binding is read of pieces that write it, and of each such list of pieces
-binding_found : (ps : List (List ℕ)) (binding : Option Binding) → binding_of ps ≡ Some binding → Fill (binding_parts binding) ps
-binding_found [] binding h = subst (λ (binding : Option Binding). Fill (binding_parts binding) []) (same_Some None binding h) tt
+binding_found : (ps : List (List ℕ)) (binding : Option Binding) → binding_of ps ≡ Some binding → Matches (binding_parts binding) ps
+binding_found [] binding h = subst (λ (binding : Option Binding). Matches (binding_parts binding) []) (same_Some None binding h) tt
 binding_found (l ∷ []) binding h =
     option_and_then_some _ (number_of l) binding h λ location e h.
-    subst (λ (binding : Option Binding). Fill (binding_parts binding) (l ∷ [])) (same_Some (Some (Location location None)) binding h) (e, tt)
+    subst (λ (binding : Option Binding). Matches (binding_parts binding) (l ∷ [])) (same_Some (Some (Location location None)) binding h) (e, tt)
 binding_found (l ∷ b ∷ []) binding h =
     option_and_then_some _ (number_of l) binding h λ location e h.
     option_and_then_some _ (number_of b) binding h λ blend_src f h.
-    subst (λ (binding : Option Binding). Fill (binding_parts binding) (l ∷ b ∷ [])) (same_Some (Some (Location location (Some blend_src))) binding h) (e, (f, tt))
+    subst (λ (binding : Option Binding). Matches (binding_parts binding) (l ∷ b ∷ [])) (same_Some (Some (Location location (Some blend_src))) binding h) (e, (f, tt))
 binding_found _ binding h = cc
 
-binding_again : (ps : List (List ℕ)) (binding : Option Binding) → Fill (binding_parts binding) ps → binding_of ps ≡ Some binding
+binding_again : (ps : List (List ℕ)) (binding : Option Binding) → Matches (binding_parts binding) ps → binding_of ps ≡ Some binding
 binding_again ps None h = by_parts (binding_parts None) ps (λ ps. binding_of ps ≡ Some None) h refl
 binding_again ps (Some (Location location None)) h =
     by_parts (binding_parts (Some (Location location None))) ps (λ ps. binding_of ps ≡ Some (Some (Location location None))) h (λ l e. rw e refl)
@@ -30,16 +30,16 @@ binding_again ps (Some (Location location (Some blend_src))) h =
 binding_again ps (Some (BuiltIn value)) h = by_parts (binding_parts (Some (BuiltIn value))) ps (λ ps. binding_of ps ≡ Some (Some (BuiltIn value))) h (λ w f. absurd f)
 
 -- so is a member
-pieces_found : (ps : List (List ℕ)) (m : StructMember) → member_in ps ≡ Some m → (m.name ≡ None) × Fill (handle m.ty ∷ of_32_bits m.offset ∷ binding_parts m.binding) ps
+pieces_found : (ps : List (List ℕ)) (m : StructMember) → member_in ps ≡ Some m → (m.name ≡ None) × Matches (handle m.ty ∷ u32_word m.offset ∷ binding_parts m.binding) ps
 pieces_found (t ∷ o ∷ rest) m h =
     option_and_then_some _ (handle_of t) m h λ ty e h.
     option_and_then_some _ (binding_of rest) m h λ binding f h.
     option_and_then_some _ (number_of o) m h λ offset g h.
-    subst (λ (m : StructMember). (m.name ≡ None) × Fill (handle m.ty ∷ of_32_bits m.offset ∷ binding_parts m.binding) (t ∷ o ∷ rest))
+    subst (λ (m : StructMember). (m.name ≡ None) × Matches (handle m.ty ∷ u32_word m.offset ∷ binding_parts m.binding) (t ∷ o ∷ rest))
     (same_Some (record { name = None; ty = ty; binding = binding; offset = offset }) m h) (refl, (e, (g, binding_found rest binding f)))
 pieces_found _ m h = cc
 
-pieces_again : (ps : List (List ℕ)) (name : Option (List ℕ)) (ty : ℕ) (binding : Option Binding) (offset : ℕ) → name ≡ None → Fill (handle ty ∷ of_32_bits offset ∷ binding_parts binding) ps
+pieces_again : (ps : List (List ℕ)) (name : Option (List ℕ)) (ty : ℕ) (binding : Option Binding) (offset : ℕ) → name ≡ None → Matches (handle ty ∷ u32_word offset ∷ binding_parts binding) ps
     → member_in ps ≡ Some (record { name = name; ty = ty; binding = binding; offset = offset })
 pieces_again (t ∷ o ∷ rest) name ty binding offset e h = rw (h.0, binding_again rest binding h.1.1, h.1.0, e) refl
 pieces_again (t ∷ []) name ty binding offset e h = absurd h.1

@@ -1,6 +1,6 @@
 -- Words that fill parts one by one.
 use Rattle.std.proofs.Common.{List, ℕ, [], ◌∷◌}
-use Rattle.naga_text.specs.Forms.{Part, Fill}
+use Rattle.naga_text.specs.Forms.{Part, Matches}
 
 -- a fact holds of every list of words that fills the parts
 abbrev pub HoldsFilled : List Part → (List (List ℕ) → Type 0) → Type 0
@@ -8,7 +8,7 @@ HoldsFilled [] P = P []
 HoldsFilled (part ∷ parts) P = (w : List ℕ) → part w → HoldsFilled parts (λ ws. P (w ∷ ws))
 
 -- what holds of every list of words that fills the parts holds of words that do
-pub by_parts : (parts : List Part) (ws : List (List ℕ)) (P : List (List ℕ) → Type 0) → Fill parts ws → HoldsFilled parts P → P ws
+pub by_parts : (parts : List Part) (ws : List (List ℕ)) (P : List (List ℕ) → Type 0) → Matches parts ws → HoldsFilled parts P → P ws
 by_parts [] [] P f h = h
 by_parts [] (w ∷ ws) P f h = absurd f
 by_parts (part ∷ parts) [] P f h = absurd f

@@ -1,21 +1,21 @@
 -- The values that tests and tables choose.
-use Rattle.std.proofs.Common.{◌≡◌, ℕ, Bool as Truth, true, false, cond, List, [], ◌∷◌, Option, Some, refl, subst, sym, bytes_eq}
+use Rattle.std.proofs.Common.{◌≡◌, ℕ, Bool as Boolean, true, false, cond, List, [], ◌∷◌, Option, Some, refl, subst, sym, bytes_eq}
 use Rattle.std.proofs.lemmas.Option.{none-some, same_Some}
 use Rattle.std.proofs.lemmas.Slice.Eq.{bytes_eq-Decides}
 use Rattle.std.specs.List.{AllByRecursion}
 use Rattle.naga_text.specs.Tables.{chosen}
 
 -- a value that a test chose
-pub by_test : {B P : Type 0} (b : Truth) (x y : Option B) (s : B) → cond b x y ≡ Some s → (b ≡ true → x ≡ Some s → P) → (y ≡ Some s → P) → P
+pub by_test : {B P : Type 0} (b : Boolean) (x y : Option B) (s : B) → cond b x y ≡ Some s → (b ≡ true → x ≡ Some s → P) → (y ≡ Some s → P) → P
 by_test true x y s h here there = here refl h
 by_test false x y s h here there = there h
 
 -- a value that the test of a number chose
-pub by_number : {A : Type 0} (P : A → Type 0) (b : Truth) (a : A) (rest : Option A) (s : A) → cond b (Some a) rest ≡ Some s → (b ≡ true → P a) → (rest ≡ Some s → P s) → P s
+pub by_number : {A : Type 0} (P : A → Type 0) (b : Boolean) (a : A) (rest : Option A) (s : A) → cond b (Some a) rest ≡ Some s → (b ≡ true → P a) → (rest ≡ Some s → P s) → P s
 by_number P b a rest s h here there = by_test b (Some a) rest s h (λ e p. subst P (same_Some a s p) (here e)) there
 
 -- a test that failed chose the rest
-pub passed_by : {A : Type 0} (b : Truth) (x y : A) → b ≡ false → cond b x y ≡ y
+pub passed_by : {A : Type 0} (b : Boolean) (x y : A) → b ≡ false → cond b x y ≡ y
 passed_by true x y h = cc
 passed_by false x y h = refl
 

@@ -7,7 +7,7 @@ use Rattle.naga_ir.specs.declared.types.Scalar.{Scalar as ScalarType}
 use Rattle.naga_ir.specs.declared.types.TypeInner.{TypeInner}
 use Rattle.naga_ir.specs.declared.types.TypeInner.TheVariants.{Scalar, Vector, Matrix, CooperativeMatrix, Atomic, Pointer, ValuePointer, Array, Struct, Image, Sampler, AccelerationStructure, RayQuery, BindingArray}
 use Rattle.naga_text.specs.Words.{handle_of, number_of, number_up_to}
-use Rattle.naga_text.specs.Forms.{Fill, member_part, type_form}
+use Rattle.naga_text.specs.Forms.{Matches, member_part, type_form}
 use Rattle.naga_text.specs.Tables.{chosen, classes, dimensions, kinds, roles, spaces, truths}
 use Rattle.naga_text.specs.steps.LineForms.{Reader, acceleration_structure_of, array_of, atomic_of, binding_array_of, cooperative_matrix_of, image_of, matrix_of, pointer_of, ray_query_of, sampler_of, scalar_of, scalar_type_of, struct_of, type_of, type_readers, value_pointer_of, vector_of}
 use Rattle.naga_text.specs.WordForms.{array_size_of, cooperative_size_of, member_of, pointed_size_of, read_each, size_of}
@@ -29,13 +29,13 @@ scalar_again k w s e f = rw (e, f) refl
 
 -- what a reader reads of the words after a keyword has its type's form
 abbrev HasForm : List ℕ → Reader TypeInner → Type 0
-HasForm keyword reader = (ws : List (List ℕ)) (t : TypeInner) → reader ws ≡ Some t → Fill (type_form t) (keyword ∷ ws)
+HasForm keyword reader = (ws : List (List ℕ)) (t : TypeInner) → reader ws ≡ Some t → Matches (type_form t) (keyword ∷ ws)
 
 scalar_type_found : HasForm (codes "scalar") scalar_type_of
 scalar_type_found (k ∷ w ∷ []) t h =
     option_and_then_some _ (scalar_of k w) t h λ scalar e h.
     let s = scalar_found k w scalar e in
-    subst (λ t. Fill (type_form t) (codes "scalar" ∷ k ∷ w ∷ [])) (same_Some (Scalar scalar) t h) (refl, (s.0, (s.1, tt)))
+    subst (λ t. Matches (type_form t) (codes "scalar" ∷ k ∷ w ∷ [])) (same_Some (Scalar scalar) t h) (refl, (s.0, (s.1, tt)))
 scalar_type_found _ t h = cc
 
 vector_found : HasForm (codes "vector") vector_of
@@ -43,7 +43,7 @@ vector_found (n ∷ k ∷ w ∷ []) t h =
     option_and_then_some _ (size_of n) t h λ size e h.
     option_and_then_some _ (scalar_of k w) t h λ scalar f h.
     let s = scalar_found k w scalar f in
-    subst (λ t. Fill (type_form t) (codes "vector" ∷ n ∷ k ∷ w ∷ [])) (same_Some (Vector size scalar) t h) (refl, (size_found n size e, (s.0, (s.1, tt))))
+    subst (λ t. Matches (type_form t) (codes "vector" ∷ n ∷ k ∷ w ∷ [])) (same_Some (Vector size scalar) t h) (refl, (size_found n size e, (s.0, (s.1, tt))))
 vector_found _ t h = cc
 
 matrix_found : HasForm (codes "matrix") matrix_of
@@ -52,7 +52,7 @@ matrix_found (m ∷ n ∷ k ∷ w ∷ []) t h =
     option_and_then_some _ (size_of n) t h λ rows f h.
     option_and_then_some _ (scalar_of k w) t h λ scalar g h.
     let s = scalar_found k w scalar g in
-    subst (λ t. Fill (type_form t) (codes "matrix" ∷ m ∷ n ∷ k ∷ w ∷ [])) (same_Some (Matrix columns rows scalar) t h) (refl, (size_found m columns e, (size_found n rows f, (s.0, (s.1, tt)))))
+    subst (λ t. Matches (type_form t) (codes "matrix" ∷ m ∷ n ∷ k ∷ w ∷ [])) (same_Some (Matrix columns rows scalar) t h) (refl, (size_found m columns e, (size_found n rows f, (s.0, (s.1, tt)))))
 matrix_found _ t h = cc
 
 cooperative_matrix_found : HasForm (codes "coop") cooperative_matrix_of
@@ -62,21 +62,21 @@ cooperative_matrix_found (m ∷ n ∷ k ∷ w ∷ r ∷ []) t h =
     option_and_then_some _ (scalar_of k w) t h λ scalar g h.
     option_and_then_some _ (chosen roles r) t h λ role i h.
     let s = scalar_found k w scalar g in
-    subst (λ t. Fill (type_form t) (codes "coop" ∷ m ∷ n ∷ k ∷ w ∷ r ∷ [])) (same_Some (CooperativeMatrix columns rows scalar role) t h) (refl, (cooperative_size_found m columns e, (cooperative_size_found n rows f, (s.0, (s.1, (i, tt))))))
+    subst (λ t. Matches (type_form t) (codes "coop" ∷ m ∷ n ∷ k ∷ w ∷ r ∷ [])) (same_Some (CooperativeMatrix columns rows scalar role) t h) (refl, (cooperative_size_found m columns e, (cooperative_size_found n rows f, (s.0, (s.1, (i, tt))))))
 cooperative_matrix_found _ t h = cc
 
 atomic_found : HasForm (codes "atomic") atomic_of
 atomic_found (k ∷ w ∷ []) t h =
     option_and_then_some _ (scalar_of k w) t h λ scalar e h.
     let s = scalar_found k w scalar e in
-    subst (λ t. Fill (type_form t) (codes "atomic" ∷ k ∷ w ∷ [])) (same_Some (Atomic scalar) t h) (refl, (s.0, (s.1, tt)))
+    subst (λ t. Matches (type_form t) (codes "atomic" ∷ k ∷ w ∷ [])) (same_Some (Atomic scalar) t h) (refl, (s.0, (s.1, tt)))
 atomic_found _ t h = cc
 
 pointer_found : HasForm (codes "pointer") pointer_of
 pointer_found (b ∷ s ∷ []) t h =
     option_and_then_some _ (handle_of b) t h λ base e h.
     option_and_then_some _ (chosen spaces s) t h λ space f h.
-    subst (λ t. Fill (type_form t) (codes "pointer" ∷ b ∷ s ∷ [])) (same_Some (Pointer base space) t h) (refl, (e, (f, tt)))
+    subst (λ t. Matches (type_form t) (codes "pointer" ∷ b ∷ s ∷ [])) (same_Some (Pointer base space) t h) (refl, (e, (f, tt)))
 pointer_found _ t h = cc
 
 value_pointer_found : HasForm (codes "valuepointer") value_pointer_of
@@ -85,7 +85,7 @@ value_pointer_found (n ∷ k ∷ w ∷ p ∷ []) t h =
     option_and_then_some _ (scalar_of k w) t h λ scalar f h.
     option_and_then_some _ (chosen spaces p) t h λ space g h.
     let s = scalar_found k w scalar f in
-    subst (λ t. Fill (type_form t) (codes "valuepointer" ∷ n ∷ k ∷ w ∷ p ∷ [])) (same_Some (ValuePointer size scalar space) t h) (refl, (pointed_size_found n size e, (s.0, (s.1, (g, tt)))))
+    subst (λ t. Matches (type_form t) (codes "valuepointer" ∷ n ∷ k ∷ w ∷ p ∷ [])) (same_Some (ValuePointer size scalar space) t h) (refl, (pointed_size_found n size e, (s.0, (s.1, (g, tt)))))
 value_pointer_found _ t h = cc
 
 array_found : HasForm (codes "array") array_of
@@ -93,14 +93,14 @@ array_found (b ∷ z ∷ s ∷ []) t h =
     option_and_then_some _ (handle_of b) t h λ base e h.
     option_and_then_some _ (array_size_of z) t h λ size f h.
     option_and_then_some _ (number_of s) t h λ stride g h.
-    subst (λ t. Fill (type_form t) (codes "array" ∷ b ∷ z ∷ s ∷ [])) (same_Some (Array base size stride) t h) (refl, (e, (array_size_found z size f, (g, tt))))
+    subst (λ t. Matches (type_form t) (codes "array" ∷ b ∷ z ∷ s ∷ [])) (same_Some (Array base size stride) t h) (refl, (e, (array_size_found z size f, (g, tt))))
 array_found _ t h = cc
 
 binding_array_found : HasForm (codes "bindingarray") binding_array_of
 binding_array_found (b ∷ z ∷ []) t h =
     option_and_then_some _ (handle_of b) t h λ base e h.
     option_and_then_some _ (array_size_of z) t h λ size f h.
-    subst (λ t. Fill (type_form t) (codes "bindingarray" ∷ b ∷ z ∷ [])) (same_Some (BindingArray base size) t h) (refl, (e, (array_size_found z size f, tt)))
+    subst (λ t. Matches (type_form t) (codes "bindingarray" ∷ b ∷ z ∷ [])) (same_Some (BindingArray base size) t h) (refl, (e, (array_size_found z size f, tt)))
 binding_array_found _ t h = cc
 
 image_found : HasForm (codes "image") image_of
@@ -108,25 +108,25 @@ image_found (d ∷ r ∷ x ∷ []) t h =
     option_and_then_some _ (chosen dimensions d) t h λ dim e h.
     option_and_then_some _ (chosen truths r) t h λ arrayed f h.
     option_and_then_some _ (chosen classes x) t h λ class g h.
-    subst (λ t. Fill (type_form t) (codes "image" ∷ d ∷ r ∷ x ∷ [])) (same_Some (Image dim arrayed class) t h) (refl, (e, (f, (g, tt))))
+    subst (λ t. Matches (type_form t) (codes "image" ∷ d ∷ r ∷ x ∷ [])) (same_Some (Image dim arrayed class) t h) (refl, (e, (f, (g, tt))))
 image_found _ t h = cc
 
 sampler_found : HasForm (codes "sampler") sampler_of
 sampler_found (b ∷ []) t h =
     option_and_then_some _ (chosen truths b) t h λ comparison e h.
-    subst (λ t. Fill (type_form t) (codes "sampler" ∷ b ∷ [])) (same_Some (Sampler comparison) t h) (refl, (e, tt))
+    subst (λ t. Matches (type_form t) (codes "sampler" ∷ b ∷ [])) (same_Some (Sampler comparison) t h) (refl, (e, tt))
 sampler_found _ t h = cc
 
 acceleration_structure_found : HasForm (codes "accel") acceleration_structure_of
 acceleration_structure_found (b ∷ []) t h =
     option_and_then_some _ (chosen truths b) t h λ vertex_return e h.
-    subst (λ t. Fill (type_form t) (codes "accel" ∷ b ∷ [])) (same_Some (AccelerationStructure vertex_return) t h) (refl, (e, tt))
+    subst (λ t. Matches (type_form t) (codes "accel" ∷ b ∷ [])) (same_Some (AccelerationStructure vertex_return) t h) (refl, (e, tt))
 acceleration_structure_found _ t h = cc
 
 ray_query_found : HasForm (codes "rayquery") ray_query_of
 ray_query_found (b ∷ []) t h =
     option_and_then_some _ (chosen truths b) t h λ vertex_return e h.
-    subst (λ t. Fill (type_form t) (codes "rayquery" ∷ b ∷ [])) (same_Some (RayQuery vertex_return) t h) (refl, (e, tt))
+    subst (λ t. Matches (type_form t) (codes "rayquery" ∷ b ∷ [])) (same_Some (RayQuery vertex_return) t h) (refl, (e, tt))
 ray_query_found _ t h = cc
 
 struct_found : HasForm (codes "struct") struct_of
@@ -134,10 +134,10 @@ struct_found [] t h = cc
 struct_found (s ∷ ws) t h =
     option_and_then_some _ (number_of s) t h λ span e h.
     option_and_then_some _ (read_each member_of ws) t h λ members f h.
-    subst (λ t. Fill (type_form t) (codes "struct" ∷ s ∷ ws)) (same_Some (Struct members span) t h) (refl, (e, each_found member_of member_part member_found ws members f))
+    subst (λ t. Matches (type_form t) (codes "struct" ∷ s ∷ ws)) (same_Some (Struct members span) t h) (refl, (e, each_found member_of member_part member_found ws members f))
 
 -- what is read of the words after `type` has its type's form
-pub type_found : (ws : List (List ℕ)) (t : TypeInner) → type_of ws ≡ Some t → Fill (type_form t) ws
+pub type_found : (ws : List (List ℕ)) (t : TypeInner) → type_of ws ≡ Some t → Matches (type_form t) ws
 type_found [] t h = cc
 type_found (form ∷ ws) t h =
     option_and_then_some _ (chosen type_readers form) t h λ reader e h.
@@ -148,7 +148,7 @@ type_found (form ∷ ws) t h =
     chosen_holds HasForm type_readers form reader each_row e ws t h
 
 -- words of a type's form are read as that type
-pub type_again : (ws : List (List ℕ)) (t : TypeInner) → Fill (type_form t) ws → type_of ws ≡ Some t
+pub type_again : (ws : List (List ℕ)) (t : TypeInner) → Matches (type_form t) ws → type_of ws ≡ Some t
 type_again ws (Scalar s) h = by_parts (type_form (Scalar s)) ws (λ ws. type_of ws ≡ Some (Scalar s)) h
     (λ a e k f w g. rw (e, scalar_again k w s f g) refl)
 type_again ws (Vector size s) h = by_parts (type_form (Vector size s)) ws (λ ws. type_of ws ≡ Some (Vector size s)) h

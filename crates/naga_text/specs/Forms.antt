@@ -31,8 +31,8 @@ abbrev pub word : List ℕ → Part
 word bytes = λ w. w ≡ bytes
 
 -- a word that has this value in a table
-abbrev pub named : {A : Type 0} → List (List ℕ × A) → A → Part
-named table a = λ w. chosen table w ≡ Some a
+abbrev pub from_table : {A : Type 0} → List (List ℕ × A) → A → Part
+from_table table a = λ w. chosen table w ≡ Some a
 
 -- a word that writes this number, up to a limit
 abbrev pub number : ℕ → ℕ → Part
@@ -43,8 +43,8 @@ abbrev pub integer : ℕ → ℤ → Part
 integer most n = λ w. integer_up_to most w ≡ Some n
 
 -- a word that writes this number of 32 bits
-abbrev pub of_32_bits : ℕ → Part
-of_32_bits n = λ w. number_of w ≡ Some n
+abbrev pub u32_word : ℕ → Part
+u32_word n = λ w. number_of w ≡ Some n
 
 -- a word that writes the index of this handle
 abbrev pub handle : ℕ → Part
@@ -60,19 +60,19 @@ optional part None = word (codes "-")
 optional part (Some a) = part a
 
 -- no word
-abbrev pub unwritten : Part
-unwritten = λ w. ⊥
+abbrev pub never : Part
+never = λ w. ⊥
 
 -- words are what the parts can be, one by one
-abbrev pub Fill : List Part → List (List ℕ) → Type 0
-Fill [] [] = ⊤
-Fill [] (w ∷ ws) = ⊥
-Fill (part ∷ parts) [] = ⊥
-Fill (part ∷ parts) (w ∷ ws) = part w × Fill parts ws
+abbrev pub Matches : List Part → List (List ℕ) → Type 0
+Matches [] [] = ⊤
+Matches [] (w ∷ ws) = ⊥
+Matches (part ∷ parts) [] = ⊥
+Matches (part ∷ parts) (w ∷ ws) = part w × Matches parts ws
 
 -- the part of how many elements an array has; an override follows the letter o
 abbrev pub array_size_part : ArraySize → Part
-array_size_part (array_size.Constant n) = of_32_bits (non_zero_u32_get n)
+array_size_part (array_size.Constant n) = u32_word (non_zero_u32_get n)
 array_size_part (array_size.Pending size) = after_byte letter_o (handle size)
 array_size_part array_size.Dynamic = word (codes "dyn")
 
@@ -84,32 +84,32 @@ pointed_components (Some size) = components size
 -- the pieces of a member's binding; a built-in value can't be written
 abbrev pub binding_parts : Option Binding → List Part
 binding_parts None = []
-binding_parts (Some (Location location None)) = of_32_bits location ∷ []
-binding_parts (Some (Location location (Some blend_src))) = of_32_bits location ∷ of_32_bits blend_src ∷ []
-binding_parts (Some (BuiltIn value)) = unwritten ∷ []
+binding_parts (Some (Location location None)) = u32_word location ∷ []
+binding_parts (Some (Location location (Some blend_src))) = u32_word location ∷ u32_word blend_src ∷ []
+binding_parts (Some (BuiltIn value)) = never ∷ []
 
 -- the part of a member of a struct: its type, its offset and its binding, which colons part; a name can't be written
 abbrev pub member_part : StructMember → Part
-member_part m = λ w. (m.name ≡ None) × Fill (handle m.ty ∷ of_32_bits m.offset ∷ binding_parts m.binding) (pieces_of w)
+member_part m = λ w. (m.name ≡ None) × Matches (handle m.ty ∷ u32_word m.offset ∷ binding_parts m.binding) (pieces_of w)
 
 -- the parts of a type's line, after the word `type`
 abbrev pub type_form : TypeInner → List Part
-type_form (Scalar s) = word (codes "scalar") ∷ named kinds s.kind ∷ number largest_u8 s.width ∷ []
-type_form (Vector size s) = word (codes "vector") ∷ number 4 (components size) ∷ named kinds s.kind ∷ number largest_u8 s.width ∷ []
+type_form (Scalar s) = word (codes "scalar") ∷ from_table kinds s.kind ∷ number largest_u8 s.width ∷ []
+type_form (Vector size s) = word (codes "vector") ∷ number 4 (components size) ∷ from_table kinds s.kind ∷ number largest_u8 s.width ∷ []
 type_form (Matrix columns rows s) =
-    word (codes "matrix") ∷ number 4 (components columns) ∷ number 4 (components rows) ∷ named kinds s.kind ∷ number largest_u8 s.width ∷ []
+    word (codes "matrix") ∷ number 4 (components columns) ∷ number 4 (components rows) ∷ from_table kinds s.kind ∷ number largest_u8 s.width ∷ []
 type_form (CooperativeMatrix columns rows s role) =
-    word (codes "coop") ∷ number 16 (cooperative_components columns) ∷ number 16 (cooperative_components rows) ∷ named kinds s.kind ∷ number largest_u8 s.width ∷ named roles role ∷ []
-type_form (Atomic s) = word (codes "atomic") ∷ named kinds s.kind ∷ number largest_u8 s.width ∷ []
-type_form (Pointer base space) = word (codes "pointer") ∷ handle base ∷ named spaces space ∷ []
+    word (codes "coop") ∷ number 16 (cooperative_components columns) ∷ number 16 (cooperative_components rows) ∷ from_table kinds s.kind ∷ number largest_u8 s.width ∷ from_table roles role ∷ []
+type_form (Atomic s) = word (codes "atomic") ∷ from_table kinds s.kind ∷ number largest_u8 s.width ∷ []
+type_form (Pointer base space) = word (codes "pointer") ∷ handle base ∷ from_table spaces space ∷ []
 type_form (ValuePointer size s space) =
-    word (codes "valuepointer") ∷ number 4 (pointed_components size) ∷ named kinds s.kind ∷ number largest_u8 s.width ∷ named spaces space ∷ []
-type_form (Array base size stride) = word (codes "array") ∷ handle base ∷ array_size_part size ∷ of_32_bits stride ∷ []
-type_form (Struct members span) = word (codes "struct") ∷ of_32_bits span ∷ map member_part members
-type_form (Image dim arrayed class) = word (codes "image") ∷ named dimensions dim ∷ named truths arrayed ∷ named classes class ∷ []
-type_form (Sampler comparison) = word (codes "sampler") ∷ named truths comparison ∷ []
-type_form (AccelerationStructure vertex_return) = word (codes "accel") ∷ named truths vertex_return ∷ []
-type_form (RayQuery vertex_return) = word (codes "rayquery") ∷ named truths vertex_return ∷ []
+    word (codes "valuepointer") ∷ number 4 (pointed_components size) ∷ from_table kinds s.kind ∷ number largest_u8 s.width ∷ from_table spaces space ∷ []
+type_form (Array base size stride) = word (codes "array") ∷ handle base ∷ array_size_part size ∷ u32_word stride ∷ []
+type_form (Struct members span) = word (codes "struct") ∷ u32_word span ∷ map member_part members
+type_form (Image dim arrayed class) = word (codes "image") ∷ from_table dimensions dim ∷ from_table truths arrayed ∷ from_table classes class ∷ []
+type_form (Sampler comparison) = word (codes "sampler") ∷ from_table truths comparison ∷ []
+type_form (AccelerationStructure vertex_return) = word (codes "accel") ∷ from_table truths vertex_return ∷ []
+type_form (RayQuery vertex_return) = word (codes "rayquery") ∷ from_table truths vertex_return ∷ []
 type_form (BindingArray base size) = word (codes "bindingarray") ∷ handle base ∷ array_size_part size ∷ []
 
 -- the parts of a literal: its type and its value; a floating-point number is written as its bits
@@ -135,34 +135,34 @@ expression_form (expr.Override id) = word (codes "override") ∷ handle id ∷ [
 expression_form (expr.ZeroValue ty) = word (codes "zero") ∷ handle ty ∷ []
 expression_form (expr.Compose ty components) = word (codes "compose") ∷ handle ty ∷ map handle components
 expression_form (expr.Splat size value) = word (codes "splat") ∷ number 4 (components size) ∷ handle value ∷ []
-expression_form (expr.Unary op value) = word (codes "unary") ∷ named unary_operators op ∷ handle value ∷ []
-expression_form (expr.Binary op left right) = word (codes "binary") ∷ named binary_operators op ∷ handle left ∷ handle right ∷ []
-expression_form (expr.Access base index) = unwritten ∷ []
-expression_form (expr.AccessIndex base index) = unwritten ∷ []
-expression_form (expr.Swizzle size vector pattern) = unwritten ∷ []
-expression_form (expr.FunctionArgument index) = unwritten ∷ []
-expression_form (expr.GlobalVariable variable) = unwritten ∷ []
-expression_form (expr.LocalVariable variable) = unwritten ∷ []
-expression_form (expr.Load pointer) = unwritten ∷ []
-expression_form (expr.ImageSample image sampler gather coordinate array_index offset level depth_ref clamp_to_edge) = unwritten ∷ []
-expression_form (expr.ImageLoad image coordinate array_index sample level) = unwritten ∷ []
-expression_form (expr.ImageQuery image query) = unwritten ∷ []
-expression_form (expr.Select condition accept reject) = unwritten ∷ []
-expression_form (expr.Derivative value) = unwritten ∷ []
-expression_form (expr.Relational fun argument) = unwritten ∷ []
-expression_form (expr.Math fun arg arg1 arg2 arg3) = unwritten ∷ []
-expression_form (expr.As value kind convert) = unwritten ∷ []
-expression_form (expr.CallResult function) = unwritten ∷ []
-expression_form (expr.AtomicResult ty comparison) = unwritten ∷ []
-expression_form (expr.WorkGroupUniformLoadResult ty) = unwritten ∷ []
-expression_form (expr.ArrayLength pointer) = unwritten ∷ []
-expression_form expr.RayQueryProceedResult = unwritten ∷ []
-expression_form (expr.RayQueryGetIntersection query committed) = unwritten ∷ []
-expression_form (expr.RayQueryVertexPositions query committed) = unwritten ∷ []
-expression_form expr.SubgroupBallotResult = unwritten ∷ []
-expression_form (expr.SubgroupOperationResult ty) = unwritten ∷ []
-expression_form (expr.CooperativeLoad pointer stride) = unwritten ∷ []
-expression_form (expr.CooperativeMultiplyAdd a b c) = unwritten ∷ []
+expression_form (expr.Unary op value) = word (codes "unary") ∷ from_table unary_operators op ∷ handle value ∷ []
+expression_form (expr.Binary op left right) = word (codes "binary") ∷ from_table binary_operators op ∷ handle left ∷ handle right ∷ []
+expression_form (expr.Access base index) = never ∷ []
+expression_form (expr.AccessIndex base index) = never ∷ []
+expression_form (expr.Swizzle size vector pattern) = never ∷ []
+expression_form (expr.FunctionArgument index) = never ∷ []
+expression_form (expr.GlobalVariable variable) = never ∷ []
+expression_form (expr.LocalVariable variable) = never ∷ []
+expression_form (expr.Load pointer) = never ∷ []
+expression_form (expr.ImageSample image sampler gather coordinate array_index offset level depth_ref clamp_to_edge) = never ∷ []
+expression_form (expr.ImageLoad image coordinate array_index sample level) = never ∷ []
+expression_form (expr.ImageQuery image query) = never ∷ []
+expression_form (expr.Select condition accept reject) = never ∷ []
+expression_form (expr.Derivative value) = never ∷ []
+expression_form (expr.Relational fun argument) = never ∷ []
+expression_form (expr.Math fun arg arg1 arg2 arg3) = never ∷ []
+expression_form (expr.As value kind convert) = never ∷ []
+expression_form (expr.CallResult function) = never ∷ []
+expression_form (expr.AtomicResult ty comparison) = never ∷ []
+expression_form (expr.WorkGroupUniformLoadResult ty) = never ∷ []
+expression_form (expr.ArrayLength pointer) = never ∷ []
+expression_form expr.RayQueryProceedResult = never ∷ []
+expression_form (expr.RayQueryGetIntersection query committed) = never ∷ []
+expression_form (expr.RayQueryVertexPositions query committed) = never ∷ []
+expression_form expr.SubgroupBallotResult = never ∷ []
+expression_form (expr.SubgroupOperationResult ty) = never ∷ []
+expression_form (expr.CooperativeLoad pointer stride) = never ∷ []
+expression_form (expr.CooperativeMultiplyAdd a b c) = never ∷ []
 
 -- the parts of a line
 abbrev pub form : Line → List Part
@@ -177,4 +177,4 @@ form (Doc ty member) = word (codes "doc") ∷ handle ty ∷ handle member ∷ []
 
 -- the words are a line that says this
 abbrev pub IsForm : List (List ℕ) → Line → Type 0
-IsForm words line = Fill (form line) words
+IsForm words line = Matches (form line) words

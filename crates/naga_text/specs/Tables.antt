@@ -1,5 +1,5 @@
 -- The words that stand for values: a row is a word and its value.
-use Rattle.std.specs.Prelude.{ℕ, Bool as Truth, true, false, List, [], ◌∷◌, Option, Some, None, codes, bytes_eq, if◌then◌else◌}
+use Rattle.std.specs.Prelude.{ℕ, Bool as Boolean, true, false, List, [], ◌∷◌, Option, Some, None, codes, bytes_eq, if◌then◌else◌}
 use Rattle.naga_ir.specs.declared.expression.BinaryOperator.{BinaryOperator}
 use Rattle.naga_ir.specs.declared.expression.BinaryOperator.TheVariants as binary
 use Rattle.naga_ir.specs.declared.expression.UnaryOperator.{UnaryOperator}
@@ -32,7 +32,7 @@ kinds =
     []
 
 -- the truth values
-abbrev pub truths : List (List ℕ × Truth)
+abbrev pub truths : List (List ℕ × Boolean)
 truths = (codes "0", false) ∷ (codes "1", true) ∷ []
 
 -- the operands that cooperative matrices are

@@ -16,8 +16,8 @@ use Rattle.naga_ir.specs.declared.types.TypeInner.TheVariants.{Array, Struct}
 use Rattle.naga_ir.specs.declared.types.VectorSize.{VectorSize}
 use Rattle.naga_ir.specs.declared.types.VectorSize.TheVariants.{Bi, Tri, Quad}
 use Rattle.naga_types.proofs.FirstLemmas.{passed, refused}
-use Rattle.naga_types.specs.Composing.{all_parts, first_misfit, misfit, miscount, parts_in, resolution_in, resolutions_at}
-use Rattle.naga_types.specs.Judging.{first, unless}
+use Rattle.naga_types.specs.Composing.{all_parts, first_component_type_error, component_type_error, component_count_error, parts_in, resolution_in, resolutions_at}
+use Rattle.naga_types.specs.Checks.{first, require}
 use Rattle.naga_types.specs.Layouts.{saturated}
 use Rattle.naga_types.specs.steps.Components.{ComponentsExist, resolutions_of}
 use Rattle.naga_types.specs.declared.compose.Components.{Components}
@@ -51,11 +51,11 @@ component_exists types (At places resolutions) i r exist at = by_place (slice_ge
 
 module _ (fits : ℕ × TypeResolution → Bool) (given : List TypeResolution) where
   abbrev misfit_from : ℕ → List TypeResolution → Option ComposeError
-  misfit_from i left = first (map (misfit fits) (enumerate_from i left))
+  misfit_from i left = first (map (component_type_error fits) (enumerate_from i left))
 
   -- all before a place fit
   abbrev pub FitSoFar : ℕ → Type 0
-  FitSoFar i = misfit_from i (drop i given) ≡ first_misfit fits given
+  FitSoFar i = misfit_from i (drop i given) ≡ first_component_type_error fits given
 
   module _ (i : ℕ) (r : TypeResolution) (at : slice_get given i ≡ Some r) (so_far : FitSoFar i) where
     within : i < length given
@@ -65,12 +65,12 @@ module _ (fits : ℕ × TypeResolution → Bool) (given : List TypeResolution) w
     here = sym (get_or_from_slice_get given i r r at)
 
     pub one_fits : fits (i, r) ≡ true → FitSoFar (i + 1)
-    one_fits e = passed (misfit fits) given i r within here so_far (ap (λ b. unless b (ComponentType (saturated i))) e)
+    one_fits e = passed (component_type_error fits) given i r within here so_far (ap (λ b. require b (ComponentType (saturated i))) e)
 
-    pub one_misfits : fits (i, r) ≡ false → first_misfit fits given ≡ Some (ComponentType (saturated i))
-    one_misfits e = refused (misfit fits) given i r within here so_far (ComponentType (saturated i)) (ap (λ b. unless b (ComponentType (saturated i))) e)
+    pub one_misfits : fits (i, r) ≡ false → first_component_type_error fits given ≡ Some (ComponentType (saturated i))
+    one_misfits e = refused (component_type_error fits) given i r within here so_far (ComponentType (saturated i)) (ap (λ b. require b (ComponentType (saturated i))) e)
 
-  pub all_fit : (i : ℕ) → length given ≤ i → FitSoFar i → first_misfit fits given ≡ None
+  pub all_fit : (i : ℕ) → length given ≤ i → FitSoFar i → first_component_type_error fits given ≡ None
   all_fit i past so_far = sym so_far ∙ at_drop_all (misfit_from i) given i past
 
 -- with one more component there are as many parts more as it has
@@ -86,15 +86,15 @@ parts_more types given i total r at so_far =
     capped sum n total all e f = omega arith
 
 -- a number that errors can give is counted as it was
-saturated_count : (n expected : ℕ) → expected < largest_u32 → miscount (saturated n) expected ≡ miscount n expected
+saturated_count : (n expected : ℕ) → expected < largest_u32 → component_count_error (saturated n) expected ≡ component_count_error n expected
 saturated_count n expected small =
     let equal : (saturated n == expected) ≡ (n == expected) =
     same_from_decides (saturated n == expected) (n == expected) (Decides-eqb (saturated n) expected)
     (Decides-like (n == expected) (λ (e : n ≡ expected). omega arith) (λ (e : saturated n ≡ expected). omega arith) (Decides-eqb n expected)) in
     let again : saturated (saturated n) ≡ saturated n = omega arith in
-    ap (λ b. unless b (ComponentCount (saturated (saturated n)) (saturated expected))) equal ∙ ap (λ m. unless (n == expected) (ComponentCount m (saturated expected))) again
+    ap (λ b. require b (ComponentCount (saturated (saturated n)) (saturated expected))) equal ∙ ap (λ m. require (n == expected) (ComponentCount m (saturated expected))) again
 
-pub saturated_parts : (n : ℕ) (size : VectorSize) → miscount (saturated n) (components size) ≡ miscount n (components size)
+pub saturated_parts : (n : ℕ) (size : VectorSize) → component_count_error (saturated n) (components size) ≡ component_count_error n (components size)
 saturated_parts n Bi = saturated_count n 2 (omega arith)
 saturated_parts n Tri = saturated_count n 3 (omega arith)
 saturated_parts n Quad = saturated_count n 4 (omega arith)

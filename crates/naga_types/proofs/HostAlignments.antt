@@ -6,7 +6,7 @@ use Rattle.naga_ir.proofs.PartLemmas.{base_is, members_are}
 use Rattle.naga_ir.specs.Parts.{parts}
 use Rattle.naga_ir.specs.declared.types.TypeInner.{TypeInner}
 use Rattle.naga_ir.specs.declared.types.TypeInner.TheVariants as form
-use Rattle.naga_types.proofs.JudgedTypes.{JudgedTypes, alignment_is, alignment_of_type, info_of, known, known_is, own_form, parts_before}
+use Rattle.naga_types.proofs.CheckedTypes.{CheckedTypes, alignment_is, alignment_of_type, info_of, known, known_is, own_form, parts_before}
 use Rattle.naga_types.proofs.HostForms.{HostForm, host-form, leaf, array, struct, struct-has_members}
 use Rattle.naga_types.specs.HostLayouts.{IsForHosts, data_for_hosts}
 use Rattle.naga_types.specs.Surroundings.{Surroundings, flags_at}
@@ -21,7 +21,7 @@ use Rattle.naga_typing.specs.Leaves.{IsLeafAlignment, inner_at}
 abbrev pub PartsBefore : ℕ → TypeInner → Type 0
 PartsBefore t inner = (p : ℕ) → Contains (parts inner) p → p < t
 
-module _ (w : JudgedTypes) where
+module _ (w : CheckedTypes) where
   -- the lists of the types
   abbrev g : GlobalLists
   g = w.lists
@@ -46,7 +46,7 @@ module _ (w : JudgedTypes) where
   below : (n t : ℕ) → t < n → t < length w.infos → IsForHosts (info_of w t) → IsLeafAlignment g t (al t)
   below zero t under within for_hosts = absurd (omega (arith, under))
   below (suc n) t under within for_hosts =
-      let j = w.judged t within in
+      let j = w.each_accepted t within in
       subst (IsLeafAlignment g t) (sym (alignment_is w t j j.ty.inner (own_form w t j)))
       (by_parts (known w t j) t (info_of w t) j.ty.inner (own_form w t j) (parts_before w t j)
       (λ p before flags. below n p (omega (arith, before, under)) (omega (arith, before, within)) (ap (λ (x : TypeInfo). has x.flags.0 data_for_hosts) (sym (known_is w t j p before)) ∙ flags))

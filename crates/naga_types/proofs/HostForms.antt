@@ -16,9 +16,9 @@ use Rattle.naga_types.proofs.KeptConditions.{granted-none, granted-value, neithe
 use Rattle.naga_types.proofs.StructFlags.{has-first, has-second, has-struct_flags}
 use Rattle.naga_types.specs.FormFlags.{array_flags, binding_array_flags, is_argument_space, opaque_flags, pointer_flags, ray_query_flags}
 use Rattle.naga_types.specs.HostLayouts.{data_for_hosts, IsForHosts}
-use Rattle.naga_types.specs.Judging.{first}
+use Rattle.naga_types.specs.Checks.{first}
 use Rattle.naga_types.specs.Layouts.{storage_layout_of, uniform_layout_of}
-use Rattle.naga_types.specs.StructRule.{struct_conditions, struct_flags, struct_immediates}
+use Rattle.naga_types.specs.StructRule.{struct_checks, struct_flags, struct_immediates}
 use Rattle.naga_types.specs.Surroundings.{Surroundings, flags_at}
 use Rattle.naga_types.specs.TypeRule.{array_info, type_rule}
 use Rattle.naga_types.specs.declared.error.TypeError.{TypeError}
@@ -38,12 +38,12 @@ struct_info s t members span = record {
 pub data HostForm (s : Surroundings) (t : ℕ) (info : TypeInfo) : TypeInner → Type 0 where
   leaf : (inner : TypeInner) → is_leaf inner ≡ true → info.uniform_layout ≡ Ok (alignment_at s.layouts t) → info.storage_layout ≡ Ok (alignment_at s.layouts t) → HostForm s t info inner
   array : (base : ℕ) (size : ArraySize) (stride : ℕ) → has (flags_at s base) data_for_hosts ≡ true → array_info s t base size stride ≡ info → HostForm s t info (form.Array base size stride)
-  struct : (members : List StructMember) (span : ℕ) → first (struct_conditions s members span) ≡ None → All (λ (m : StructMember). has (flags_at s m.ty) data_for_hosts ≡ true) members
+  struct : (members : List StructMember) (span : ℕ) → first (struct_checks s members span) ≡ None → All (λ (m : StructMember). has (flags_at s m.ty) data_for_hosts ≡ true) members
       → struct_info s t members span ≡ info → HostForm s t info (form.Struct members span)
 
 -- flags that a form has not
 lacking : {P : Type 0} (b : Bool) → b ≡ false → b ≡ true → P
-lacking b lacks has_it = absurd (impossible (sym lacks ∙ has_it))
+lacking b capability_error has_it = absurd (impossible (sym capability_error ∙ has_it))
   where
     impossible : false ≡ true → ⊥
     impossible e = cc e
@@ -86,7 +86,7 @@ module _ (s : Surroundings) (t : ℕ) (info : TypeInfo) (for_hosts : IsForHosts 
       array base size stride (has-first (flags_at s base) (array_flags size) data_for_hosts (has_flags (array_info s t base size stride) e)) e
   host-form (form.Struct members span) h =
       let e = granted-value _ (struct_info s t members span) info h in
-      struct members span (granted-none (first (struct_conditions s members span)) (struct_info s t members span) info h) (has-struct_flags s members data_for_hosts refl (has_flags (struct_info s t members span) e)) e
+      struct members span (granted-none (first (struct_checks s members span)) (struct_info s t members span) info h) (has-struct_flags s members data_for_hosts refl (has_flags (struct_info s t members span) e)) e
   host-form (form.Image dim arrayed class) h = lacking (has opaque_flags data_for_hosts) refl (has_flags _ (granted-value _ _ info h))
   host-form (form.Sampler comparison) h = lacking (has opaque_flags data_for_hosts) refl (has_flags _ (same_ok _ h))
     where
@@ -99,7 +99,7 @@ module _ (s : Surroundings) (t : ℕ) (info : TypeInfo) (for_hosts : IsForHosts 
       (has-second (flags_at s base) (binding_array_flags size) data_for_hosts (has_flags _ (granted-value _ _ info h)))
 
 -- an accepted struct has members
-pub struct-has_members : (s : Surroundings) (members : List StructMember) (span : ℕ) → first (struct_conditions s members span) ≡ None → 0 < length members
+pub struct-has_members : (s : Surroundings) (members : List StructMember) (span : ℕ) → first (struct_checks s members span) ≡ None → 0 < length members
 struct-has_members s members span none =
     let some : not (length members == 0) ≡ true = unless-kept (not (length members == 0)) EmptyStruct (neither _ _ none).0 in
     positive (length members) (eqb-false (length members) 0 (not-true (length members == 0) some))

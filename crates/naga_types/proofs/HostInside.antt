@@ -5,7 +5,7 @@ use Rattle.naga_flags.specs.Flags.{has}
 use Rattle.naga_ir.specs.declared.types.ArraySize.{ArraySize}
 use Rattle.naga_ir.specs.declared.types.StructMember.{StructMember}
 use Rattle.naga_ir.specs.declared.types.TypeInner.TheVariants.{Array, Struct}
-use Rattle.naga_types.proofs.JudgedTypes.{Judged, JudgedTypes, alignment_of_type, array_has, base_before, info_of, known, known_is, member_before, rule_is}
+use Rattle.naga_types.proofs.CheckedTypes.{Judged, CheckedTypes, alignment_of_type, array_has, base_before, info_of, known, known_is, member_before, rule_is}
 use Rattle.naga_types.proofs.HostAlignments.{leaf-alignment}
 use Rattle.naga_types.proofs.HostForms.{struct_info}
 use Rattle.naga_types.proofs.KeptConditions.{granted-value}
@@ -16,14 +16,14 @@ use Rattle.naga_types.specs.declared.info.TypeInfo.{TypeInfo}
 use Rattle.naga_typing.proofs.LeafAlignments.{place-in}
 use Rattle.naga_typing.specs.Leaves.{IsInside, inner_at, itself, element, member}
 
-module _ (w : JudgedTypes) where
+module _ (w : CheckedTypes) where
   -- a type is data that hosts may share
   abbrev pub IsHostType : ℕ → Type 0
   IsHostType t = (t < length w.infos) × IsForHosts (info_of w t)
 
   module _ (t : ℕ) (h : IsHostType t) where
     abbrev j : Judged w t
-    j = w.judged t h.0
+    j = w.each_accepted t h.0
 
     abbrev s : Surroundings
     s = known w t j

@@ -10,7 +10,7 @@ use Rattle.naga_ir.specs.declared.types.StructMember.{StructMember}
 use Rattle.naga_ir.specs.declared.types.TypeInner.TheVariants.{Struct}
 use Rattle.naga_types.proofs.HostForms.{struct_info}
 use Rattle.naga_types.proofs.HostInside.{leaf-alignments_inside}
-use Rattle.naga_types.proofs.JudgedTypes.{JudgedTypes, accepted_types, info_of, known, known_is, member_before, rule_is}
+use Rattle.naga_types.proofs.CheckedTypes.{CheckedTypes, accepted_types, info_of, known, known_is, member_before, rule_is}
 use Rattle.naga_types.proofs.KeptConditions.{granted-value}
 use Rattle.naga_types.proofs.StorageLayouts.{storage-by_leaves}
 use Rattle.naga_types.proofs.StructFlags.{has-struct_flags}
@@ -27,7 +27,7 @@ module _ (m : Module) (capabilities : Capabilities) (resolved : Bool) (layouts :
   abbrev g : GlobalLists
   g = global_lists m
 
-  abbrev w : JudgedTypes
+  abbrev w : CheckedTypes
   w = accepted_types m capabilities resolved layouts infos accepted
 
   within : t < length infos
@@ -54,7 +54,7 @@ module _ (m : Module) (capabilities : Capabilities) (resolved : Bool) (layouts :
   -- the members of a struct have its flags, but for being shared by stages
   pub struct-flags : MembersHaveFlags g infos t info
   struct-flags members span p flags is in_list apart h =
-      let j = w.judged t within in
+      let j = w.each_accepted t within in
       let s : Surroundings = known w t j in
       let given : struct_info s t members span ≡ info_of w t = granted-value _ (struct_info s t members span) (info_of w t) (rule_is w t j (Struct members span) is) in
       let each = has-struct_flags s members flags apart (ap (λ (x : TypeInfo). has x.flags.0 flags) (given ∙ same) ∙ h) in

@@ -15,15 +15,15 @@ use Rattle.naga_ir.specs.ItemReferences.{GlobalLists, global_lists}
 use Rattle.naga_ir.specs.declared.ir.Module.{Module}
 use Rattle.naga_ir.specs.declared.types.«Type».{«Type»}
 use Rattle.naga_types.proofs.HostInside.{IsHostType}
-use Rattle.naga_types.proofs.JudgedTypes.{JudgedTypes, accepted_types, info_of, judged_with_next}
+use Rattle.naga_types.proofs.CheckedTypes.{CheckedTypes, accepted_types, info_of, accepted_with_next}
 use Rattle.naga_types.proofs.LeafPlaces.{leaves_aligned, leaves_contained, leaves_disjoint}
 use Rattle.naga_types.proofs.SharedParts.{HasLimit, IsShared, all_placed, at_end, at_size}
 use Rattle.naga_types.proofs.StorageOfUniform.{storage_alignment, storage_of_uniform, uniform_multiple}
-use Rattle.naga_types.specs.AcceptedTypes.{AreJudgedBefore, AreTypesAccepted, judged_by, rule_at, types_rule}
+use Rattle.naga_types.specs.AcceptedTypes.{AreAcceptedBefore, AreTypesAccepted, surroundings_by, rule_at, types_rule}
 use Rattle.naga_types.specs.HostLayouts.{data_for_hosts}
 use Rattle.naga_types.specs.HostLeaves.{AlignsLeaves, AllLeavesAreSeparate, IsLaidOutForHosts, LeavesAreSeparate, resolved_for_hosts, sized_for_hosts}
 use Rattle.naga_types.specs.Layouts.{Layout, in_storage, in_uniform}
-use Rattle.naga_types.specs.RuleResults.{CarriesText, IsRuleResult}
+use Rattle.naga_types.specs.RuleResults.{NeedsMemory, IsRuleResult}
 use Rattle.naga_types.specs.Surroundings.{form_in, info_in, surroundings}
 use Rattle.naga_types.specs.TypeRule.{type_rule}
 use Rattle.naga_types.specs.declared.error.TypeError.{TypeError}
@@ -46,7 +46,7 @@ if_alignment : (l : Layout) (P : ℕ → Type 0) → ((a : ℕ) → l ≡ Ok a �
 if_alignment (Ok a) P h = h a refl
 if_alignment (Err e) P h = tt
 
-module _ (w : JudgedTypes) (t : ℕ) where
+module _ (w : CheckedTypes) (t : ℕ) where
   -- hosts may share a type
   abbrev Shared : ℕ → ℕ → Type 0
   Shared n = IsShared w n
@@ -106,8 +106,8 @@ module _ (w : JudgedTypes) (t : ℕ) where
   sized_info h = ap (λ (o : Option TypeInfo). has (info_in o).flags.0 SIZED) h.info_is ∙ has-trans h.info.flags.0 sized_for_hosts SIZED h.has_flags refl
 
   -- so are those of each type that is judged
-  pub leaves_of_judged : LeavesAreSeparate w.lists w.infos t
-  leaves_of_judged = record {
+  pub leaves_of_checked : LeavesAreSeparate w.lists w.infos t
+  leaves_of_checked = record {
     layouts = layouts_align;
     sized = λ h n. separate n (size_at_index w.lists t) (shared n sized_for_hosts refl h) (at_size (sized_info h) refl);
     runtime_sized = λ h first stride ends n. separate n (first + n * stride) (shared n resolved_for_hosts refl h) (at_end first stride ends refl);
@@ -116,9 +116,9 @@ module _ (w : JudgedTypes) (t : ℕ) where
 -- the leaves of the next type are separate, if the infos before it are those of the rule
 pub leaves_of_next : (g : GlobalLists) (capabilities : Capabilities) (resolved : Bool) (layouts : List TypeLayout) (infos : List TypeInfo) (t : ℕ) (x : «Type») (info : TypeInfo) → GlobalReferencesOk g → AreLayouts g layouts
     → t ≤ length infos → AllAcceptedInOrder (types_rule g capabilities resolved layouts) (take t g.types) (take t infos) → slice_get g.types t ≡ Some x
-    → type_rule (judged_by g capabilities resolved layouts infos) t x.inner ≡ Ok info → LeavesAreSeparate g (take t infos ++ info ∷ []) t
+    → type_rule (surroundings_by g capabilities resolved layouts infos) t x.inner ≡ Ok info → LeavesAreSeparate g (take t infos ++ info ∷ []) t
 leaves_of_next g capabilities resolved layouts infos t x info references laid_out within accepted at rule =
-    leaves_of_judged (record {
+    leaves_of_checked (record {
       lists = g;
       capabilities = capabilities;
       resolved = resolved;
@@ -126,22 +126,22 @@ leaves_of_next g capabilities resolved layouts infos t x info references laid_ou
       infos = take t infos ++ info ∷ [];
       references = references;
       laid_out = laid_out;
-      judged = judged_with_next g capabilities resolved layouts infos t x info within accepted.follow at rule;
+      each_accepted = accepted_with_next g capabilities resolved layouts infos t x info within accepted.follow at rule;
     }) t
 
 -- the leaves of a type that is accepted are separate, if the types before it are accepted with these infos
 pub leaves_of_result : (ctx : TypeContext) (g : GlobalCtx) (t : ℕ) (result : Result TypeInfo TypeError) → GlobalReferencesOk (lists_of g) → AreLayouts (lists_of g) ctx.layouter.now → t ≤ length ctx.infos.now.infos
-    → t < length g.types.now → IfSome (rule_at (surroundings ctx g) t) (λ rule. IsRuleResult rule result) → AreJudgedBefore ctx g t
+    → t < length g.types.now → IfSome (rule_at (surroundings ctx g) t) (λ rule. IsRuleResult rule result) → AreAcceptedBefore ctx g t
     → IfOk result (λ info. LeavesAreSeparate (lists_of g) (take t ctx.infos.now.infos ++ info ∷ []) t)
-leaves_of_result ctx g t (Err e) references laid_out judged exists said before = tt
-leaves_of_result ctx g t (Ok info) references laid_out judged exists said before =
+leaves_of_result ctx g t (Err e) references laid_out first_error_or exists said before = tt
+leaves_of_result ctx g t (Ok info) references laid_out first_error_or exists said before =
     let found = found_at g.types.now t exists in
     let rule : Result TypeInfo TypeError = type_rule (surroundings ctx g) t found.0.inner in
     let returned : IsRuleResult rule (Ok info) = subst (λ o. IfSome o (λ rule. IsRuleResult rule (Ok info))) (ap (λ x. option_map (type_rule (surroundings ctx g) t) (form_in x)) found.1) said in
-    let is : rule ≡ Ok info = ⊎_elim (λ (e : Ok info ≡ rule). sym e) (λ (h : (Ok info ≡ Err OutOfMemory) × CarriesText rule). cc (h.0)) returned in
-    leaves_of_next (lists_of g) ctx.capabilities ctx.overrides_resolved ctx.layouter.now ctx.infos.now.infos t found.0 info references laid_out judged before found.1 is
+    let is : rule ≡ Ok info = ⊎_elim (λ (e : Ok info ≡ rule). sym e) (λ (h : (Ok info ≡ Err OutOfMemory) × NeedsMemory rule). cc (h.0)) returned in
+    leaves_of_next (lists_of g) ctx.capabilities ctx.overrides_resolved ctx.layouter.now ctx.infos.now.infos t found.0 info references laid_out first_error_or before found.1 is
 
 -- and so are those of each type of a module whose types are accepted
 pub leaves_of_accepted : (m : Module) (capabilities : Capabilities) (resolved : Bool) (layouts : List TypeLayout) (infos : List TypeInfo) → AreTypesAccepted m capabilities resolved layouts infos
     → AllLeavesAreSeparate (global_lists m) infos
-leaves_of_accepted m capabilities resolved layouts infos accepted = leaves_of_judged (accepted_types m capabilities resolved layouts infos accepted)
+leaves_of_accepted m capabilities resolved layouts infos accepted = leaves_of_checked (accepted_types m capabilities resolved layouts infos accepted)

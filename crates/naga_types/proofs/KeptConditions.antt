@@ -5,24 +5,24 @@ use Rattle.std.specs.Option.{option_or}
 use Rattle.std.proofs.lemmas.Bool.{and_parts}
 use Rattle.std.proofs.lemmas.List.Elements.{All-cons, All-nil}
 use Rattle.std.proofs.lemmas.Option.{same_Some}
-use Rattle.naga_types.specs.Judging.{first, granted, last, unless}
+use Rattle.naga_types.specs.Checks.{first, ok_unless, last, require}
 
 -- what is granted is the value
-pub granted-value : {A E : Type 0} (o : Option E) (a b : A) → granted o a ≡ Ok b → a ≡ b
+pub granted-value : {A E : Type 0} (o : Option E) (a b : A) → ok_unless o a ≡ Ok b → a ≡ b
 granted-value None a b h = cc h
 granted-value (Some e) a b h = cc h
 
 -- and no condition is broken
-pub granted-none : {A E : Type 0} (o : Option E) (a b : A) → granted o a ≡ Ok b → o ≡ None
+pub granted-none : {A E : Type 0} (o : Option E) (a b : A) → ok_unless o a ≡ Ok b → o ≡ None
 granted-none None a b h = refl
 granted-none (Some e) a b h = cc h
 
 -- both
-pub granted_ok : {A E : Type 0} (o : Option E) (a b : A) → granted o a ≡ Ok b → (o ≡ None) × (a ≡ b)
+pub granted_ok : {A E : Type 0} (o : Option E) (a b : A) → ok_unless o a ≡ Ok b → (o ≡ None) × (a ≡ b)
 granted_ok o a b h = (granted-none o a b h, granted-value o a b h)
 
 -- a condition that is kept holds
-pub unless-kept : {E : Type 0} (b : Bool) (e : E) → unless b e ≡ None → b ≡ true
+pub unless-kept : {E : Type 0} (b : Bool) (e : E) → require b e ≡ None → b ≡ true
 unless-kept true e h = refl
 unless-kept false e h = cc h
 

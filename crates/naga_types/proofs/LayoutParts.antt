@@ -9,8 +9,8 @@ use Rattle.naga_flags.specs.Flags.{has}
 use Rattle.naga_ir.specs.declared.types.StructMember.{StructMember}
 use Rattle.naga_types.proofs.GreatestLemmas.{same_greatest}
 use Rattle.naga_types.proofs.KeptConditions.{first-none, granted-none, granted-value, granted_ok, neither, none-first, unless-kept}
-use Rattle.naga_types.specs.Judging.{first, granted, unless}
-use Rattle.naga_types.specs.Layouts.{Layout, greatest_alignment, in_storage, member_failure, member_failures, offset_failure, saturated, span_failure, storage_layout_of}
+use Rattle.naga_types.specs.Checks.{first, ok_unless, require}
+use Rattle.naga_types.specs.Layouts.{Layout, greatest_alignment, in_storage, member_layout_error, member_layout_errors, offset_error, saturated, span_error, storage_layout_of}
 use Rattle.naga_types.specs.Surroundings.{Surroundings, flags_at, info_at}
 use Rattle.naga_types.specs.TypeRule.{array_layout}
 use Rattle.naga_types.specs.declared.error.Disalignment.{Disalignment}
@@ -34,14 +34,14 @@ module _ (handle least stride : ℕ) where
   pub array-laid_out : (l : Layout) (a : ℕ) → array_layout handle least stride l ≡ Ok a → ArrayIsAligned least stride l a
   array-laid_out (Err e) a h = cc h
   array-laid_out (Ok b) a h =
-      let kept = granted_ok (unless (stride % max b least == 0) _) (max b least) a h in
+      let kept = granted_ok (require (stride % max b least == 0) _) (max b least) a h in
       record { base = b; base_is = refl; is = kept.1; aligned = eqb-true (stride % max b least) 0 (unless-kept (stride % max b least == 0) _ kept.0) }
 
   -- and one with such a base and stride has this
   pub array-layout_is : (l : Layout) (b : ℕ) → l ≡ Ok b → stride % max b least ≡ 0 → array_layout handle least stride l ≡ Ok (max b least)
   array-layout_is l b is multiple =
       ap (array_layout handle least stride) is
-      ∙ ap (λ c. granted (unless c (handle, ArrayStride stride (max b least))) (max b least)) (eq-eqb (stride % max b least) 0 multiple)
+      ∙ ap (λ c. ok_unless (require c (handle, ArrayStride stride (max b least))) (max b least)) (eq-eqb (stride % max b least) 0 multiple)
 
 -- a type that hosts may share stands at a multiple of the alignment that it has in an address space
 pub record MemberIsAligned (s : Surroundings) (layout : TypeInfo → Layout) (m : StructMember) : Type 0 where
@@ -52,24 +52,24 @@ pub record MemberIsAligned (s : Surroundings) (layout : TypeInfo → Layout) (m 
 
 module _ (s : Surroundings) (layout : TypeInfo → Layout) (t : ℕ) where
   -- what doesn't fail for its offset has an alignment and stands at a multiple of it
-  at_multiple : (k offset : ℕ) (l : Layout) → offset_failure t k offset l ≡ None → (a : ℕ) × (l ≡ Ok a) × (offset % a ≡ 0)
+  at_multiple : (k offset : ℕ) (l : Layout) → offset_error t k offset l ≡ None → (a : ℕ) × (l ≡ Ok a) × (offset % a ≡ 0)
   at_multiple k offset (Err e) h = cc h
   at_multiple k offset (Ok a) h = (a, refl, eqb-true (offset % a) 0 (unless-kept (offset % a == 0) _ h))
 
   -- members are aligned if none fails
-  pub aligned_if_none_fails : (members : List StructMember) (k : ℕ) (m : StructMember) → first (member_failures s layout t members) ≡ None → slice_get members k ≡ Some m → MemberIsAligned s layout m
+  pub aligned_if_none_fails : (members : List StructMember) (k : ℕ) (m : StructMember) → first (member_layout_errors s layout t members) ≡ None → slice_get members k ≡ Some m → MemberIsAligned s layout m
   aligned_if_none_fails members k m none at =
-      let both = neither (unless (has (flags_at s m.ty) HOST_SHAREABLE) (m.ty, NonHostShareable)) (offset_failure t k m.offset (layout (info_at s m.ty))) (none-first (member_failure s layout t) members none k m at) in
+      let both = neither (require (has (flags_at s m.ty) HOST_SHAREABLE) (m.ty, NonHostShareable)) (offset_error t k m.offset (layout (info_at s m.ty))) (none-first (member_layout_error s layout t) members none k m at) in
       let multiple = at_multiple k m.offset (layout (info_at s m.ty)) both.1 in
       record { shareable = unless-kept (has (flags_at s m.ty) HOST_SHAREABLE) _ both.0; alignment = multiple.0; is_alignment = multiple.1; aligned = multiple.2 }
 
   -- and none fails if they are
-  pub none_fails_if_aligned : (members : List StructMember) → ((k : ℕ) (m : StructMember) → slice_get members k ≡ Some m → MemberIsAligned s layout m) → first (member_failures s layout t members) ≡ None
-  none_fails_if_aligned members each = first-none (member_failure s layout t) members (λ k m at.
+  pub none_fails_if_aligned : (members : List StructMember) → ((k : ℕ) (m : StructMember) → slice_get members k ≡ Some m → MemberIsAligned s layout m) → first (member_layout_errors s layout t members) ≡ None
+  none_fails_if_aligned members each = first-none (member_layout_error s layout t) members (λ k m at.
       let one = each k m at in
-      let kept = ap (λ b. unless b (m.ty, NonHostShareable)) one.shareable in
-      let multiple = ap (λ b. unless b (t, MemberOffset (saturated k) m.offset one.alignment)) (eq-eqb (m.offset % one.alignment) 0 one.aligned) in
-      ap (λ o. option_or o (offset_failure t k m.offset (layout (info_at s m.ty)))) kept ∙ ap (offset_failure t k m.offset) one.is_alignment ∙ multiple)
+      let kept = ap (λ b. require b (m.ty, NonHostShareable)) one.shareable in
+      let multiple = ap (λ b. require b (t, MemberOffset (saturated k) m.offset one.alignment)) (eq-eqb (m.offset % one.alignment) 0 one.aligned) in
+      ap (λ o. option_or o (offset_error t k m.offset (layout (info_at s m.ty)))) kept ∙ ap (offset_error t k m.offset) one.is_alignment ∙ multiple)
 
   -- their greatest alignment is that of the numbers in their layouts
   pub greatest-placed : (members : List StructMember) (of : ℕ → ℕ) → ((i : ℕ) (m : StructMember) → slice_get members i ≡ Some m → layout (info_at s m.ty) ≡ Ok (of m.ty))
@@ -83,23 +83,23 @@ module _ (s : Surroundings) (t : ℕ) (members : List StructMember) (span : ℕ)
   IsWhole = span % alignment_at s.layouts t ≡ 0
 
   -- it is so if there is no failure of the span
-  pub span-whole : span_failure s t span ≡ None → IsWhole
+  pub span-whole : span_error s t span ≡ None → IsWhole
   span-whole none = eqb-true (span % alignment_at s.layouts t) 0 (unless-kept (span % alignment_at s.layouts t == 0) (t, StructSpan span (alignment_at s.layouts t)) none)
 
   -- and if it is so there is none
-  pub span-kept : IsWhole → span_failure s t span ≡ None
-  span-kept whole = ap (λ b. unless b (t, StructSpan span (alignment_at s.layouts t))) (eq-eqb (span % alignment_at s.layouts t) 0 whole)
+  pub span-kept : IsWhole → span_error s t span ≡ None
+  span-kept whole = ap (λ b. require b (t, StructSpan span (alignment_at s.layouts t))) (eq-eqb (span % alignment_at s.layouts t) 0 whole)
 
   -- what the storage layout of a struct says
-  pub storage-laid_out : (a : ℕ) → storage_layout_of s t members span ≡ Ok a → IsWhole × (first (member_failures s in_storage t members) ≡ None) × (greatest_alignment s in_storage members ≡ a)
+  pub storage-laid_out : (a : ℕ) → storage_layout_of s t members span ≡ Ok a → IsWhole × (first (member_layout_errors s in_storage t members) ≡ None) × (greatest_alignment s in_storage members ≡ a)
   storage-laid_out a h =
-      let members_fail : Option (ℕ × Disalignment) = first (member_failures s in_storage t members) in
-      let failure : Option (ℕ × Disalignment) = first (span_failure s t span ∷ members_fail ∷ []) in
-      let both = neither (span_failure s t span) (option_or members_fail None) (granted-none failure (greatest_alignment s in_storage members) a h) in
+      let members_fail : Option (ℕ × Disalignment) = first (member_layout_errors s in_storage t members) in
+      let failure : Option (ℕ × Disalignment) = first (span_error s t span ∷ members_fail ∷ []) in
+      let both = neither (span_error s t span) (option_or members_fail None) (granted-none failure (greatest_alignment s in_storage members) a h) in
       (span-whole both.0, (neither members_fail None both.1).0, granted-value failure (greatest_alignment s in_storage members) a h)
 
   -- and when there is one
-  pub storage-layout_is : IsWhole → first (member_failures s in_storage t members) ≡ None → storage_layout_of s t members span ≡ Ok (greatest_alignment s in_storage members)
+  pub storage-layout_is : IsWhole → first (member_layout_errors s in_storage t members) ≡ None → storage_layout_of s t members span ≡ Ok (greatest_alignment s in_storage members)
   storage-layout_is whole none =
-      ap (λ o. granted (first (o ∷ first (member_failures s in_storage t members) ∷ [])) (greatest_alignment s in_storage members)) (span-kept whole)
-      ∙ ap (λ o. granted (first (o ∷ [])) (greatest_alignment s in_storage members)) none
+      ap (λ o. ok_unless (first (o ∷ first (member_layout_errors s in_storage t members) ∷ [])) (greatest_alignment s in_storage members)) (span-kept whole)
+      ∙ ap (λ o. ok_unless (first (o ∷ [])) (greatest_alignment s in_storage members)) none

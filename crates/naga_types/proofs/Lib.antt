@@ -8,8 +8,8 @@ pub mod HostForms
 pub mod HostInside
 pub mod HostLaws
 pub mod HostLeaves
-pub mod JudgedTypes
-mod JudgingLemmas
+pub mod CheckedTypes
+mod CheckLemmas
 pub mod KeptConditions
 pub mod LayoutParts
 pub mod LeafPlaces

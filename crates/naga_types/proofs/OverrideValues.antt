@@ -8,21 +8,21 @@ use Rattle.naga_ir.specs.declared.ir.Module.{Module}
 use Rattle.naga_ir.specs.declared.types.«Type».{«Type»}
 use Rattle.naga_ir.specs.declared.types.TypeInner.{TypeInner}
 use Rattle.naga_ir.specs.declared.types.TypeInner.TheVariants as form
-use Rattle.naga_types.specs.AcceptedTypes.{AreTypesAccepted, judged_by, types_rule}
-use Rattle.naga_types.specs.Judging.{judged}
+use Rattle.naga_types.specs.AcceptedTypes.{AreTypesAccepted, surroundings_by, types_rule}
+use Rattle.naga_types.specs.Checks.{first_error_or}
 use Rattle.naga_types.specs.TypeRule.{type_rule}
 use Rattle.naga_types.specs.declared.info.TypeInfo.{TypeInfo}
 use Rattle.naga_typing.specs.declared.layouter.TypeLayout.{TypeLayout}
 
 -- what passes two conditions passes the first
-first_alone : {A E : Type 0} (a b : Option E) (value i : A) → judged (a ∷ b ∷ []) value ≡ Ok i → judged (a ∷ None ∷ []) value ≡ Ok i
+first_alone : {A E : Type 0} (a b : Option E) (value i : A) → first_error_or (a ∷ b ∷ []) value ≡ Ok i → first_error_or (a ∷ None ∷ []) value ≡ Ok i
 first_alone None None value i is = is
 first_alone None (Some e) value i is = cc
 first_alone (Some e) b value i is = cc
 
 module _ (m : Module) (capabilities : Capabilities) (layouts : List TypeLayout) where
-  type_unresolved : (infos : List TypeInfo) (t : ℕ) (inner : TypeInner) (i : TypeInfo) → type_rule (judged_by (global_lists m) capabilities true layouts infos) t inner ≡ Ok i
-      → type_rule (judged_by (global_lists m) capabilities false layouts infos) t inner ≡ Ok i
+  type_unresolved : (infos : List TypeInfo) (t : ℕ) (inner : TypeInner) (i : TypeInfo) → type_rule (surroundings_by (global_lists m) capabilities true layouts infos) t inner ≡ Ok i
+      → type_rule (surroundings_by (global_lists m) capabilities false layouts infos) t inner ≡ Ok i
   type_unresolved infos t (form.Array base size stride) i is = first_alone _ _ _ i is
   type_unresolved infos t _ i is = is
 

@@ -21,7 +21,7 @@ use Rattle.naga_ir.specs.declared.types.TypeInner.TheVariants.{Array, Struct}
 use Rattle.naga_types.proofs.GreatestLemmas.{at_most_greatest}
 use Rattle.naga_types.proofs.HostAlignments.{leaf-alignment}
 use Rattle.naga_types.proofs.HostInside.{IsHostType, inside}
-use Rattle.naga_types.proofs.JudgedTypes.{Judged, JudgedTypes, alignment_is, alignment_of_type, array_has, base_before, element_sized, info_of, known, known_is, member_before, rule_is, size_is}
+use Rattle.naga_types.proofs.CheckedTypes.{Judged, CheckedTypes, alignment_is, alignment_of_type, array_has, base_before, element_sized, info_of, known, known_is, member_before, rule_is, size_is}
 use Rattle.naga_types.proofs.LayoutParts.{contains-place}
 use Rattle.naga_types.proofs.LeafPlaces.{AllArePlaced, EndsBy, IsPlaced, map_some}
 use Rattle.naga_types.proofs.PowersDivide.{powers_divide}
@@ -30,7 +30,7 @@ use Rattle.naga_types.proofs.StorageOfUniform.{powers}
 use Rattle.naga_types.proofs.StructPlaces.{earlier_sized, ends_within, flags_are, members_follow, members_sized}
 use Rattle.naga_types.specs.FormFlags.{array_flags}
 use Rattle.naga_types.specs.HostLayouts.{IsStorageAligned, data_for_hosts}
-use Rattle.naga_types.specs.Judging.{first}
+use Rattle.naga_types.specs.Checks.{first}
 use Rattle.naga_types.specs.Layouts.{in_storage}
 use Rattle.naga_types.specs.StructRule.{struct_rule}
 use Rattle.naga_types.specs.Surroundings.{Surroundings, info_at, size_at}
@@ -82,7 +82,7 @@ next_ends i k stride size before fits = let row = row_below i k stride before in
     row_below : (i k stride : ℕ) → i < k → i * stride + stride ≤ k * stride
     row_below i k stride before = grind (arith, rows)
 
-module _ (w : JudgedTypes) (n : ℕ) where
+module _ (w : CheckedTypes) (n : ℕ) where
   -- the alignment of the layout of a type
   abbrev al : ℕ → ℕ
   al = alignment_of_type w
@@ -108,7 +108,7 @@ module _ (w : JudgedTypes) (n : ℕ) where
   module _ (t : ℕ) (shared : IsShared t) where
     -- the type is judged
     abbrev j : Judged w t
-    j = w.judged t shared.host.0
+    j = w.each_accepted t shared.host.0
 
     -- by this
     abbrev s : Surroundings
@@ -204,7 +204,7 @@ module _ (w : JudgedTypes) (n : ℕ) where
         member_is = known_is w t j m.ty first_before
 
         member_size : size_at s m.ty ≡ size_at_index w.lists m.ty
-        member_size = size_is w m.ty (w.judged m.ty member_within)
+        member_size = size_is w m.ty (w.each_accepted m.ty member_within)
 
         member_divides : al m.ty ∣ al t
         member_divides =
@@ -311,6 +311,6 @@ module _ (w : JudgedTypes) (n : ℕ) where
     placed = placed_by_form;
     ends = ends_by_form;
     follow = follow_by_form;
-    leaf_divides = λ t inner shared form leaf. subst (λ a. alignment_of [] inner ∣ a) (sym (alignment_is w t (w.judged t shared.host.0) inner form ∙ leaf_alignment w.layouts inner leaf)) (dvd_refl (alignment_of [] inner));
+    leaf_divides = λ t inner shared form leaf. subst (λ a. alignment_of [] inner ∣ a) (sym (alignment_is w t (w.each_accepted t shared.host.0) inner form ∙ leaf_alignment w.layouts inner leaf)) (dvd_refl (alignment_of [] inner));
     leaf_ends = λ t inner limit shared ends form leaf. leaf_limit t inner limit ends form leaf;
   }

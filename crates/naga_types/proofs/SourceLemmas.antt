@@ -8,25 +8,25 @@ use Rattle.std.proofs.lemmas.List.Elements.{All-tail}
 use Rattle.naga_flags.specs.Bits.{DUAL_SOURCE_BLENDING}
 use Rattle.naga_flags.specs.Flags.{has}
 use Rattle.naga_ir.specs.declared.types.StructMember.{StructMember}
-use Rattle.naga_types.specs.Judging.{first, only_if, unless}
-use Rattle.naga_types.specs.StructRule.{has_source, source_conditions, source_of, source_type, type_of_source}
+use Rattle.naga_types.specs.Checks.{first, when, require}
+use Rattle.naga_types.specs.StructRule.{has_source, source_checks, source_of, source_type, type_of_source}
 use Rattle.naga_types.specs.steps.Structs.{is_noted, sources_of, with_member}
 use Rattle.naga_types.specs.declared.error.TypeError.{TypeError}
 use Rattle.naga_types.specs.declared.error.TypeError.TheVariants.{InvalidBlendSrc, MissingCapability}
 use Rattle.naga_types.specs.declared.error.VaryingError.TheVariants.{BindingCollisionBlendSrc, InvalidBlendSrcIndex}
 use Rattle.naga_types.specs.declared.structs.Sources.{Sources}
-use Rattle.naga_types.proofs.JudgingLemmas.{alone}
+use Rattle.naga_types.proofs.CheckLemmas.{alone}
 
 -- the conditions of a source of blending are the same by the members before and by what is noted of them, since only the sources 0 and 1 are noted
-pub same_conditions : (capabilities : ℕ) (members : List StructMember) (source : Option (ℕ × ℕ)) → first (source_conditions capabilities (is_noted (sources_of members)) source) ≡ first (source_conditions capabilities (has_source members) source)
+pub same_conditions : (capabilities : ℕ) (members : List StructMember) (source : Option (ℕ × ℕ)) → first (source_checks capabilities (is_noted (sources_of members)) source) ≡ first (source_checks capabilities (has_source members) source)
 same_conditions capabilities members None = refl
 same_conditions capabilities members (Some (location, zero)) = refl
 same_conditions capabilities members (Some (location, suc zero)) = refl
 same_conditions capabilities members (Some (location, suc (suc source))) =
     let past : (leb (suc (suc source)) 1 && location == 0) ≡ false = ap (λ b. b && location == 0) (lt-leb (suc (suc source)) 1 (omega arith)) in
-    let capability = unless (has capabilities DUAL_SOURCE_BLENDING) (MissingCapability (record { 0 = DUAL_SOURCE_BLENDING })) in
-    let collision = λ (taken : Bool). unless (not taken) (InvalidBlendSrc (BindingCollisionBlendSrc (suc (suc source)))) in
-    let with = λ (taken : Bool) (here : Bool). first (capability ∷ unless here (InvalidBlendSrc (InvalidBlendSrcIndex location (suc (suc source)))) ∷ collision taken ∷ []) in
+    let capability = require (has capabilities DUAL_SOURCE_BLENDING) (MissingCapability (record { 0 = DUAL_SOURCE_BLENDING })) in
+    let collision = λ (taken : Bool). require (not taken) (InvalidBlendSrc (BindingCollisionBlendSrc (suc (suc source)))) in
+    let with = λ (taken : Bool) (here : Bool). first (capability ∷ require here (InvalidBlendSrc (InvalidBlendSrcIndex location (suc (suc source)))) ∷ collision taken ∷ []) in
     let noted = is_noted (sources_of members) (suc (suc source)) in
     let before = has_source members (suc (suc source)) in
     ap (with noted) past ∙ neither capability _ (collision noted) (collision before) ∙ sym (ap (with before) past)
@@ -66,7 +66,7 @@ of_member : (n k ty : ℕ) (b : Option (ℕ × ℕ)) → ty < n → (x : ℕ) �
 of_member n k ty None before x h = cc h
 of_member n k ty (Some (location, source)) before x h = asked (source == k) h
   where
-    asked : (q : Bool) → only_if q (Some ty) ≡ Some x → x < n
+    asked : (q : Bool) → when q (Some ty) ≡ Some x → x < n
     asked true e = subst (λ y. y < n) (same_in e) before
       where
         same_in : Some ty ≡ Some x → ty ≡ x

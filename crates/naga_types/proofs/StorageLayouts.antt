@@ -14,9 +14,9 @@ use Rattle.naga_ir.specs.declared.types.TypeInner.TheVariants as form
 use Rattle.naga_types.proofs.ByLeaves.{IsExactly, aligned-array, aligned-leaf, aligned-struct, of-leaf_alignment, same-layout}
 use Rattle.naga_types.proofs.HostAlignments.{PartsBefore, leaf-alignment}
 use Rattle.naga_types.proofs.HostForms.{HostForm, host-form, leaf, array, struct, struct_info}
-use Rattle.naga_types.proofs.JudgedTypes.{JudgedTypes, alignment_is, alignment_of_type, info_of, known, known_is, own_form, parts_before}
+use Rattle.naga_types.proofs.CheckedTypes.{CheckedTypes, alignment_is, alignment_of_type, info_of, known, known_is, own_form, parts_before}
 use Rattle.naga_types.proofs.LayoutParts.{aligned_if_none_fails, array-laid_out, array-layout_is, contains-place, greatest-placed, none_fails_if_aligned, storage-laid_out, storage-layout_is}
-use Rattle.naga_types.specs.AcceptedTypes.{judged_by}
+use Rattle.naga_types.specs.AcceptedTypes.{surroundings_by}
 use Rattle.naga_types.specs.HostLayouts.{IsStorageAligned, IsForHosts, HasStorageByLeaves, data_for_hosts}
 use Rattle.naga_types.specs.Layouts.{Layout, in_storage}
 use Rattle.naga_types.specs.Surroundings.{Surroundings, flags_at, info_at}
@@ -35,12 +35,12 @@ module _ (g : GlobalLists) (capabilities : Capabilities) (resolved : Bool) (layo
 
   -- what is known of the parts of a type
   abbrev pub KnownParts : List TypeInfo → ℕ → Type 0
-  KnownParts before t = (p : ℕ) → p < t → has (flags_at (judged_by g capabilities resolved layouts before) p) data_for_hosts ≡ true
-      → IsLeafAlignment g p (alignment_at layouts p) × StorageIsExactly p (info_at (judged_by g capabilities resolved layouts before) p).storage_layout
+  KnownParts before t = (p : ℕ) → p < t → has (flags_at (surroundings_by g capabilities resolved layouts before) p) data_for_hosts ≡ true
+      → IsLeafAlignment g p (alignment_at layouts p) × StorageIsExactly p (info_at (surroundings_by g capabilities resolved layouts before) p).storage_layout
 
   module _ (before : List TypeInfo) (t : ℕ) (info : TypeInfo) (own : IsLeafAlignment g t (alignment_at layouts t)) where
     abbrev s : Surroundings
-    s = judged_by g capabilities resolved layouts before
+    s = surroundings_by g capabilities resolved layouts before
 
     of_array : (base : ℕ) (size : ArraySize) (stride : ℕ) → inner_at g t ≡ Some (form.Array base size stride) → alignment_at layouts t ≡ alignment_at layouts base
         → IsLeafAlignment g base (alignment_at layouts base) → StorageIsExactly base (info_at s base).storage_layout → array_info s t base size stride ≡ info → StorageIsExactly t info.storage_layout
@@ -117,7 +117,7 @@ module _ (g : GlobalLists) (capabilities : Capabilities) (resolved : Bool) (layo
         let p = part m.ty (all_at (λ (m : StructMember). m.ty < t) members i m named at) its in
         (has-trans (flags_at s m.ty) data_for_hosts HOST_SHAREABLE its refl, p.0, p.1)) given
 
-module _ (w : JudgedTypes) where
+module _ (w : CheckedTypes) where
   -- the storage layout of a type, exactly
   abbrev IsExact : ℕ → TypeInfo → Type 0
   IsExact t info = StorageIsExactly w.lists w.capabilities w.resolved w.layouts t info.storage_layout
@@ -125,7 +125,7 @@ module _ (w : JudgedTypes) where
   below : (n t : ℕ) → t < n → t < length w.infos → IsForHosts (info_of w t) → IsExact t (info_of w t)
   below zero t under within for_hosts = absurd (omega (arith, under))
   below (suc n) t under within for_hosts =
-      let j = w.judged t within in
+      let j = w.each_accepted t within in
       by_parts w.lists w.capabilities w.resolved w.layouts j.known t (info_of w t) (leaf-alignment w t within for_hosts) j.ty.inner (own_form w t j) (parts_before w t j)
       (alignment_is w t j j.ty.inner (own_form w t j))
       (λ p before flags.

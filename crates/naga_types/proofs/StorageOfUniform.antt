@@ -7,7 +7,7 @@ use Rattle.naga_ir.specs.declared.types.TypeInner.{TypeInner}
 use Rattle.naga_types.proofs.ByLeaves.{of-leaf_alignment}
 use Rattle.naga_types.proofs.HostAlignments.{leaf-alignment}
 use Rattle.naga_types.proofs.HostInside.{IsHostType, inside}
-use Rattle.naga_types.proofs.JudgedTypes.{JudgedTypes, alignment_of_type, info_of}
+use Rattle.naga_types.proofs.CheckedTypes.{CheckedTypes, alignment_of_type, info_of}
 use Rattle.naga_types.proofs.PowersDivide.{greater_power, power_of_16, powers_divide}
 use Rattle.naga_types.proofs.StorageLayouts.{storage-exactly}
 use Rattle.naga_types.proofs.UniformLayouts.{uniform-exactly}
@@ -30,7 +30,7 @@ multiple-of_uniform (Some inner) a n power h = by (is_leaf inner) h
     by false e =
         mod-eq-zero_of_dvd a (dvd_trans a (powers_divide a (max a min_uniform) above power (greater_power a min_uniform power power_of_16)) (dvd_of_mod-eq-zero (max a min_uniform) e))
 
-module _ (w : JudgedTypes) where
+module _ (w : CheckedTypes) where
   -- the alignment of the layout of a type
   abbrev al : ℕ → ℕ
   al = alignment_of_type w

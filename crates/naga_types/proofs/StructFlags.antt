@@ -11,7 +11,7 @@ use Rattle.naga_ir.specs.declared.types.StructMember.{StructMember}
 use Rattle.naga_types.proofs.CommonFlags.{has-common_flags}
 use Rattle.naga_types.proofs.KeptConditions.{all-pass}
 use Rattle.naga_types.specs.FormFlags.{unshared_flags}
-use Rattle.naga_types.specs.StructRule.{common_flags, goes_back, has_source, struct_flags}
+use Rattle.naga_types.specs.StructRule.{common_flags, restarts_at_zero, has_source, struct_flags}
 use Rattle.naga_types.specs.Surroundings.{Surroundings, flags_at}
 
 -- an intersection has no flags that its first set lacks
@@ -31,7 +31,7 @@ without_sources false hosts flags apart h = h
 pub has-struct_flags : (s : Surroundings) (members : List StructMember) (flags : ℕ) → bit_and IO_SHAREABLE flags ≡ 0 → has (struct_flags s members) flags ≡ true
     → All (λ (m : StructMember). has (flags_at s m.ty) flags ≡ true) members
 has-struct_flags s members flags apart h =
-    let goes : Bool = list_any (goes_back s members) (enumerate_from 0 members) in
+    let goes : Bool = list_any (restarts_at_zero s members) (enumerate_from 0 members) in
     let common = by_back goes (without_sources (has_source members 0 && has_source members 1) (if goes then bit_and (common_flags s members) (all_type_flags - HOST_SHAREABLE) else common_flags s members) flags apart h) in
     all-pass (λ (m : StructMember). has (flags_at s m.ty) flags) members
     (and_parts (has unshared_flags flags) (list_all (λ (m : StructMember). has (flags_at s m.ty) flags) members) (sym (has-common_flags s members flags) ∙ common)).1

@@ -13,9 +13,9 @@ use Rattle.naga_ir.specs.declared.types.StructMember.{StructMember}
 use Rattle.naga_types.proofs.HostForms.{struct_info}
 use Rattle.naga_types.proofs.KeptConditions.{granted_ok, none-first, none_stands, unless-kept}
 use Rattle.naga_types.proofs.StructFlags.{has-struct_flags, without_sources}
-use Rattle.naga_types.specs.Judging.{first}
+use Rattle.naga_types.specs.Checks.{first}
 use Rattle.naga_types.specs.Layouts.{before}
-use Rattle.naga_types.specs.StructRule.{common_flags, end_in, goes_back, has_source, is_array, member_conditions, member_refusal, place_conditions, struct_conditions, struct_flags, struct_rule}
+use Rattle.naga_types.specs.StructRule.{common_flags, end_in, restarts_at_zero, has_source, is_array, member_checks, member_error, place_checks, struct_checks, struct_flags, struct_rule}
 use Rattle.naga_types.specs.Surroundings.{Surroundings, flags_at, form_at, size_at}
 use Rattle.naga_types.specs.declared.info.TypeInfo.{TypeInfo}
 
@@ -44,7 +44,7 @@ no_member_back false flags h = refl
 module _ (s : Surroundings) (members : List StructMember) where
   -- a member goes back
   abbrev back : Bool
-  back = list_any (goes_back s members) (enumerate_from 0 members)
+  back = list_any (restarts_at_zero s members) (enumerate_from 0 members)
 
   -- the members are the two sources of blending
   abbrev sources : Bool
@@ -55,10 +55,10 @@ module _ (s : Surroundings) (members : List StructMember) where
   for_hosts = if back then bit_and (common_flags s members) (all_type_flags - HOST_SHAREABLE) else common_flags s members
 
   -- no member of a struct that hosts share goes back
-  pub none_goes_back : (k : ℕ) (m : StructMember) → has (struct_flags s members) HOST_SHAREABLE ≡ true → slice_get members k ≡ Some m → goes_back s members (k, m) ≡ false
+  pub none_goes_back : (k : ℕ) (m : StructMember) → has (struct_flags s members) HOST_SHAREABLE ≡ true → slice_get members k ≡ Some m → restarts_at_zero s members (k, m) ≡ false
   none_goes_back k m h at =
       let here : 0 + k ≡ k = omega arith in
-      ap (λ i. goes_back s members (i, m)) (sym here) ∙ none_pass (goes_back s members) 0 members k m (no_member_back back (common_flags s members) (without_sources sources for_hosts HOST_SHAREABLE refl h)) at
+      ap (λ i. restarts_at_zero s members (i, m)) (sym here) ∙ none_pass (restarts_at_zero s members) 0 members k m (no_member_back back (common_flags s members) (without_sources sources for_hosts HOST_SHAREABLE refl h)) at
 
   -- each member of a struct of a fixed size has one
   pub members_sized : (k : ℕ) (m : StructMember) → has (struct_flags s members) SIZED ≡ true → slice_get members k ≡ Some m → has (flags_at s m.ty) SIZED ≡ true
@@ -66,30 +66,30 @@ module _ (s : Surroundings) (members : List StructMember) where
 
 module _ (s : Surroundings) (t : ℕ) (members : List StructMember) (span : ℕ) (i : TypeInfo) (is : struct_rule s t members span ≡ Ok i) where
   -- the struct keeps its conditions, and this is its info
-  abbrev all_kept : (first (struct_conditions s members span) ≡ None) × (struct_info s t members span ≡ i)
-  all_kept = granted_ok (first (struct_conditions s members span)) (struct_info s t members span) i is
+  abbrev all_kept : (first (struct_checks s members span) ≡ None) × (struct_info s t members span ≡ i)
+  all_kept = granted_ok (first (struct_checks s members span)) (struct_info s t members span) i is
 
   -- its flags are those by its members
   pub flags_are : i.flags.0 ≡ struct_flags s members
   flags_are = ap (λ (x : TypeInfo). x.flags.0) (sym all_kept.1)
 
-  member_kept : (k : ℕ) (m : StructMember) → slice_get members k ≡ Some m → first (member_conditions s members span (k, m)) ≡ None
+  member_kept : (k : ℕ) (m : StructMember) → slice_get members k ≡ Some m → first (member_checks s members span (k, m)) ≡ None
   member_kept k m at =
-      none-first (member_refusal s members span) members (none_stands (struct_conditions s members span) 1 _ all_kept.0 refl) k m at
+      none-first (member_error s members span) members (none_stands (struct_checks s members span) 1 _ all_kept.0 refl) k m at
 
   module _ (k : ℕ) (m : StructMember) (at : slice_get members k ≡ Some m) where
-    place_kept : first (place_conditions s members span k m) ≡ None
-    place_kept = none_stands (member_conditions s members span (k, m)) 2 _ (member_kept k m at) refl
+    place_kept : first (place_checks s members span k m) ≡ None
+    place_kept = none_stands (member_checks s members span (k, m)) 2 _ (member_kept k m at) refl
 
     begins_behind : (m.offset == 0 || leb (end_in s (before members k)) m.offset) ≡ true
-    begins_behind = unless-kept (m.offset == 0 || leb (end_in s (before members k)) m.offset) _ (none_stands (place_conditions s members span k m) 0 _ place_kept refl)
+    begins_behind = unless-kept (m.offset == 0 || leb (end_in s (before members k)) m.offset) _ (none_stands (place_checks s members span k m) 0 _ place_kept refl)
 
     -- a member ends within the span
     pub ends_within : m.offset + size_at s m.ty ≤ span
-    ends_within = leb-true (m.offset + size_at s m.ty) span (unless-kept (leb (m.offset + size_at s m.ty) span) _ (none_stands (place_conditions s members span k m) 1 _ place_kept refl))
+    ends_within = leb-true (m.offset + size_at s m.ty) span (unless-kept (leb (m.offset + size_at s m.ty) span) _ (none_stands (place_checks s members span k m) 1 _ place_kept refl))
 
     sized_or_last : (has (flags_at s m.ty) SIZED || is_array (form_at s m.ty) && k + 1 == length members) ≡ true
-    sized_or_last = unless-kept (has (flags_at s m.ty) SIZED || is_array (form_at s m.ty) && k + 1 == length members) _ (none_stands (member_conditions s members span (k, m)) 3 _ (member_kept k m at) refl)
+    sized_or_last = unless-kept (has (flags_at s m.ty) SIZED || is_array (form_at s m.ty) && k + 1 == length members) _ (none_stands (member_checks s members span (k, m)) 3 _ (member_kept k m at) refl)
 
     -- a member before another has a fixed size
     pub earlier_sized : k + 1 < length members → has (flags_at s m.ty) SIZED ≡ true

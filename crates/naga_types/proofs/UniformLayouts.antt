@@ -14,10 +14,10 @@ use Rattle.naga_ir.specs.declared.types.TypeInner.TheVariants as form
 use Rattle.naga_types.proofs.ByLeaves.{IsExactly, of-leaf_alignment, same-layout, uniform-array, uniform-leaf, uniform-struct}
 use Rattle.naga_types.proofs.HostAlignments.{PartsBefore, leaf-alignment}
 use Rattle.naga_types.proofs.HostForms.{HostForm, host-form, leaf, array, struct, struct_info}
-use Rattle.naga_types.proofs.JudgedTypes.{JudgedTypes, alignment_is, alignment_of_type, info_of, known, known_is, own_form, parts_before}
+use Rattle.naga_types.proofs.CheckedTypes.{CheckedTypes, alignment_is, alignment_of_type, info_of, known, known_is, own_form, parts_before}
 use Rattle.naga_types.proofs.LayoutParts.{aligned_if_none_fails, array-laid_out, array-layout_is, contains-place, greatest-placed, none_fails_if_aligned}
 use Rattle.naga_types.proofs.UniformParts.{UniformKept, greatest-above, rooms-kept, rooms-left, sizes-fixed, sizes-kept, uniform-laid_out, uniform-layout_is}
-use Rattle.naga_types.specs.AcceptedTypes.{judged_by}
+use Rattle.naga_types.specs.AcceptedTypes.{surroundings_by}
 use Rattle.naga_types.specs.HostLayouts.{IsForHosts, IsUniformAligned, HasUniformByLeaves, data_for_hosts, uniform_alignment, uniform_alignment_in}
 use Rattle.naga_types.specs.Layouts.{Layout, greatest_alignment, in_uniform, min_uniform}
 use Rattle.naga_types.specs.Surroundings.{Surroundings, flags_at, info_at, info_in}
@@ -58,12 +58,12 @@ module _ (g : GlobalLists) (capabilities : Capabilities) (resolved : Bool) (layo
   -- what is known of a part of a type
   pub record KnownUniform (before : List TypeInfo) (p : ℕ) : Type 0 where
     pub alignment : IsLeafAlignment g p (alignment_at layouts p)
-    pub same_info : info_at (judged_by g capabilities resolved layouts before) p ≡ info_in (slice_get infos p)
-    pub uniform : UniformIsExactly p (info_at (judged_by g capabilities resolved layouts before) p).uniform_layout
+    pub same_info : info_at (surroundings_by g capabilities resolved layouts before) p ≡ info_in (slice_get infos p)
+    pub uniform : UniformIsExactly p (info_at (surroundings_by g capabilities resolved layouts before) p).uniform_layout
 
   module _ (before : List TypeInfo) (t : ℕ) (info : TypeInfo) (own : IsLeafAlignment g t (alignment_at layouts t)) where
     abbrev s : Surroundings
-    s = judged_by g capabilities resolved layouts before
+    s = surroundings_by g capabilities resolved layouts before
 
     as_layout : (a b : ℕ) → a ≡ b → (let l : Layout = Ok a in l ≡ Ok b)
     as_layout a b e = ap (λ n. let l : Layout = Ok n in l) e
@@ -171,7 +171,7 @@ module _ (g : GlobalLists) (capabilities : Capabilities) (resolved : Bool) (layo
         let its = all_at (λ (m : StructMember). has (flags_at s m.ty) data_for_hosts ≡ true) members i m flags at in
         (has-trans (flags_at s m.ty) data_for_hosts HOST_SHAREABLE its refl, part m.ty (all_at (λ (m : StructMember). m.ty < t) members i m named at) its)) given
 
-module _ (w : JudgedTypes) where
+module _ (w : CheckedTypes) where
   -- the uniform layout of a type, exactly
   abbrev IsExact : ℕ → TypeInfo → Type 0
   IsExact t info = UniformIsExactly w.lists w.capabilities w.resolved w.layouts w.infos t info.uniform_layout
@@ -179,7 +179,7 @@ module _ (w : JudgedTypes) where
   below : (n t : ℕ) → t < n → t < length w.infos → IsForHosts (info_of w t) → IsExact t (info_of w t)
   below zero t under within for_hosts = absurd (omega (arith, under))
   below (suc n) t under within for_hosts =
-      let j = w.judged t within in
+      let j = w.each_accepted t within in
       by_parts w.lists w.capabilities w.resolved w.layouts w.infos j.known t (info_of w t) (leaf-alignment w t within for_hosts) j.ty.inner (own_form w t j) (parts_before w t j)
       (alignment_is w t j j.ty.inner (own_form w t j))
       (λ p before flags.

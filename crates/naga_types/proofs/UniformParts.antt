@@ -11,8 +11,8 @@ use Rattle.naga_ir.specs.declared.types.TypeInner.{TypeInner}
 use Rattle.naga_ir.specs.declared.types.TypeInner.TheVariants.{Struct}
 use Rattle.naga_types.proofs.KeptConditions.{first-none, granted-none, granted-value, last-none, neither, none-first, none-last, unless-kept}
 use Rattle.naga_types.proofs.LayoutParts.{IsWhole, span-kept, span-whole}
-use Rattle.naga_types.specs.Judging.{first, granted, unless}
-use Rattle.naga_types.specs.Layouts.{form_of, greatest_alignment, in_uniform, last_room_failure, member_failures, min_uniform, room_before, room_failure, room_of, rounded_up, saturated, size_failure, size_failures, span_failure, uniform_layout_of}
+use Rattle.naga_types.specs.Checks.{first, ok_unless, require}
+use Rattle.naga_types.specs.Layouts.{form_of, greatest_alignment, in_uniform, last_padding_error, member_layout_errors, min_uniform, end_after_struct_before, padding_error, end_after_struct, rounded_up, saturated, unsized_error, unsized_errors, span_error, uniform_layout_of}
 use Rattle.naga_types.specs.Surroundings.{Surroundings, flags_at, form_at, form_in}
 use Rattle.naga_types.specs.declared.error.Disalignment.{Disalignment}
 use Rattle.naga_types.specs.declared.error.Disalignment.TheVariants.{MemberOffsetAfterStruct, UnsizedMember}
@@ -34,12 +34,12 @@ form-at s t = by (slice_get s.lists.types t)
 
 module _ (s : Surroundings) (t : ℕ) (members : List StructMember) (span : ℕ) where
   -- all members have fixed sizes if there is no failure of their sizes
-  pub sizes-fixed : first (size_failures s t members) ≡ None → (i : ℕ) (m : StructMember) → slice_get members i ≡ Some m → has (flags_at s m.ty) SIZED ≡ true
-  sizes-fixed none i m at = unless-kept (has (flags_at s m.ty) SIZED) (t, UnsizedMember (saturated i)) (none-first (size_failure s t) members none i m at)
+  pub sizes-fixed : first (unsized_errors s t members) ≡ None → (i : ℕ) (m : StructMember) → slice_get members i ≡ Some m → has (flags_at s m.ty) SIZED ≡ true
+  sizes-fixed none i m at = unless-kept (has (flags_at s m.ty) SIZED) (t, UnsizedMember (saturated i)) (none-first (unsized_error s t) members none i m at)
 
   -- and if they have there is none
-  pub sizes-kept : ((i : ℕ) (m : StructMember) → slice_get members i ≡ Some m → has (flags_at s m.ty) SIZED ≡ true) → first (size_failures s t members) ≡ None
-  sizes-kept all = first-none (size_failure s t) members (λ i m at. ap (λ b. unless b (t, UnsizedMember (saturated i))) (all i m at))
+  pub sizes-kept : ((i : ℕ) (m : StructMember) → slice_get members i ≡ Some m → has (flags_at s m.ty) SIZED ≡ true) → first (unsized_errors s t members) ≡ None
+  sizes-kept all = first-none (unsized_error s t) members (λ i m at. ap (λ b. require b (t, UnsizedMember (saturated i))) (all i m at))
 
   -- a member after a struct begins after its room
   abbrev pub RoomIsLeft : Type 0
@@ -47,46 +47,46 @@ module _ (s : Surroundings) (t : ℕ) (members : List StructMember) (span : ℕ)
       → m.offset + rounded_up room ≤ next.offset
 
   -- it does if there is no failure of such a member
-  pub rooms-left : last_room_failure s t members ≡ None → RoomIsLeft
+  pub rooms-left : last_padding_error s t members ≡ None → RoomIsLeft
   rooms-left none i m next inside room m_at next_at is =
-      let kept : room_before s members (suc i) ≤ next.offset = leb-true (room_before s members (suc i)) next.offset
-      (unless-kept (leb (room_before s members (suc i)) next.offset) (t, MemberOffsetAfterStruct (saturated (suc i)) next.offset (saturated (room_before s members (suc i))))
-      (none-last (room_failure s t members) members none (suc i) next next_at)) in
-      let its : room_before s members (suc i) ≡ m.offset + rounded_up room = ap (λ o. room_of o (form_of s o)) m_at ∙ ap (room_of (Some m)) (form-at s m.ty ∙ is) in
+      let kept : end_after_struct_before s members (suc i) ≤ next.offset = leb-true (end_after_struct_before s members (suc i)) next.offset
+      (unless-kept (leb (end_after_struct_before s members (suc i)) next.offset) (t, MemberOffsetAfterStruct (saturated (suc i)) next.offset (saturated (end_after_struct_before s members (suc i))))
+      (none-last (padding_error s t members) members none (suc i) next next_at)) in
+      let its : end_after_struct_before s members (suc i) ≡ m.offset + rounded_up room = ap (λ o. end_after_struct o (form_of s o)) m_at ∙ ap (end_after_struct (Some m)) (form-at s m.ty ∙ is) in
       subst (λ n. n ≤ next.offset) its kept
 
-  room_kept : RoomIsLeft → (i : ℕ) (m : StructMember) → slice_get members i ≡ Some m → room_before s members i ≤ m.offset
+  room_kept : RoomIsLeft → (i : ℕ) (m : StructMember) → slice_get members i ≡ Some m → end_after_struct_before s members i ≤ m.offset
   room_kept left zero m at = omega arith
   room_kept left (suc j) m at = by_member (slice_get members j) refl
     where
-      by_form : (p : StructMember) → slice_get members j ≡ Some p → (found : Option TypeInner) → form_at s p.ty ≡ found → room_of (Some p) found ≤ m.offset
+      by_form : (p : StructMember) → slice_get members j ≡ Some p → (found : Option TypeInner) → form_at s p.ty ≡ found → end_after_struct (Some p) found ≤ m.offset
       by_form p p_at None is = omega arith
       by_form p p_at (Some (Struct inside room)) is = left j p m inside room p_at at (sym (form-at s p.ty) ∙ is)
       by_form p p_at (Some _) is = omega arith
 
-      by_member : (found : Option StructMember) → slice_get members j ≡ found → room_of found (form_of s found) ≤ m.offset
+      by_member : (found : Option StructMember) → slice_get members j ≡ found → end_after_struct found (form_of s found) ≤ m.offset
       by_member None none = omega arith
       by_member (Some p) p_at = by_form p p_at (form_at s p.ty) refl
 
   -- and if it does there is none
-  pub rooms-kept : RoomIsLeft → last_room_failure s t members ≡ None
-  rooms-kept left = last-none (room_failure s t members) members
-      (λ i m at. ap (λ b. unless b (t, MemberOffsetAfterStruct (saturated i) m.offset (saturated (room_before s members i)))) (le-leb (room_before s members i) m.offset (room_kept left i m at)))
+  pub rooms-kept : RoomIsLeft → last_padding_error s t members ≡ None
+  rooms-kept left = last-none (padding_error s t members) members
+      (λ i m at. ap (λ b. require b (t, MemberOffsetAfterStruct (saturated i) m.offset (saturated (end_after_struct_before s members i)))) (le-leb (end_after_struct_before s members i) m.offset (room_kept left i m at)))
 
   -- no condition of a uniform layout is broken
   pub record UniformKept : Type 0 where
     pub whole : IsWhole s t members span
-    pub rooms : last_room_failure s t members ≡ None
-    pub placed : first (member_failures s in_uniform t members) ≡ None
-    pub sized : first (size_failures s t members) ≡ None
+    pub rooms : last_padding_error s t members ≡ None
+    pub placed : first (member_layout_errors s in_uniform t members) ≡ None
+    pub sized : first (unsized_errors s t members) ≡ None
 
   -- what the uniform layout of a struct says
   pub uniform-laid_out : (a : ℕ) → uniform_layout_of s t members span ≡ Ok a → UniformKept × (max (greatest_alignment s in_uniform members) min_uniform ≡ a)
   uniform-laid_out a h =
-      let spans : Option (ℕ × Disalignment) = span_failure s t span in
-      let rooms : Option (ℕ × Disalignment) = last_room_failure s t members in
-      let places : Option (ℕ × Disalignment) = first (member_failures s in_uniform t members) in
-      let sizes : Option (ℕ × Disalignment) = first (size_failures s t members) in
+      let spans : Option (ℕ × Disalignment) = span_error s t span in
+      let rooms : Option (ℕ × Disalignment) = last_padding_error s t members in
+      let places : Option (ℕ × Disalignment) = first (member_layout_errors s in_uniform t members) in
+      let sizes : Option (ℕ × Disalignment) = first (unsized_errors s t members) in
       let failure : Option (ℕ × Disalignment) = first (spans ∷ rooms ∷ places ∷ sizes ∷ []) in
       let first_two = neither spans (first (rooms ∷ places ∷ sizes ∷ [])) (granted-none failure (max (greatest_alignment s in_uniform members) min_uniform) a h) in
       let next_two = neither rooms (first (places ∷ sizes ∷ [])) first_two.1 in
@@ -99,7 +99,7 @@ module _ (s : Surroundings) (t : ℕ) (members : List StructMember) (span : ℕ)
   pub uniform-layout_is : UniformKept → uniform_layout_of s t members span ≡ Ok (max (greatest_alignment s in_uniform members) min_uniform)
   uniform-layout_is kept =
       let alignment : ℕ = max (greatest_alignment s in_uniform members) min_uniform in
-      ap (λ o. granted (first (o ∷ last_room_failure s t members ∷ first (member_failures s in_uniform t members) ∷ first (size_failures s t members) ∷ [])) alignment) (span-kept s t members span kept.whole)
-      ∙ ap (λ o. granted (first (o ∷ first (member_failures s in_uniform t members) ∷ first (size_failures s t members) ∷ [])) alignment) kept.rooms
-      ∙ ap (λ o. granted (first (o ∷ first (size_failures s t members) ∷ [])) alignment) kept.placed
-      ∙ ap (λ o. granted (first (o ∷ [])) alignment) kept.sized
+      ap (λ o. ok_unless (first (o ∷ last_padding_error s t members ∷ first (member_layout_errors s in_uniform t members) ∷ first (unsized_errors s t members) ∷ [])) alignment) (span-kept s t members span kept.whole)
+      ∙ ap (λ o. ok_unless (first (o ∷ first (member_layout_errors s in_uniform t members) ∷ first (unsized_errors s t members) ∷ [])) alignment) kept.rooms
+      ∙ ap (λ o. ok_unless (first (o ∷ first (unsized_errors s t members) ∷ [])) alignment) kept.placed
+      ∙ ap (λ o. ok_unless (first (o ∷ [])) alignment) kept.sized

@@ -26,12 +26,12 @@ pub record IsLaidOut (m : Module) (layouts : List TypeLayout) : Type 0 where
   pub each_type : AreLayouts (global_lists m) layouts
 
 -- what a type is judged by: the capabilities, whether overrides have to have their values, the lists that types refer to, the layouts of all types, and the infos of those before it
-abbrev pub judged_by : GlobalLists → Capabilities → Bool → List TypeLayout → List TypeInfo → Surroundings
-judged_by g capabilities resolved layouts infos = record { capabilities = capabilities.0; resolved = resolved; lists = g; layouts = layouts; infos = infos }
+abbrev pub surroundings_by : GlobalLists → Capabilities → Bool → List TypeLayout → List TypeInfo → Surroundings
+surroundings_by g capabilities resolved layouts infos = record { capabilities = capabilities.0; resolved = resolved; lists = g; layouts = layouts; infos = infos }
 
 -- the rule of all types, each by the infos of those before it
 abbrev pub types_rule : GlobalLists → Capabilities → Bool → List TypeLayout → RuleInOrder «Type» TypeInfo TypeError
-types_rule g capabilities resolved layouts infos t ty = type_rule (judged_by g capabilities resolved layouts infos) t ty.inner
+types_rule g capabilities resolved layouts infos t ty = type_rule (surroundings_by g capabilities resolved layouts infos) t ty.inner
 
 -- a module is laid out so, and each of its types keeps its rule, which gives these infos
 pub record AreTypesAccepted (m : Module) (capabilities : Capabilities) (resolved : Bool) (layouts : List TypeLayout) (infos : List TypeInfo) : Type 0 where
@@ -39,5 +39,5 @@ pub record AreTypesAccepted (m : Module) (capabilities : Capabilities) (resolved
   pub each_type : AllAcceptedInOrder (types_rule (global_lists m) capabilities resolved layouts) m.types infos
 
 -- the types before one are accepted, and these are their infos
-abbrev pub AreJudgedBefore : TypeContext → GlobalCtx → ℕ → Type 0
-AreJudgedBefore ctx g t = AllAcceptedInOrder (types_rule (lists_of g) ctx.capabilities ctx.overrides_resolved ctx.layouter.now) (take t g.types.now) (take t ctx.infos.now.infos)
+abbrev pub AreAcceptedBefore : TypeContext → GlobalCtx → ℕ → Type 0
+AreAcceptedBefore ctx g t = AllAcceptedInOrder (types_rule (lists_of g) ctx.capabilities ctx.overrides_resolved ctx.layouter.now) (take t g.types.now) (take t ctx.infos.now.infos)

@@ -1,5 +1,5 @@
 -- The rule of composing.
-use Rattle.std.specs.Prelude.{◌==◌, ◌&&◌, ℕ, Bool as Truth, false, List, [], ◌∷◌, Option, Some, None, Result, length, map, slice_get, sum_by}
+use Rattle.std.specs.Prelude.{◌==◌, ◌&&◌, ℕ, Bool as Boolean, false, List, [], ◌∷◌, Option, Some, None, Result, length, map, slice_get, sum_by}
 use Rattle.std.specs.List.{enumerate_from}
 use Rattle.naga_ir.specs.Sizes.{components}
 use Rattle.naga_ir.specs.contracts.types.ScalarPartialEq.TheImpl as of_scalar
@@ -15,13 +15,13 @@ use Rattle.naga_typing.specs.Resolutions.{inner_in}
 use Rattle.naga_typing.specs.Sameness.{are_same}
 use Rattle.naga_typing.specs.declared.typifier.TypeResolution.{TypeResolution}
 use Rattle.naga_typing.specs.declared.typifier.TypeResolution.TheVariants.{Handle}
-use Rattle.naga_types.specs.Judging.{first, judged, unless}
+use Rattle.naga_types.specs.Checks.{first, first_error_or, require}
 use Rattle.naga_types.specs.Layouts.{saturated}
 use Rattle.naga_types.specs.declared.error.ComposeError.{ComposeError}
 use Rattle.naga_types.specs.declared.error.ComposeError.TheVariants.{ComponentCount, ComponentType, Type_}
 
 -- whether a form is a scalar, or a vector of it
-abbrev pub is_part_of : ScalarType → Option TypeInner → Truth
+abbrev pub is_part_of : ScalarType → Option TypeInner → Boolean
 is_part_of scalar (Some (Scalar s)) = of_scalar.ghosts.eq s scalar
 is_part_of scalar (Some (Vector size s)) = of_scalar.ghosts.eq s scalar
 is_part_of scalar (Some (Matrix columns rows s)) = false
@@ -57,7 +57,7 @@ parts_in (Some (BindingArray base size)) = 1
 parts_in None = 1
 
 -- whether a form is a vector of this size and scalar
-abbrev pub is_vector_of : VectorSize → ScalarType → Option TypeInner → Truth
+abbrev pub is_vector_of : VectorSize → ScalarType → Option TypeInner → Boolean
 is_vector_of rows scalar (Some (Vector size s)) = of_size.ghosts.eq size rows && of_scalar.ghosts.eq s scalar
 is_vector_of rows scalar (Some (Scalar s)) = false
 is_vector_of rows scalar (Some (Matrix columns column s)) = false
@@ -75,57 +75,57 @@ is_vector_of rows scalar (Some (BindingArray base size)) = false
 is_vector_of rows scalar None = false
 
 -- whether a resolution is of a type of the module
-abbrev pub is_of : List «Type» → ℕ → TypeResolution → Truth
+abbrev pub is_of : List «Type» → ℕ → TypeResolution → Boolean
 is_of types t r = are_same types (Handle t) r
 
 -- whether it is of the type of a member
-abbrev pub is_of_member : List «Type» → Option StructMember → TypeResolution → Truth
+abbrev pub is_of_member : List «Type» → Option StructMember → TypeResolution → Boolean
 is_of_member types (Some m) r = is_of types m.ty r
 is_of_member types None r = false
 
 -- a component fits at its place
-abbrev pub misfit : (ℕ × TypeResolution → Truth) → ℕ × TypeResolution → Option ComposeError
-misfit fits at = unless (fits at) (ComponentType (saturated at.0))
+abbrev pub component_type_error : (ℕ × TypeResolution → Boolean) → ℕ × TypeResolution → Option ComposeError
+component_type_error fits at = require (fits at) (ComponentType (saturated at.0))
 
 -- the first component that does not fit
-abbrev pub first_misfit : (ℕ × TypeResolution → Truth) → List TypeResolution → Option ComposeError
-first_misfit fits given = first (map (misfit fits) (enumerate_from 0 given))
+abbrev pub first_component_type_error : (ℕ × TypeResolution → Boolean) → List TypeResolution → Option ComposeError
+first_component_type_error fits given = first (map (component_type_error fits) (enumerate_from 0 given))
 
 -- there are as many components as there should be
-abbrev pub miscount : ℕ → ℕ → Option ComposeError
-miscount given expected = unless (given == expected) (ComponentCount (saturated given) (saturated expected))
+abbrev pub component_count_error : ℕ → ℕ → Option ComposeError
+component_count_error given expected = require (given == expected) (ComponentCount (saturated given) (saturated expected))
 
 -- how many components of a vector these are
 abbrev pub all_parts : List «Type» → List TypeResolution → ℕ
 all_parts types given = sum_by (λ r. parts_in (inner_in types r)) given
 
 -- the conditions of the components of a type: of a vector first what they are, and then how many, of others first how many
-abbrev pub compose_conditions : List «Type» → ℕ → Option TypeInner → List TypeResolution → List (Option ComposeError)
-compose_conditions types t (Some (Vector size scalar)) given =
-    first_misfit (λ at. is_part_of scalar (inner_in types at.1)) given ∷ miscount (all_parts types given) (components size) ∷ []
-compose_conditions types t (Some (Matrix columns rows scalar)) given =
-    miscount (length given) (components columns) ∷ first_misfit (λ at. is_vector_of rows scalar (inner_in types at.1)) given ∷ []
-compose_conditions types t (Some (Array base (Constant count) stride)) given =
-    miscount (length given) count.value ∷ first_misfit (λ at. is_of types base at.1) given ∷ []
-compose_conditions types t (Some (Struct members span)) given =
-    miscount (length given) (length members) ∷ first_misfit (λ at. is_of_member types (slice_get members at.0) at.1) given ∷ []
-compose_conditions types t (Some (Array base (Pending over) stride)) given = Some (Type_ t) ∷ []
-compose_conditions types t (Some (Array base Dynamic stride)) given = Some (Type_ t) ∷ []
-compose_conditions types t (Some (Scalar scalar)) given = Some (Type_ t) ∷ []
-compose_conditions types t (Some (CooperativeMatrix columns rows scalar role)) given = Some (Type_ t) ∷ []
-compose_conditions types t (Some (Atomic scalar)) given = Some (Type_ t) ∷ []
-compose_conditions types t (Some (Pointer base space)) given = Some (Type_ t) ∷ []
-compose_conditions types t (Some (ValuePointer size scalar space)) given = Some (Type_ t) ∷ []
-compose_conditions types t (Some (Image dim arrayed class)) given = Some (Type_ t) ∷ []
-compose_conditions types t (Some (Sampler comparison)) given = Some (Type_ t) ∷ []
-compose_conditions types t (Some (AccelerationStructure vertex_return)) given = Some (Type_ t) ∷ []
-compose_conditions types t (Some (RayQuery vertex_return)) given = Some (Type_ t) ∷ []
-compose_conditions types t (Some (BindingArray base size)) given = Some (Type_ t) ∷ []
-compose_conditions types t None given = Some (Type_ t) ∷ []
+abbrev pub compose_checks : List «Type» → ℕ → Option TypeInner → List TypeResolution → List (Option ComposeError)
+compose_checks types t (Some (Vector size scalar)) given =
+    first_component_type_error (λ at. is_part_of scalar (inner_in types at.1)) given ∷ component_count_error (all_parts types given) (components size) ∷ []
+compose_checks types t (Some (Matrix columns rows scalar)) given =
+    component_count_error (length given) (components columns) ∷ first_component_type_error (λ at. is_vector_of rows scalar (inner_in types at.1)) given ∷ []
+compose_checks types t (Some (Array base (Constant count) stride)) given =
+    component_count_error (length given) count.value ∷ first_component_type_error (λ at. is_of types base at.1) given ∷ []
+compose_checks types t (Some (Struct members span)) given =
+    component_count_error (length given) (length members) ∷ first_component_type_error (λ at. is_of_member types (slice_get members at.0) at.1) given ∷ []
+compose_checks types t (Some (Array base (Pending over) stride)) given = Some (Type_ t) ∷ []
+compose_checks types t (Some (Array base Dynamic stride)) given = Some (Type_ t) ∷ []
+compose_checks types t (Some (Scalar scalar)) given = Some (Type_ t) ∷ []
+compose_checks types t (Some (CooperativeMatrix columns rows scalar role)) given = Some (Type_ t) ∷ []
+compose_checks types t (Some (Atomic scalar)) given = Some (Type_ t) ∷ []
+compose_checks types t (Some (Pointer base space)) given = Some (Type_ t) ∷ []
+compose_checks types t (Some (ValuePointer size scalar space)) given = Some (Type_ t) ∷ []
+compose_checks types t (Some (Image dim arrayed class)) given = Some (Type_ t) ∷ []
+compose_checks types t (Some (Sampler comparison)) given = Some (Type_ t) ∷ []
+compose_checks types t (Some (AccelerationStructure vertex_return)) given = Some (Type_ t) ∷ []
+compose_checks types t (Some (RayQuery vertex_return)) given = Some (Type_ t) ∷ []
+compose_checks types t (Some (BindingArray base size)) given = Some (Type_ t) ∷ []
+compose_checks types t None given = Some (Type_ t) ∷ []
 
 -- whether a type may be composed of components
 abbrev pub compose_rule : List «Type» → ℕ → List TypeResolution → Result (Unit {0}) ComposeError
-compose_rule types t given = judged (compose_conditions types t (inner_in types (Handle t)) given) tt
+compose_rule types t given = first_error_or (compose_checks types t (inner_in types (Handle t)) given) tt
 
 -- a resolution, or if there is none that of the first type
 abbrev pub resolution_in : Option TypeResolution → TypeResolution

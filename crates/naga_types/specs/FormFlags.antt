@@ -1,5 +1,5 @@
 -- What types of each form may be used for at most, and what flags parts of types must have.
-use Rattle.std.specs.Prelude.{ℕ, Bool as Truth, true, false, [], ◌∷◌, if◌then◌else◌}
+use Rattle.std.specs.Prelude.{ℕ, Bool as Boolean, true, false, [], ◌∷◌, if◌then◌else◌}
 use Rattle.naga_flags.specs.Bits.{ARGUMENT, CONSTRUCTIBLE, COPY, CREATION_RESOLVED, DATA, HOST_SHAREABLE, SIZED, all_type_flags, union_of}
 use Rattle.naga_ir.specs.Sizes.{is_numeric}
 use Rattle.naga_ir.specs.declared.types.AddressSpace.{AddressSpace}
@@ -21,7 +21,7 @@ abbrev pub scalar_flags : ScalarKind → ℕ
 scalar_flags kind = if is_numeric kind then all_type_flags else value_flags
 
 -- pointers into these spaces may be arguments
-abbrev pub is_argument_space : AddressSpace → Truth
+abbrev pub is_argument_space : AddressSpace → Boolean
 is_argument_space Function = true
 is_argument_space Private = true
 is_argument_space RayPayload = true

@@ -10,7 +10,7 @@ use Rattle.naga_ir.specs.declared.types.StructMember.{StructMember}
 use Rattle.naga_ir.specs.declared.types.TypeInner.{TypeInner}
 use Rattle.naga_ir.specs.declared.types.TypeInner.TheVariants as form
 use Rattle.naga_typing.specs.Layout.{alignment_at, greatest}
-use Rattle.naga_types.specs.Judging.{first, judged, last, unless}
+use Rattle.naga_types.specs.Checks.{first, first_error_or, last, require}
 use Rattle.naga_types.specs.Surroundings.{Surroundings, flags_at, form_at, info_at}
 use Rattle.naga_types.specs.declared.error.Disalignment.{Disalignment}
 use Rattle.naga_types.specs.declared.error.Disalignment.TheVariants.{MemberOffset, MemberOffsetAfterStruct, NonHostShareable, StructSpan, UnsizedMember}
@@ -37,24 +37,24 @@ abbrev pub saturated : ℕ → ℕ
 saturated n = min n largest_u32
 
 -- the failure of a struct whose span is not a multiple of its alignment
-abbrev pub span_failure : Surroundings → ℕ → ℕ → Option (ℕ × Disalignment)
-span_failure s t span = unless (span % alignment_at s.layouts t == 0) (t, StructSpan span (alignment_at s.layouts t))
+abbrev pub span_error : Surroundings → ℕ → ℕ → Option (ℕ × Disalignment)
+span_error s t span = require (span % alignment_at s.layouts t == 0) (t, StructSpan span (alignment_at s.layouts t))
 
 -- the failure of a member that does not stand at a multiple of its own alignment, or has none
-abbrev pub offset_failure : ℕ → ℕ → ℕ → Layout → Option (ℕ × Disalignment)
-offset_failure t i offset (Err e) = Some e
-offset_failure t i offset (Ok a) = unless (offset % a == 0) (t, MemberOffset (saturated i) offset a)
+abbrev pub offset_error : ℕ → ℕ → ℕ → Layout → Option (ℕ × Disalignment)
+offset_error t i offset (Err e) = Some e
+offset_error t i offset (Ok a) = require (offset % a == 0) (t, MemberOffset (saturated i) offset a)
 
 -- the failure of a member that is not host-shareable, or not aligned
-abbrev pub member_failure : Surroundings → (TypeInfo → Layout) → ℕ → ℕ × StructMember → Option (ℕ × Disalignment)
-member_failure s layout t at =
+abbrev pub member_layout_error : Surroundings → (TypeInfo → Layout) → ℕ → ℕ × StructMember → Option (ℕ × Disalignment)
+member_layout_error s layout t at =
     option_or
-    (unless (has (flags_at s at.1.ty) HOST_SHAREABLE) (at.1.ty, NonHostShareable))
-    (offset_failure t at.0 at.1.offset (layout (info_at s at.1.ty)))
+    (require (has (flags_at s at.1.ty) HOST_SHAREABLE) (at.1.ty, NonHostShareable))
+    (offset_error t at.0 at.1.offset (layout (info_at s at.1.ty)))
 
 -- the failures of all members
-abbrev pub member_failures : Surroundings → (TypeInfo → Layout) → ℕ → List StructMember → List (Option (ℕ × Disalignment))
-member_failures s layout t members = map (member_failure s layout t) (enumerate_from 0 members)
+abbrev pub member_layout_errors : Surroundings → (TypeInfo → Layout) → ℕ → List StructMember → List (Option (ℕ × Disalignment))
+member_layout_errors s layout t members = map (member_layout_error s layout t) (enumerate_from 0 members)
 
 -- the greatest alignment of the members, and 1 if none has one
 abbrev pub greatest_alignment : Surroundings → (TypeInfo → Layout) → List StructMember → ℕ
@@ -63,30 +63,30 @@ greatest_alignment s layout members = greatest (map (λ (m : StructMember). resu
 -- the layout in the storage address space: the span and all members are aligned
 abbrev pub storage_layout_of : Surroundings → ℕ → List StructMember → ℕ → Layout
 storage_layout_of s t members span =
-    judged (span_failure s t span ∷ first (member_failures s in_storage t members) ∷ []) (greatest_alignment s in_storage members)
+    first_error_or (span_error s t span ∷ first (member_layout_errors s in_storage t members) ∷ []) (greatest_alignment s in_storage members)
 
 -- the least multiple of that least alignment that is `n` bytes or more
 abbrev pub rounded_up : ℕ → ℕ
 rounded_up n = (n + (min_uniform - 1)) / min_uniform * min_uniform
 
 -- the first byte that may follow a member in the uniform address space, if the member is a struct
-abbrev pub room_of : Option StructMember → Option TypeInner → ℕ
-room_of None inner = 0
-room_of (Some m) (Some (form.Struct members span)) = m.offset + rounded_up span
-room_of (Some m) (Some (form.Scalar scalar)) = 0
-room_of (Some m) (Some (form.Vector size scalar)) = 0
-room_of (Some m) (Some (form.Matrix columns rows scalar)) = 0
-room_of (Some m) (Some (form.CooperativeMatrix columns rows scalar role)) = 0
-room_of (Some m) (Some (form.Atomic scalar)) = 0
-room_of (Some m) (Some (form.Pointer base space)) = 0
-room_of (Some m) (Some (form.ValuePointer size scalar space)) = 0
-room_of (Some m) (Some (form.Array base size stride)) = 0
-room_of (Some m) (Some (form.Image dim arrayed class)) = 0
-room_of (Some m) (Some (form.Sampler comparison)) = 0
-room_of (Some m) (Some (form.AccelerationStructure vertex_return)) = 0
-room_of (Some m) (Some (form.RayQuery vertex_return)) = 0
-room_of (Some m) (Some (form.BindingArray base size)) = 0
-room_of (Some m) None = 0
+abbrev pub end_after_struct : Option StructMember → Option TypeInner → ℕ
+end_after_struct None inner = 0
+end_after_struct (Some m) (Some (form.Struct members span)) = m.offset + rounded_up span
+end_after_struct (Some m) (Some (form.Scalar scalar)) = 0
+end_after_struct (Some m) (Some (form.Vector size scalar)) = 0
+end_after_struct (Some m) (Some (form.Matrix columns rows scalar)) = 0
+end_after_struct (Some m) (Some (form.CooperativeMatrix columns rows scalar role)) = 0
+end_after_struct (Some m) (Some (form.Atomic scalar)) = 0
+end_after_struct (Some m) (Some (form.Pointer base space)) = 0
+end_after_struct (Some m) (Some (form.ValuePointer size scalar space)) = 0
+end_after_struct (Some m) (Some (form.Array base size stride)) = 0
+end_after_struct (Some m) (Some (form.Image dim arrayed class)) = 0
+end_after_struct (Some m) (Some (form.Sampler comparison)) = 0
+end_after_struct (Some m) (Some (form.AccelerationStructure vertex_return)) = 0
+end_after_struct (Some m) (Some (form.RayQuery vertex_return)) = 0
+end_after_struct (Some m) (Some (form.BindingArray base size)) = 0
+end_after_struct (Some m) None = 0
 
 -- the form of a member, if there is one
 abbrev pub form_of : Surroundings → Option StructMember → Option TypeInner
@@ -99,29 +99,29 @@ before members zero = None
 before members (suc i) = slice_get members i
 
 -- the first byte that may follow the member before the one at a place, if that is a struct
-abbrev pub room_before : Surroundings → List StructMember → ℕ → ℕ
-room_before s members i = room_of (before members i) (form_of s (before members i))
+abbrev pub end_after_struct_before : Surroundings → List StructMember → ℕ → ℕ
+end_after_struct_before s members i = end_after_struct (before members i) (form_of s (before members i))
 
 -- the failure of a member that begins in the room of the struct before it
-abbrev pub room_failure : Surroundings → ℕ → List StructMember → ℕ × StructMember → Option (ℕ × Disalignment)
-room_failure s t members at =
-    unless (leb (room_before s members at.0) at.1.offset) (t, MemberOffsetAfterStruct (saturated at.0) at.1.offset (saturated (room_before s members at.0)))
+abbrev pub padding_error : Surroundings → ℕ → List StructMember → ℕ × StructMember → Option (ℕ × Disalignment)
+padding_error s t members at =
+    require (leb (end_after_struct_before s members at.0) at.1.offset) (t, MemberOffsetAfterStruct (saturated at.0) at.1.offset (saturated (end_after_struct_before s members at.0)))
 
 -- the failure of the last such member
-abbrev pub last_room_failure : Surroundings → ℕ → List StructMember → Option (ℕ × Disalignment)
-last_room_failure s t members = last (map (room_failure s t members) (enumerate_from 0 members))
+abbrev pub last_padding_error : Surroundings → ℕ → List StructMember → Option (ℕ × Disalignment)
+last_padding_error s t members = last (map (padding_error s t members) (enumerate_from 0 members))
 
 -- the failure of a member without a fixed size
-abbrev pub size_failure : Surroundings → ℕ → ℕ × StructMember → Option (ℕ × Disalignment)
-size_failure s t at = unless (has (flags_at s at.1.ty) SIZED) (t, UnsizedMember (saturated at.0))
+abbrev pub unsized_error : Surroundings → ℕ → ℕ × StructMember → Option (ℕ × Disalignment)
+unsized_error s t at = require (has (flags_at s at.1.ty) SIZED) (t, UnsizedMember (saturated at.0))
 
 -- these failures of all members
-abbrev pub size_failures : Surroundings → ℕ → List StructMember → List (Option (ℕ × Disalignment))
-size_failures s t members = map (size_failure s t) (enumerate_from 0 members)
+abbrev pub unsized_errors : Surroundings → ℕ → List StructMember → List (Option (ℕ × Disalignment))
+unsized_errors s t members = map (unsized_error s t) (enumerate_from 0 members)
 
 -- the layout in the uniform address space: the span and all members are aligned, each member after a struct leaves that its room, all have fixed sizes, and the alignment is at least that of all structs there
 abbrev pub uniform_layout_of : Surroundings → ℕ → List StructMember → ℕ → Layout
 uniform_layout_of s t members span =
-    judged
-    (span_failure s t span ∷ last_room_failure s t members ∷ first (member_failures s in_uniform t members) ∷ first (size_failures s t members) ∷ [])
+    first_error_or
+    (span_error s t span ∷ last_padding_error s t members ∷ first (member_layout_errors s in_uniform t members) ∷ first (unsized_errors s t members) ∷ [])
     (max (greatest_alignment s in_uniform members) min_uniform)

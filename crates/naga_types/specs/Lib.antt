@@ -1,7 +1,7 @@
 -- To read first:
 -- TypeRule.type_rule: the info of a type, or the first condition of its form that it breaks
 -- Surroundings.Surroundings: what a type is judged by beside its form
--- Judging.judged: a value, unless one of a list of conditions is broken
+-- Checks.first_error_or: a value, unless one of a list of conditions is broken
 -- FormFlags: what types of each form may be used for at most
 -- StructRule.struct_rule: the conditions of a struct and of its members, and what a struct may be used for
 -- Layouts.uniform_layout_of, storage_layout_of: the layouts of a struct, or why it has none
@@ -17,7 +17,7 @@ pub mod FormFlags
 pub mod HostLayouts
 pub mod HostLeaves
 pub mod Infos
-pub mod Judging
+pub mod Checks
 pub mod Layouts
 pub mod RuleResults
 pub mod StructRule

@@ -8,7 +8,7 @@ use Rattle.naga_ir.specs.declared.types.TypeInner.{TypeInner}
 use Rattle.naga_ir.specs.declared.types.TypeInner.TheVariants as form
 use Rattle.naga_ir.specs.declared.types.VectorSize.{VectorSize}
 use Rattle.naga_ir.specs.declared.types.VectorSize.TheVariants.{Bi, Tri, Quad}
-use Rattle.naga_types.specs.Judging.{only_if}
+use Rattle.naga_types.specs.Checks.{when}
 use Rattle.naga_types.specs.TypeRule.{is_integer}
 
 -- a count is written in the module
@@ -42,8 +42,8 @@ dimension_of Quad = None
 
 -- integers are coordinates in storage images: one, two or three of them
 abbrev pub image_storage_coordinates : TypeInner → Option ImageDimension
-image_storage_coordinates (form.Scalar scalar) = only_if (is_integer scalar.kind) (Some D1)
-image_storage_coordinates (form.Vector size scalar) = only_if (is_integer scalar.kind) (dimension_of size)
+image_storage_coordinates (form.Scalar scalar) = when (is_integer scalar.kind) (Some D1)
+image_storage_coordinates (form.Vector size scalar) = when (is_integer scalar.kind) (dimension_of size)
 image_storage_coordinates (form.Matrix columns rows scalar) = None
 image_storage_coordinates (form.CooperativeMatrix columns rows scalar role) = None
 image_storage_coordinates (form.Atomic scalar) = None

@@ -1,8 +1,8 @@
 -- The rule of one type, by its form.
-use Rattle.std.specs.Prelude.{◌==◌, ◌&&◌, ◌||◌, not, max, ℕ, ◌%◌, Bool as Truth, true, false, List, [], ◌∷◌, Option, Some, None, Result, Ok, Err, bit_and, is_some, if◌then◌else◌}
+use Rattle.std.specs.Prelude.{◌==◌, ◌&&◌, ◌||◌, not, max, ℕ, ◌%◌, Bool as Boolean, true, false, List, [], ◌∷◌, Option, Some, None, Result, Ok, Err, bit_and, is_some, if◌then◌else◌}
 use Rattle.naga_flags.specs.Bits.{COOPERATIVE_MATRIX, CREATION_RESOLVED, CUBE_ARRAY_TEXTURES, DATA, RAY_HIT_VERTEX_POSITION, RAY_QUERY, RAY_TRACING_PIPELINE, SHADER_FLOAT32_ATOMIC, SHADER_INT64_ATOMIC_ALL_OPS, SHADER_INT64_ATOMIC_MIN_MAX, SIZED, TEXTURE_EXTERNAL}
 use Rattle.naga_flags.specs.Flags.{has}
-use Rattle.naga_flags.specs.Width.{immediates_of, is_good_width, width_16, width_32, width_64, width_refusal}
+use Rattle.naga_flags.specs.Width.{immediates_of, is_good_width, width_16, width_32, width_64, width_error}
 use Rattle.naga_ir.specs.ItemReferences.{GlobalLists}
 use Rattle.naga_ir.specs.declared.types.AddressSpace.{AddressSpace}
 use Rattle.naga_ir.specs.declared.types.AddressSpace.TheVariants.{Function, Private, WorkGroup, Uniform, Storage, Handle, Immediate, TaskPayload, RayPayload, IncomingRayPayload}
@@ -20,7 +20,7 @@ use Rattle.naga_ir.specs.declared.types.TypeInner.TheVariants as form
 use Rattle.naga_typing.specs.Constants.{override_count}
 use Rattle.naga_typing.specs.Layout.{alignment_at}
 use Rattle.naga_types.specs.FormFlags.{array_flags, atomic_flags, binding_array_flags, element_flags, opaque_flags, pointer_flags, ray_query_flags, scalar_flags, unshared_flags}
-use Rattle.naga_types.specs.Judging.{granted, judged, only_if, unless}
+use Rattle.naga_types.specs.Checks.{ok_unless, first_error_or, when, require}
 use Rattle.naga_types.specs.Layouts.{Layout, min_uniform}
 use Rattle.naga_types.specs.StructRule.{struct_rule}
 use Rattle.naga_types.specs.Surroundings.{Surroundings, flags_at, form_at, info_at, shared}
@@ -30,7 +30,7 @@ use Rattle.naga_types.specs.declared.error.TypeError.TheVariants.{MissingCapabil
 use Rattle.naga_types.specs.declared.info.TypeInfo.{TypeInfo}
 
 -- a space is that of storage buffers
-abbrev pub is_storage : AddressSpace → Truth
+abbrev pub is_storage : AddressSpace → Boolean
 is_storage (Storage access) = true
 is_storage Function = false
 is_storage Private = false
@@ -43,7 +43,7 @@ is_storage RayPayload = false
 is_storage IncomingRayPayload = false
 
 -- a kind is one of whole numbers
-abbrev pub is_integer : ScalarKind → Truth
+abbrev pub is_integer : ScalarKind → Boolean
 is_integer Sint = true
 is_integer Uint = true
 is_integer Float = false
@@ -52,7 +52,7 @@ is_integer AbstractInt = false
 is_integer AbstractFloat = false
 
 -- a kind is that of floating-point numbers
-abbrev pub is_float : ScalarKind → Truth
+abbrev pub is_float : ScalarKind → Boolean
 is_float Float = true
 is_float Sint = false
 is_float Uint = false
@@ -61,41 +61,41 @@ is_float AbstractInt = false
 is_float AbstractFloat = false
 
 -- the refusal of a type whose capability is missing
-abbrev pub lacks : ℕ → ℕ → Option TypeError
-lacks capabilities flag = unless (has capabilities flag) (MissingCapability (record { 0 = flag }))
+abbrev pub capability_error : ℕ → ℕ → Option TypeError
+capability_error capabilities flag = require (has capabilities flag) (MissingCapability (record { 0 = flag }))
 
 -- the refusal of a scalar whose width is not allowed
-abbrev pub bad_width : ℕ → Scalar → Option TypeError
-bad_width capabilities scalar = unless (is_good_width capabilities scalar) (WidthError (width_refusal scalar))
+abbrev pub scalar_error : ℕ → Scalar → Option TypeError
+scalar_error capabilities scalar = require (is_good_width capabilities scalar) (WidthError (width_error scalar))
 
 -- the info of a type made of scalars: immediates may hold it if they may hold these
 abbrev pub of_scalars : ℕ → ℕ → Scalar → TypeInfo
 of_scalars flags alignment scalar = record (shared flags alignment) { immediates_compatibility = immediates_of scalar }
 
 -- the refusal of a scalar that is not allowed in an atomic: allowed are integers of 32 bits, with a capability those of 64, and with another floating-point numbers of 32
-abbrev pub bad_atomic : ℕ → Scalar → Option TypeError
-bad_atomic capabilities s =
+abbrev pub atomic_error : ℕ → Scalar → Option TypeError
+atomic_error capabilities s =
     if is_integer s.kind && s.width == width_32 then None
-    else if is_integer s.kind && s.width == width_64 then unless (has capabilities SHADER_INT64_ATOMIC_MIN_MAX || has capabilities SHADER_INT64_ATOMIC_ALL_OPS) (MissingCapability (record { 0 = SHADER_INT64_ATOMIC_ALL_OPS }))
-    else if is_float s.kind && s.width == width_32 then lacks capabilities SHADER_FLOAT32_ATOMIC
+    else if is_integer s.kind && s.width == width_64 then require (has capabilities SHADER_INT64_ATOMIC_MIN_MAX || has capabilities SHADER_INT64_ATOMIC_ALL_OPS) (MissingCapability (record { 0 = SHADER_INT64_ATOMIC_ALL_OPS }))
+    else if is_float s.kind && s.width == width_32 then capability_error capabilities SHADER_FLOAT32_ATOMIC
     else Some (InvalidAtomicWidth s.kind s.width)
 
 -- the conditions of a cooperative matrix: a capability, and floating-point numbers of 16 or 32 bits
-abbrev pub cooperative_conditions : ℕ → Scalar → List (Option TypeError)
-cooperative_conditions capabilities scalar =
-    lacks capabilities COOPERATIVE_MATRIX ∷
-    unless (is_float scalar.kind && (scalar.width == width_16 || scalar.width == width_32)) MatrixElementNotFloat ∷
+abbrev pub cooperative_checks : ℕ → Scalar → List (Option TypeError)
+cooperative_checks capabilities scalar =
+    capability_error capabilities COOPERATIVE_MATRIX ∷
+    require (is_float scalar.kind && (scalar.width == width_16 || scalar.width == width_32)) MatrixElementNotFloat ∷
     []
 
 -- the conditions of a pointer, by what its base may be used for: it is to data, which has a fixed size or stands in a storage buffer
-abbrev pub pointer_conditions : ℕ → ℕ → AddressSpace → List (Option TypeError)
-pointer_conditions flags base space =
-    unless (has flags DATA) (InvalidPointerBase base) ∷
-    unless (has flags SIZED || is_storage space) (InvalidPointerToUnsized base space) ∷
+abbrev pub pointer_checks : ℕ → ℕ → AddressSpace → List (Option TypeError)
+pointer_checks flags base space =
+    require (has flags DATA) (InvalidPointerBase base) ∷
+    require (has flags SIZED || is_storage space) (InvalidPointerToUnsized base space) ∷
     []
 
 -- an override that sizes an array gives a count
-abbrev pub has_count : GlobalLists → ArraySize → Truth
+abbrev pub has_count : GlobalLists → ArraySize → Boolean
 has_count g (Pending o) = is_some (override_count g o)
 has_count g (Constant n) = true
 has_count g Dynamic = true
@@ -103,13 +103,13 @@ has_count g Dynamic = true
 -- the layout of an array in an address space: its alignment is that of its base there, and at least `least`, and its stride is a multiple of that
 abbrev pub array_layout : ℕ → ℕ → ℕ → Layout → Layout
 array_layout handle least stride (Err e) = Err e
-array_layout handle least stride (Ok base) = granted (unless (stride % max base least == 0) (handle, ArrayStride stride (max base least))) (max base least)
+array_layout handle least stride (Ok base) = ok_unless (require (stride % max base least == 0) (handle, ArrayStride stride (max base least))) (max base least)
 
 -- the conditions of an array: elements of a fixed size that is known when a module is created, and a count if overrides must have their values
-abbrev pub array_conditions : Surroundings → ℕ → ℕ → ArraySize → List (Option TypeError)
-array_conditions s handle base size =
-    unless (has (flags_at s base) element_flags) (InvalidArrayBaseType base) ∷
-    only_if s.resolved (unless (has_count s.lists size) (InvalidArraySize handle)) ∷
+abbrev pub array_checks : Surroundings → ℕ → ℕ → ArraySize → List (Option TypeError)
+array_checks s handle base size =
+    require (has (flags_at s base) element_flags) (InvalidArrayBaseType base) ∷
+    when s.resolved (require (has_count s.lists size) (InvalidArraySize handle)) ∷
     []
 
 -- the info of an array: in uniform buffers it has at least the alignment that those ask of arrays
@@ -125,59 +125,59 @@ array_info s handle base size stride =
     }
 
 -- an image has three coordinates
-abbrev pub is_solid : ImageDimension → Truth
+abbrev pub is_solid : ImageDimension → Boolean
 is_solid D3 = true
 is_solid D1 = false
 is_solid D2 = false
 is_solid Cube = false
 
 -- an image is of the six sides of a cube
-abbrev pub is_cube : ImageDimension → Truth
+abbrev pub is_cube : ImageDimension → Boolean
 is_cube Cube = true
 is_cube D1 = false
 is_cube D2 = false
 is_cube D3 = false
 
 -- an image has two coordinates
-abbrev pub is_flat : ImageDimension → Truth
+abbrev pub is_flat : ImageDimension → Boolean
 is_flat D2 = true
 is_flat D1 = false
 is_flat D3 = false
 is_flat Cube = false
 
 -- an image is an external texture
-abbrev pub is_external : ImageClass → Truth
+abbrev pub is_external : ImageClass → Boolean
 is_external image.External = true
 is_external (image.Sampled kind multi) = false
 is_external (image.Depth multi) = false
 is_external (image.Storage format access) = false
 
 -- the conditions of an image: none with three coordinates is arrayed, arrayed cubes need a capability, and external images are flat, single, and need another
-abbrev pub image_conditions : ℕ → ImageDimension → Truth → ImageClass → List (Option TypeError)
-image_conditions capabilities dim arrayed class =
-    unless (not (arrayed && is_solid dim)) (UnsupportedImageType dim arrayed class) ∷
-    only_if (arrayed && is_cube dim) (lacks capabilities CUBE_ARRAY_TEXTURES) ∷
-    only_if (is_external class) (unless (is_flat dim && not arrayed) (UnsupportedImageType dim arrayed class)) ∷
-    only_if (is_external class) (lacks capabilities TEXTURE_EXTERNAL) ∷
+abbrev pub image_checks : ℕ → ImageDimension → Boolean → ImageClass → List (Option TypeError)
+image_checks capabilities dim arrayed class =
+    require (not (arrayed && is_solid dim)) (UnsupportedImageType dim arrayed class) ∷
+    when (arrayed && is_cube dim) (capability_error capabilities CUBE_ARRAY_TEXTURES) ∷
+    when (is_external class) (require (is_flat dim && not arrayed) (UnsupportedImageType dim arrayed class)) ∷
+    when (is_external class) (capability_error capabilities TEXTURE_EXTERNAL) ∷
     []
 
 -- the refusal of vertices of a hit, if they are to be returned and their capability is missing
-abbrev pub vertex_return_condition : ℕ → Truth → Option TypeError
-vertex_return_condition capabilities vertex_return = only_if vertex_return (lacks capabilities RAY_HIT_VERTEX_POSITION)
+abbrev pub vertex_return_condition : ℕ → Boolean → Option TypeError
+vertex_return_condition capabilities vertex_return = when vertex_return (capability_error capabilities RAY_HIT_VERTEX_POSITION)
 
 -- the conditions of an acceleration structure: one of two capabilities, and another if it gives the vertices of a hit
-abbrev pub acceleration_conditions : ℕ → Truth → List (Option TypeError)
-acceleration_conditions capabilities vertex_return =
-    unless (has capabilities RAY_TRACING_PIPELINE || has capabilities RAY_QUERY) (MissingCapability (record { 0 = RAY_QUERY })) ∷
+abbrev pub acceleration_checks : ℕ → Boolean → List (Option TypeError)
+acceleration_checks capabilities vertex_return =
+    require (has capabilities RAY_TRACING_PIPELINE || has capabilities RAY_QUERY) (MissingCapability (record { 0 = RAY_QUERY })) ∷
     vertex_return_condition capabilities vertex_return ∷
     []
 
 -- the conditions of a ray query: a capability, and another if it gives the vertices of a hit
-abbrev pub ray_query_conditions : ℕ → Truth → List (Option TypeError)
-ray_query_conditions capabilities vertex_return = lacks capabilities RAY_QUERY ∷ vertex_return_condition capabilities vertex_return ∷ []
+abbrev pub ray_query_checks : ℕ → Boolean → List (Option TypeError)
+ray_query_checks capabilities vertex_return = capability_error capabilities RAY_QUERY ∷ vertex_return_condition capabilities vertex_return ∷ []
 
 -- a form is that of structs
-abbrev pub is_struct : Option TypeInner → Truth
+abbrev pub is_struct : Option TypeInner → Boolean
 is_struct (Some (form.Struct members span)) = true
 is_struct (Some (form.Scalar scalar)) = false
 is_struct (Some (form.Vector size scalar)) = false
@@ -195,7 +195,7 @@ is_struct (Some (form.BindingArray base size)) = false
 is_struct None = false
 
 -- a form is that of external images
-abbrev pub is_external_image : Option TypeInner → Truth
+abbrev pub is_external_image : Option TypeInner → Boolean
 is_external_image (Some (form.Image dim arrayed class)) = is_external class
 is_external_image (Some (form.Scalar scalar)) = false
 is_external_image (Some (form.Vector size scalar)) = false
@@ -213,30 +213,30 @@ is_external_image (Some (form.BindingArray base size)) = false
 is_external_image None = false
 
 -- the conditions of a binding array: data in structs, no external images, and elements whose size is known when a module is created
-abbrev pub binding_array_conditions : Surroundings → ℕ → List (Option TypeError)
-binding_array_conditions s base =
-    unless (not (has (flags_at s base) DATA) || is_struct (form_at s base)) (BindingArrayBaseTypeNotStruct base) ∷
-    unless (not (is_external_image (form_at s base))) BindingArrayBaseExternalTextures ∷
-    unless (has (flags_at s base) CREATION_RESOLVED) (InvalidData base) ∷
+abbrev pub binding_array_checks : Surroundings → ℕ → List (Option TypeError)
+binding_array_checks s base =
+    require (not (has (flags_at s base) DATA) || is_struct (form_at s base)) (BindingArrayBaseTypeNotStruct base) ∷
+    require (not (is_external_image (form_at s base))) BindingArrayBaseExternalTextures ∷
+    require (has (flags_at s base) CREATION_RESOLVED) (InvalidData base) ∷
     []
 
 -- the info of the type at a place, which has this form, or why it is refused
 abbrev pub type_rule : Surroundings → ℕ → TypeInner → Result TypeInfo TypeError
 type_rule s t (form.Scalar scalar) =
-    granted (bad_width s.capabilities scalar) (of_scalars (scalar_flags scalar.kind) (alignment_at s.layouts t) scalar)
+    ok_unless (scalar_error s.capabilities scalar) (of_scalars (scalar_flags scalar.kind) (alignment_at s.layouts t) scalar)
 type_rule s t (form.Vector size scalar) =
-    granted (bad_width s.capabilities scalar) (of_scalars (scalar_flags scalar.kind) (alignment_at s.layouts t) scalar)
+    ok_unless (scalar_error s.capabilities scalar) (of_scalars (scalar_flags scalar.kind) (alignment_at s.layouts t) scalar)
 type_rule s t (form.Matrix columns rows scalar) =
-    judged (unless (is_float scalar.kind) MatrixElementNotFloat ∷ bad_width s.capabilities scalar ∷ []) (of_scalars unshared_flags (alignment_at s.layouts t) scalar)
+    first_error_or (require (is_float scalar.kind) MatrixElementNotFloat ∷ scalar_error s.capabilities scalar ∷ []) (of_scalars unshared_flags (alignment_at s.layouts t) scalar)
 type_rule s t (form.CooperativeMatrix columns rows scalar role) =
-    judged (cooperative_conditions s.capabilities scalar) (shared unshared_flags (alignment_at s.layouts t))
-type_rule s t (form.Atomic scalar) = granted (bad_atomic s.capabilities scalar) (shared atomic_flags (alignment_at s.layouts t))
-type_rule s t (form.Pointer base space) = judged (pointer_conditions (flags_at s base) base space) (shared (pointer_flags space) 1)
-type_rule s t (form.ValuePointer size scalar space) = granted (bad_width s.capabilities scalar) (shared (pointer_flags space) 1)
-type_rule s t (form.Array base size stride) = judged (array_conditions s t base size) (array_info s t base size stride)
+    first_error_or (cooperative_checks s.capabilities scalar) (shared unshared_flags (alignment_at s.layouts t))
+type_rule s t (form.Atomic scalar) = ok_unless (atomic_error s.capabilities scalar) (shared atomic_flags (alignment_at s.layouts t))
+type_rule s t (form.Pointer base space) = first_error_or (pointer_checks (flags_at s base) base space) (shared (pointer_flags space) 1)
+type_rule s t (form.ValuePointer size scalar space) = ok_unless (scalar_error s.capabilities scalar) (shared (pointer_flags space) 1)
+type_rule s t (form.Array base size stride) = first_error_or (array_checks s t base size) (array_info s t base size stride)
 type_rule s t (form.Struct members span) = struct_rule s t members span
-type_rule s t (form.Image dim arrayed class) = judged (image_conditions s.capabilities dim arrayed class) (shared opaque_flags 1)
+type_rule s t (form.Image dim arrayed class) = first_error_or (image_checks s.capabilities dim arrayed class) (shared opaque_flags 1)
 type_rule s t (form.Sampler comparison) = Ok (shared opaque_flags 1)
-type_rule s t (form.AccelerationStructure vertex_return) = judged (acceleration_conditions s.capabilities vertex_return) (shared opaque_flags 1)
-type_rule s t (form.RayQuery vertex_return) = judged (ray_query_conditions s.capabilities vertex_return) (shared ray_query_flags 1)
-type_rule s t (form.BindingArray base size) = judged (binding_array_conditions s base) (shared (bit_and (flags_at s base) (binding_array_flags size)) 1)
+type_rule s t (form.AccelerationStructure vertex_return) = first_error_or (acceleration_checks s.capabilities vertex_return) (shared opaque_flags 1)
+type_rule s t (form.RayQuery vertex_return) = first_error_or (ray_query_checks s.capabilities vertex_return) (shared ray_query_flags 1)
+type_rule s t (form.BindingArray base size) = first_error_or (binding_array_checks s base) (shared (bit_and (flags_at s base) (binding_array_flags size)) 1)

@@ -3,7 +3,7 @@
 ghost use Rattle.std.specs.Prelude.{◌≡◌, ◌<◌, ◌≤◌, IfSome, bit_and, length};
 ghost use Rattle.naga_ir.specs.Handles.{GlobalReferencesOk};
 ghost use Rattle.naga_ir.specs.Parts.{pending};
-ghost use Rattle.naga_types.specs.Judging.{judged};
+ghost use Rattle.naga_types.specs.Checks.{first_error_or};
 ghost use Rattle.naga_types.specs.FormFlags as form;
 ghost use Rattle.naga_types.specs.Surroundings.{flags_at, shared, surroundings};
 ghost use Rattle.naga_types.specs.TypeRule as rule;
@@ -94,7 +94,7 @@ pub(crate) fn validate_array<'a>(
     requires before { base < handle }
     requires there { IfSome (pending size.now) (λ o. o < length gctx.overrides.now) }
     requires references { GlobalReferencesOk (lists_of gctx) }
-    ensures { result ≡ judged (rule.array_conditions (surroundings ctx.entry gctx.entry) handle base size.now) (rule.array_info (surroundings ctx.entry gctx.entry) handle base size.now stride) }
+    ensures { result ≡ first_error_or (rule.array_checks (surroundings ctx.entry gctx.entry) handle base size.now) (rule.array_info (surroundings ctx.entry gctx.entry) handle base size.now stride) }
 {
     let elements = TypeFlags::DATA
         .union(TypeFlags::SIZED)
@@ -124,9 +124,9 @@ pub(crate) fn validate_binding_array<'a>(
     base: Handle<TypeTag>,
     size: ArraySize,
 ) -> Result<TypeInfo, TypeError>
-    requires judged { base < length ctx.infos.now.infos }
+    requires known { base < length ctx.infos.now.infos }
     requires there { base < length gctx.types.now }
-    ensures { result ≡ judged (rule.binding_array_conditions (surroundings ctx.entry gctx.entry) base) (shared (bit_and (flags_at (surroundings ctx.entry gctx.entry) base) (form.binding_array_flags size)) 1) }
+    ensures { result ≡ first_error_or (rule.binding_array_checks (surroundings ctx.entry gctx.entry) base) (shared (bit_and (flags_at (surroundings ctx.entry gctx.entry) base) (form.binding_array_flags size)) 1) }
 {
     let flags = ctx.infos.get(base).flags;
     let inner = &gctx.types[base].inner;

@@ -4,7 +4,7 @@ ghost use Rattle.std.specs.Prelude.{◌≡◌, ◌<◌, [], ◌∷◌, All, Some
 ghost use Rattle.naga_ir.specs.Handles.{GlobalReferencesOk};
 ghost use Rattle.naga_ir.specs.Sizes as sizes;
 ghost use Rattle.naga_types.specs.Composing as rule;
-ghost use Rattle.naga_types.specs.Judging.{granted, judged};
+ghost use Rattle.naga_types.specs.Checks.{ok_unless, first_error_or};
 ghost use Rattle.naga_types.specs.Layouts as layouts;
 ghost use Rattle.naga_types.specs.steps.Components.{ComponentsExist, WantedExists, fits, resolutions_of};
 ghost use Rattle.naga_typing.specs.Context.{lists_of};
@@ -113,7 +113,7 @@ impl Wanted<'_> {
         requires wanted { WantedExists types.now self.now }
         requires components { ComponentsExist types.now components.now }
         requires parts { AllPartsExist types.now }
-        ensures { result ≡ granted (rule.first_misfit (fits types.now self.now) (resolutions_of components.now)) tt }
+        ensures { result ≡ ok_unless (rule.first_component_type_error (fits types.now self.now) (resolutions_of components.now)) tt }
     {
         for index in 0..components.len() {
             if !self.fits(index, components.get(index, types), types) {
@@ -134,7 +134,7 @@ impl Wanted<'_> {
         requires wanted { WantedExists types.now self.now }
         requires components { ComponentsExist types.now components.now }
         requires parts { AllPartsExist types.now }
-        ensures { result ≡ judged (rule.miscount (length (resolutions_of components.now)) expected ∷ rule.first_misfit (fits types.now self.now) (resolutions_of components.now) ∷ []) tt }
+        ensures { result ≡ first_error_or (rule.component_count_error (length (resolutions_of components.now)) expected ∷ rule.first_component_type_error (fits types.now self.now) (resolutions_of components.now) ∷ []) tt }
     {
         check_count(components.len() as u64, expected)?;
         self.check_each(components, types)
@@ -234,7 +234,7 @@ fn all_parts(components: &Components<'_>, types: &UniqueArena) -> u32
 
 /// Checks that there are as many components as expected.
 fn check_count(given: u64, expected: u64) -> Result<(), ComposeError>
-    ensures { result ≡ granted (rule.miscount given expected) tt }
+    ensures { result ≡ ok_unless (rule.component_count_error given expected) tt }
 {
     if given == expected {
         return Ok(());
@@ -252,7 +252,7 @@ fn check_parts(
     types: &UniqueArena,
 ) -> Result<(), ComposeError>
     requires components { ComponentsExist types.now components.now }
-    ensures { result ≡ granted (rule.miscount (rule.all_parts types.now (resolutions_of components.now)) (sizes.components size)) tt }
+    ensures { result ≡ ok_unless (rule.component_count_error (rule.all_parts types.now (resolutions_of components.now)) (sizes.components size)) tt }
 {
     let given = all_parts(components, types);
     check_count(u64::from(given), u64::from(size.components()))

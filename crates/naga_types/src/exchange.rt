@@ -26,7 +26,7 @@ pub fn validate_atomic_compare_exchange_struct<P: FnOnce(&TypeInner) -> bool>(
     members.len() == 2
         && is_named(&members[0], "old_value")
         && is_named(&members[1], "exchanged")
-        && is_boolean(&types[members[1].ty].inner)
+        && is_bool_type(&types[members[1].ty].inner)
         && scalar_predicate(&types[members[0].ty].inner)
 }
 
@@ -41,8 +41,8 @@ fn is_named(member: &StructMember, name: &str) -> bool
 }
 
 /// Whether values of a form are Booleans.
-fn is_boolean(inner: &TypeInner) -> bool
-    ensures { result ≡ spec.is_boolean (Some inner.now) }
+fn is_bool_type(inner: &TypeInner) -> bool
+    ensures { result ≡ spec.is_bool_type (Some inner.now) }
 {
     matches!(inner, TypeInner::Scalar(scalar) if *scalar == Scalar::BOOL)
 }

@@ -5,7 +5,7 @@ ghost use Rattle.std.specs.List.{enumerate_from, list_any};
 ghost use Rattle.naga_ir.specs.Handles.{GlobalReferencesOk};
 ghost use Rattle.naga_ir.specs.declared.types.StructMember as member;
 ghost use Rattle.naga_types.specs.RuleResults.{IsRuleResult};
-ghost use Rattle.naga_types.specs.Judging.{granted, judged};
+ghost use Rattle.naga_types.specs.Checks.{ok_unless, first_error_or};
 ghost use Rattle.naga_types.specs.Layouts as layouts;
 ghost use Rattle.naga_types.specs.StructRule as rule;
 ghost use Rattle.naga_types.specs.Surroundings.{info_at, surroundings};
@@ -58,7 +58,7 @@ struct Sources {
 impl Sources {
     /// Notes a source of blending, if a member is one.
     fn note(&mut self, capabilities: Capabilities, member: &StructMember) -> Result<(), TypeError>
-        ensures judged { result ≡ judged (rule.source_conditions capabilities.0 (is_noted self.old) (rule.source_of member.now.binding)) tt }
+        ensures checks { result ≡ first_error_or (rule.source_checks capabilities.0 (is_noted self.old) (rule.source_of member.now.binding)) tt }
         ensures noted { OnOk result (self.new ≡ with_member self.old member.now) }
     {
         let Some(
@@ -137,7 +137,7 @@ impl StructType<'_> {
     fn check_place(&self, index: usize, member: &StructMember) -> Result<(), TypeError>
         requires known { MembersKnown self.now }
         requires member { slice_get self.now.members.now index ≡ Some member.now }
-        ensures { result ≡ judged (rule.place_conditions (surroundings_of self.now) self.now.members.now self.now.span index member.now) tt }
+        ensures { result ≡ first_error_or (rule.place_checks (surroundings_of self.now) self.now.members.now self.now.span index member.now) tt }
     {
         let offset = member.offset;
         if offset != 0 && u64::from(offset) < self.end_before(index) {
@@ -166,7 +166,7 @@ impl StructType<'_> {
     ) -> Result<(), TypeError>
         requires known { MembersKnown self.now }
         requires member { slice_get self.now.members.now index ≡ Some member.now }
-        ensures { IsRuleResult (granted (rule.unsized_member (surroundings_of self.now) self.now.members.now index member.now) tt) result }
+        ensures { IsRuleResult (ok_unless (rule.member_size_error (surroundings_of self.now) self.now.members.now index member.now) tt) result }
     {
         let is_array = matches!(self.gctx.types[member.ty].inner, TypeInner::Array { .. });
         let is_last = index + 1 == self.members.len();
@@ -191,7 +191,7 @@ impl StructType<'_> {
         requires known { MembersKnown self.now }
         requires member { slice_get self.now.members.now index ≡ Some member.now }
         requires noted { sources.old ≡ sources_of (take index self.now.members.now) }
-        ensures judged { IsRuleResult (judged (rule.member_conditions (surroundings_of self.now) self.now.members.now self.now.span (index, member.now)) tt) result }
+        ensures checks { IsRuleResult (first_error_or (rule.member_checks (surroundings_of self.now) self.now.members.now self.now.span (index, member.now)) tt) result }
         ensures noted { OnOk result (sources.new ≡ sources_of (take (index + 1) self.now.members.now)) }
     {
         let data = TypeFlags::DATA.union(TypeFlags::CREATION_RESOLVED);
@@ -206,7 +206,7 @@ impl StructType<'_> {
     /// Checks all members, and returns the sources of blending.
     fn check_members(&self, alloc: Global) -> Result<Sources, TypeError>
         requires { MembersKnown self.now }
-        ensures { IsRuleResult (judged (rule.member_refusals (surroundings_of self.now) self.now.members.now self.now.span) (sources_of self.now.members.now)) result }
+        ensures { IsRuleResult (first_error_or (rule.member_errors (surroundings_of self.now) self.now.members.now self.now.span) (sources_of self.now.members.now)) result }
     {
         let mut sources = Sources {
             first: None,
@@ -247,7 +247,7 @@ impl StructType<'_> {
         requires first { first < self.now.handle }
         requires second { second < self.now.handle }
         requires references { GlobalReferencesOk (surroundings_of self.now).lists }
-        ensures { result ≡ judged (rule.pair_conditions (surroundings_of self.now) self.now.members.now (Some first) (Some second)) tt }
+        ensures { result ≡ first_error_or (rule.pair_checks (surroundings_of self.now) self.now.members.now (Some first) (Some second)) tt }
     {
         if let Some(location) = self.other_location() {
             return Err(VaryingError::InvalidBlendSrcWithOtherBindings { location });
@@ -272,7 +272,7 @@ impl StructType<'_> {
         requires known { MembersKnown self.now }
         requires sources { sources.now ≡ sources_of self.now.members.now }
         requires references { GlobalReferencesOk (surroundings_of self.now).lists }
-        ensures { result ≡ judged (rule.pair_conditions (surroundings_of self.now) self.now.members.now sources.now.first sources.now.second) tt }
+        ensures { result ≡ first_error_or (rule.pair_checks (surroundings_of self.now) self.now.members.now sources.now.first sources.now.second) tt }
     {
         match (sources.first, sources.second) {
             (None, None) => Ok(()),
@@ -299,9 +299,9 @@ impl StructType<'_> {
     }
 
     /// Whether a member begins at 0, below the end of the one before it.
-    fn goes_back(&self) -> bool
+    fn restarts_at_zero(&self) -> bool
         requires { MembersKnown self.now }
-        ensures { result ≡ list_any (rule.goes_back (surroundings_of self.now) self.now.members.now) (enumerate_from 0 self.now.members.now) }
+        ensures { result ≡ list_any (rule.restarts_at_zero (surroundings_of self.now) self.now.members.now) (enumerate_from 0 self.now.members.now) }
     {
         for index in 0..self.members.len() {
             if self.members[index].offset == 0 && self.end_before(index) > 0 {
@@ -318,7 +318,7 @@ impl StructType<'_> {
         ensures { result ≡ record { 0 = rule.struct_flags (surroundings_of self.now) self.now.members.now } }
     {
         let mut flags = self.common_flags();
-        if self.goes_back() {
+        if self.restarts_at_zero() {
             flags.remove(TypeFlags::HOST_SHAREABLE);
         }
         if sources.first.is_some() && sources.second.is_some() {
@@ -351,7 +351,7 @@ impl StructType<'_> {
     ) -> Result<(), (Handle<TypeTag>, Disalignment)>
         requires known { MembersKnown self.now }
         requires before { member.now.ty < self.now.handle }
-        ensures { result ≡ granted (layouts.member_failure (surroundings_of self.now) (layout_in space) self.now.handle (index, member.now)) tt }
+        ensures { result ≡ ok_unless (layouts.member_layout_error (surroundings_of self.now) (layout_in space) self.now.handle (index, member.now)) tt }
     {
         let info = self.info(member);
         if !info.flags.contains(TypeFlags::HOST_SHAREABLE) {
@@ -374,7 +374,7 @@ impl StructType<'_> {
     /// Checks so all members.
     fn check_layouts(&self, space: SharedSpace) -> Result<(), (Handle<TypeTag>, Disalignment)>
         requires { MembersKnown self.now }
-        ensures { result ≡ judged (layouts.member_failures (surroundings_of self.now) (layout_in space) self.now.handle self.now.members.now) tt }
+        ensures { result ≡ first_error_or (layouts.member_layout_errors (surroundings_of self.now) (layout_in space) self.now.handle self.now.members.now) tt }
     {
         for index in 0..self.members.len() {
             self.check_layout(space, index, &self.members[index])?;
@@ -397,7 +397,7 @@ impl StructType<'_> {
     /// Checks that the span is a multiple of the struct's alignment.
     fn check_span(&self) -> Result<(), (Handle<TypeTag>, Disalignment)>
         requires { MembersKnown self.now }
-        ensures { result ≡ granted (layouts.span_failure (surroundings_of self.now) self.now.handle self.now.span) tt }
+        ensures { result ≡ ok_unless (layouts.span_error (surroundings_of self.now) self.now.handle self.now.span) tt }
     {
         let alignment = self.ctx.layouter[self.handle].alignment;
         if alignment.is_aligned(self.span) {
@@ -424,10 +424,10 @@ impl StructType<'_> {
 
     /// The first offset that the member at a place may have after the struct before it, and 0 if no
     /// struct is before it.
-    fn room_before(&self, index: usize) -> u64
+    fn end_after_struct_before(&self, index: usize) -> u64
         requires known { MembersKnown self.now }
         requires member { index < length self.now.members.now }
-        ensures { result ≡ layouts.room_before (surroundings_of self.now) self.now.members.now index }
+        ensures { result ≡ layouts.end_after_struct_before (surroundings_of self.now) self.now.members.now index }
     {
         if index == 0 {
             return 0;
@@ -456,12 +456,12 @@ impl StructType<'_> {
     /// The failure of the last member that stands in the room of the struct before it.
     fn last_in_room(&self) -> Option<(Handle<TypeTag>, Disalignment)>
         requires { MembersKnown self.now }
-        ensures { result ≡ layouts.last_room_failure (surroundings_of self.now) self.now.handle self.now.members.now }
+        ensures { result ≡ layouts.last_padding_error (surroundings_of self.now) self.now.handle self.now.members.now }
     {
         let mut last = None;
         for index in 0..self.members.len() {
             let offset = self.members[index].offset;
-            let room = self.room_before(index);
+            let room = self.end_after_struct_before(index);
             if u64::from(offset) < room {
                 last = Some((
                     self.handle,
@@ -479,7 +479,7 @@ impl StructType<'_> {
     /// Checks that all members have fixed sizes.
     fn check_sizes(&self) -> Result<(), (Handle<TypeTag>, Disalignment)>
         requires { MembersKnown self.now }
-        ensures { result ≡ judged (layouts.size_failures (surroundings_of self.now) self.now.handle self.now.members.now) tt }
+        ensures { result ≡ first_error_or (layouts.unsized_errors (surroundings_of self.now) self.now.handle self.now.members.now) tt }
     {
         for index in 0..self.members.len() {
             let info = self.info(&self.members[index]);

@@ -1,7 +1,7 @@
 -- Kinds of expressions: the latest of those of its operands, and laws of the kinds of all.
 use Rattle.std.proofs.Common.{◌≡◌, ◌<◌, ◌++◌, ◌∷◌, ℕ, suc, List, [], Some, Contains, map, length, slice_get, refl, sym, subst, ap, ◌∙◌, arith}
 use Rattle.std.specs.Option.{unwrap_or}
-use Rattle.naga_ir.specs.Handles.{GoBack, OrderedOperands, own_operand}
+use Rattle.naga_ir.specs.Handles.{ReferencesPrecede, OrderedOperands, own_operand}
 use Rattle.naga_ir.specs.References.{operands}
 use Rattle.naga_ir.specs.declared.expression.Expression.{Expression}
 use Rattle.naga_ir.specs.declared.expression.Expression.TheVariants as form
@@ -77,7 +77,7 @@ kind_stays kinds more x within = by_form x (ap latest (operands_stay kinds more 
     by_form (form.ArrayLength expr) same = same
     by_form _ same = refl
 
-module _ (xs : List Expression) (back : GoBack (OrderedOperands xs)) where
+module _ (xs : List Expression) (back : ReferencesPrecede (OrderedOperands xs)) where
   -- the operands of an expression precede it
   pub operands_precede : (e : ℕ) (x : Expression) (o : ℕ) → slice_get xs e ≡ Some x → Contains (operands x) o → o < e
   operands_precede e x o at names = back _ _ (own_operand e o x at names)
@@ -96,7 +96,7 @@ abbrev pub Tracked : List Expression → List ExpressionKind → List (ℕ × Ex
 Tracked xs = Computing kind_of accepts_all xs
 
 -- the operands of the next expression have their kinds
-pub next_operands : (xs : List Expression) → GoBack (OrderedOperands xs) → (kinds : List ExpressionKind) (left : List (ℕ × Expression)) (n : ℕ) (x : Expression) (more : List (ℕ × Expression))
+pub next_operands : (xs : List Expression) → ReferencesPrecede (OrderedOperands xs) → (kinds : List ExpressionKind) (left : List (ℕ × Expression)) (n : ℕ) (x : Expression) (more : List (ℕ × Expression))
     → Tracked xs kinds left → left ≡ (n, x) ∷ more → (o : ℕ) → Contains (operands x) o → o < length kinds
 next_operands xs back kinds left n x more w e o names =
     subst (λ (k : ℕ). o < k) (next_index accepts_all xs (length kinds) left n x more w.iterating e)

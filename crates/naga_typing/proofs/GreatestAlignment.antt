@@ -45,9 +45,9 @@ greatest-bounds f (x ∷ xs) =
 
 -- what is at least 1 and above no item's number is not below the greatest
 pub greatest-least : {X : Type 0} (f : X → ℕ) (xs : List X) (bound : ℕ) → 1 ≤ bound → All (λ x. f x ≤ bound) xs → greatest (map f xs) ≤ bound
-greatest-least f [] bound one all = one
-greatest-least f (x ∷ xs) bound one all =
-    max-le (all 0 x (omega arith)) (greatest-least f xs bound one (All-tail (λ y. f y ≤ bound) x xs all))
+greatest-least f [] bound unary all = unary
+greatest-least f (x ∷ xs) bound unary all =
+    max-le (all 0 x (omega arith)) (greatest-least f xs bound unary (All-tail (λ y. f y ≤ bound) x xs all))
 
 -- the greatest is the number of an item, if there is one and none has a number below 1
 pub greatest-among : {X : Type 0} (f : X → ℕ) (xs : List X) → 0 < length xs → All (λ x. 1 ≤ f x) xs → (x : X) × Contains xs x × (f x ≡ greatest (map f xs))

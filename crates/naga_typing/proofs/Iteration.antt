@@ -7,7 +7,7 @@ use Rattle.std.proofs.lemmas.Option.{slice_get-map}
 use Rattle.naga_arena.proofs.InOrder.{none_follow, one_more_follows}
 use Rattle.naga_arena.proofs.Progress.{AllAccepted, Progress, accepted_before, accepted_ok, begun, ended, number, refused, stands, went_on}
 use Rattle.naga_arena.specs.InOrder.{AllAcceptedInOrder, FollowInOrder, RuleInOrder, given_at}
-use Rattle.naga_arena.specs.Results.{IsFirstRefusal}
+use Rattle.naga_arena.specs.Results.{IsFirstError}
 
 -- a rule that accepts every item
 abbrev pub accepts_all : {X : Type 0} → X → Result (Unit {0}) (Unit {0})
@@ -53,7 +53,7 @@ module _ {X E : Type 0} (accepts : X → Result (Unit {0}) E) (items : List X) w
     before_accepted = accepted_before items results w.done left n x more w.progress e
 
     -- if it is refused, it is the first that is
-    pub first_refused : (error : E) → accepts x ≡ Err error → IsFirstRefusal results n error
+    pub first_refused : (error : E) → accepts x ≡ Err error → IsFirstError results n error
     first_refused error is = refused items results w.done left n x more error w.progress e (next_result (Err error) is)
 
   module _ (count : ℕ) (left : List (ℕ × X)) (w : Iterating count left) (e : left ≡ []) where

@@ -99,7 +99,7 @@ pub leaf-is_whole : (g : GlobalLists) (inner : TypeInner) (leaf : LeafBytes) →
 leaf-is_whole g inner leaf h = by (is_leaf inner) refl
   where
     by : (b : Bool) → is_leaf inner ≡ b → (is_leaf inner ≡ true) × (leaf ≡ all_of g inner)
-    by true one = (one, same_Some _ _ (sym h ∙ leaf-whole g inner one))
+    by true unary = (unary, same_Some _ _ (sym h ∙ leaf-whole g inner unary))
     by false none = no-leaf leaf (sym (leaf-not_whole g inner none) ∙ h)
 
 -- a leaf has no parts

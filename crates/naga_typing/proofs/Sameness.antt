@@ -41,23 +41,23 @@ module _ {P Q R : Type 0} where
       (Decides-and x (y && z) p (Decides-and y z q r))
 
 module _ (types : List «Type») (lhs rhs : TypeResolution) where
-  abbrev one : Bool
-  one = is_one_handle (handle_of lhs) (handle_of rhs)
+  abbrev unary : Bool
+  unary = is_one_handle (handle_of lhs) (handle_of rhs)
 
-  inners_decide : (x y : TypeInner) → Decides (are_same_inners types one x y) (AreSameInners types lhs rhs x y)
+  inners_decide : (x y : TypeInner) → Decides (are_same_inners types unary x y) (AreSameInners types lhs rhs x y)
   inners_decide x y =
       let equal = of_inner.ghosts.eq (canonical types x) (canonical types y) in
-      Decides-or (is_struct x && (is_struct y && one)) (not (is_struct x) && (not (is_struct y) && equal))
-      (all_three (is_struct x) (is_struct y) one (struct_decides x) (struct_decides y) (one_handle_decides lhs rhs))
+      Decides-or (is_struct x && (is_struct y && unary)) (not (is_struct x) && (not (is_struct y) && equal))
+      (all_three (is_struct x) (is_struct y) unary (struct_decides x) (struct_decides y) (one_handle_decides lhs rhs))
       (all_three (not (is_struct x)) (not (is_struct y)) equal (no_struct_decides x) (no_struct_decides y) (inner_decides (canonical types x) (canonical types y)))
 
   -- there are two forms, and they are of the same type
   abbrev pub AreSameFound : Option TypeInner → Option TypeInner → Type 0
   AreSameFound l r = (x : TypeInner) × (y : TypeInner) × (l ≡ Some x) × (r ≡ Some y) × AreSameInners types lhs rhs x y
 
-  found_decides : (l r : Option TypeInner) → Decides (are_same_found types one l r) (AreSameFound l r)
+  found_decides : (l r : Option TypeInner) → Decides (are_same_found types unary l r) (AreSameFound l r)
   found_decides (Some x) (Some y) =
-      Decides-like (are_same_inners types one x y)
+      Decides-like (are_same_inners types unary x y)
       (λ (same : AreSameInners types lhs rhs x y). (x, y, refl, refl, same))
       (λ (h : AreSameFound (Some x) (Some y)). subst₂ (AreSameInners types lhs rhs) (sym (same_Some x h.0 h.2)) (sym (same_Some y h.1 h.3)) h.4)
       (inners_decide x y)

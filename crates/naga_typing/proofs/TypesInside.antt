@@ -31,14 +31,14 @@ module _ (g : GlobalLists) where
       same_form e = cc (is, e)
 
       impossible : inner_at g v ≡ Some inner → is_leaf inner ≡ true → ⊥
-      impossible e one = cc (ap is_leaf (same_form e), one)
+      impossible e unary = cc (ap is_leaf (same_form e), unary)
   in_leaf t inner at leaf _ (member v members span m h is has_m) = absurd (impossible (sym (ap (inner_at g) (in_leaf t inner at leaf v h)) ∙ at) leaf)
     where
       same_form : inner_at g v ≡ Some inner → (let struct : TypeInner = Struct members span in struct ≡ inner)
       same_form e = cc (is, e)
 
       impossible : inner_at g v ≡ Some inner → is_leaf inner ≡ true → ⊥
-      impossible e one = cc (ap is_leaf (same_form e), one)
+      impossible e unary = cc (ap is_leaf (same_form e), unary)
 
   -- what holds of a leaf holds of all inside it
   pub all-in_leaf : (P : ℕ → Type 0) (t : ℕ) (inner : TypeInner) → inner_at g t ≡ Some inner → is_leaf inner ≡ true → P t → AllInside P t

@@ -1,5 +1,5 @@
 -- Index constants: expressions that give a number of elements or the index of one, known when a shader is compiled.
-use Rattle.std.specs.Prelude.{◌==◌, ◌||◌, ◌<◌, ℕ, ℤ, pos, negsuc, zero, suc, Bool as Truth, false, List, Option, Some, None, Result, Ok, Err, slice_get, length, All, ⊤, if◌then◌else◌}
+use Rattle.std.specs.Prelude.{◌==◌, ◌||◌, ◌<◌, ℕ, ℤ, pos, negsuc, zero, suc, Bool as Boolean, false, List, Option, Some, None, Result, Ok, Err, slice_get, length, All, ⊤, if◌then◌else◌}
 use Rattle.std.specs.List.{flat_map}
 use Rattle.naga_ir.specs.Handles.{initialiser_of}
 use Rattle.naga_ir.specs.ItemReferences.{GlobalLists, expression_references}
@@ -39,7 +39,7 @@ literal_index (literal.AbstractInt n) = Err InvalidType
 literal_index (literal.AbstractFloat bits) = Err InvalidType
 
 -- a scalar type is that of an index if its values are integers of two or four bytes
-abbrev pub is_index_type : Scalar → Truth
+abbrev pub is_index_type : Scalar → Boolean
 is_index_type s = elim s.kind [
   | Sint ↦ s.width == 2 || s.width == 4
   | Uint ↦ s.width == 2 || s.width == 4

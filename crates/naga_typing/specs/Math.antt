@@ -1,5 +1,5 @@
 -- The mathematical functions: which arguments each takes, and which type its result has.
-use Rattle.std.specs.Prelude.{◌==◌, ◌&&◌, ◌||◌, ◌+◌, ◌++◌, leb, not, ℕ, Bool as Truth, true, false, List, [], ◌∷◌, Option, Some, None, if◌then◌else◌, is_some, length, option_map, option_to_list, zip}
+use Rattle.std.specs.Prelude.{◌==◌, ◌&&◌, ◌||◌, ◌+◌, ◌++◌, leb, not, ℕ, Bool as Boolean, true, false, List, [], ◌∷◌, Option, Some, None, if◌then◌else◌, is_some, length, option_map, option_to_list, zip}
 use Rattle.std.specs.List.{list_all, list_any}
 use Rattle.std.specs.Option.{option_map_or}
 use Rattle.naga_ir.specs.declared.expression.MathFunction.{MathFunction}
@@ -18,8 +18,8 @@ use Rattle.naga_ir.specs.declared.types.VectorSize.TheVariants.{Bi, Tri, Quad}
 
 -- what a mathematical function takes and returns: which types its first argument may have, which types each further one may have beside such a first one, and which type the result has, by that of the first
 pub record Signature : Type 0 where
-  pub first : TypeInner → Truth
-  pub further : List (TypeInner → TypeInner → Truth)
+  pub first : TypeInner → Boolean
+  pub further : List (TypeInner → TypeInner → Boolean)
   pub result : TypeInner → Option TypeInner
 
 -- the numbers of columns and rows of a matrix, and its scalar; other types have none
@@ -53,42 +53,42 @@ abbrev pub f32_scalar : ScalarType
 f32_scalar = record { kind = Float; width = 4 }
 
 -- any number of components, be it one scalar or a vector
-abbrev pub any_size : Option VectorSize → Truth
+abbrev pub any_size : Option VectorSize → Boolean
 any_size size = true
 
 -- the three components of a vector
-abbrev pub is_three : Option VectorSize → Truth
+abbrev pub is_three : Option VectorSize → Boolean
 is_three (Some Tri) = true
 is_three (Some Bi) = false
 is_three (Some Quad) = false
 is_three None = false
 
 -- a type is that of a scalar of one of these kinds, or of a vector of such, and its number of components is so
-abbrev pub consists_of : (Option VectorSize → Truth) → List ScalarKind → TypeInner → Truth
+abbrev pub consists_of : (Option VectorSize → Boolean) → List ScalarKind → TypeInner → Boolean
 consists_of is_so kinds inner = option_map_or (λ found. is_so found.0 && list_any (of_kind.ghosts.eq found.1.kind) kinds) (vector_size_and_scalar inner) false
 
 -- a type is a matrix
-abbrev pub is_matrix : TypeInner → Truth
+abbrev pub is_matrix : TypeInner → Boolean
 is_matrix inner = is_some (matrix_parts inner)
 
 -- a type is a matrix of as many columns as rows
-abbrev pub is_square : TypeInner → Truth
+abbrev pub is_square : TypeInner → Boolean
 is_square inner = option_map_or (λ parts. of_size.ghosts.eq parts.0 parts.1) (matrix_parts inner) false
 
 -- two types are equal
-abbrev pub same : TypeInner → TypeInner → Truth
+abbrev pub same : TypeInner → TypeInner → Boolean
 same first inner = of_inner.ghosts.eq first inner
 
 -- a type is that of the scalar of the first
-abbrev pub its_scalar : TypeInner → TypeInner → Truth
-its_scalar first inner = option_map_or (λ scalar. same (Scalar scalar) inner) (scalar_of first) false
+abbrev pub scalar_of_first : TypeInner → TypeInner → Boolean
+scalar_of_first first inner = option_map_or (λ scalar. same (Scalar scalar) inner) (scalar_of first) false
 
 -- a type is that of the first, or that of its scalar
-abbrev pub same_or_scalar : TypeInner → TypeInner → Truth
-same_or_scalar first inner = same first inner || its_scalar first inner
+abbrev pub same_or_scalar : TypeInner → TypeInner → Boolean
+same_or_scalar first inner = same first inner || scalar_of_first first inner
 
 -- a type is this one, whatever the first is
-abbrev pub exactly : TypeInner → TypeInner → TypeInner → Truth
+abbrev pub exactly : TypeInner → TypeInner → TypeInner → Boolean
 exactly wanted first inner = same wanted inner
 
 -- the type of a scalar or a vector itself
@@ -104,11 +104,11 @@ abbrev pub transposed : TypeInner → Option TypeInner
 transposed inner = option_map (λ parts. Matrix parts.1 parts.0 parts.2) (matrix_parts inner)
 
 -- scalars of one of these kinds, and vectors of such
-abbrev pub values_of : List ScalarKind → TypeInner → Truth
+abbrev pub values_of : List ScalarKind → TypeInner → Boolean
 values_of kinds = consists_of any_size kinds
 
 -- vectors of scalars of one of these kinds
-abbrev pub vectors_of : List ScalarKind → TypeInner → Truth
+abbrev pub vectors_of : List ScalarKind → TypeInner → Boolean
 vectors_of kinds = consists_of is_some kinds
 
 -- floating-point numbers
@@ -128,93 +128,93 @@ abbrev pub integer : List ScalarKind
 integer = Sint ∷ Uint ∷ []
 
 -- a function of one argument, whose type the result has
-abbrev pub one : (TypeInner → Truth) → Signature
-one first = record { first = first; further = []; result = argument_type }
+abbrev pub unary : (TypeInner → Boolean) → Signature
+unary first = record { first = first; further = []; result = argument_type }
 
 -- a function of two arguments of one type, which the result has too
-abbrev pub two : (TypeInner → Truth) → Signature
-two first = record { first = first; further = same ∷ []; result = argument_type }
+abbrev pub binary : (TypeInner → Boolean) → Signature
+binary first = record { first = first; further = same ∷ []; result = argument_type }
 
 -- a function of three arguments of one type, which the result has too
-abbrev pub three : (TypeInner → Truth) → Signature
-three first = record { first = first; further = same ∷ same ∷ []; result = argument_type }
+abbrev pub ternary : (TypeInner → Boolean) → Signature
+ternary first = record { first = first; further = same ∷ same ∷ []; result = argument_type }
 
 -- what each function takes and returns
 unfoldable pub signature : MathFunction → Signature
-signature math.Saturate = one (values_of float)
-signature math.Cos = one (values_of float)
-signature math.Cosh = one (values_of float)
-signature math.Sin = one (values_of float)
-signature math.Sinh = one (values_of float)
-signature math.Tan = one (values_of float)
-signature math.Tanh = one (values_of float)
-signature math.Acos = one (values_of float)
-signature math.Asin = one (values_of float)
-signature math.Atan = one (values_of float)
-signature math.Asinh = one (values_of float)
-signature math.Acosh = one (values_of float)
-signature math.Atanh = one (values_of float)
-signature math.Radians = one (values_of float)
-signature math.Degrees = one (values_of float)
-signature math.Ceil = one (values_of float)
-signature math.Floor = one (values_of float)
-signature math.Round = one (values_of float)
-signature math.Fract = one (values_of float)
-signature math.Trunc = one (values_of float)
-signature math.Exp = one (values_of float)
-signature math.Exp2 = one (values_of float)
-signature math.Log = one (values_of float)
-signature math.Log2 = one (values_of float)
-signature math.Sqrt = one (values_of float)
-signature math.InverseSqrt = one (values_of float)
-signature math.QuantizeToF16 = one (values_of float)
-signature math.Length = record (one (values_of float)) { result = scalar_type }
-signature math.Normalize = one (vectors_of float)
-signature math.Atan2 = two (values_of float)
-signature math.Pow = two (values_of float)
-signature math.Step = two (values_of float)
-signature math.Reflect = two (vectors_of float)
-signature math.Distance = record (two (values_of float)) { result = scalar_type }
-signature math.Cross = two (consists_of is_three float)
-signature math.Fma = three (values_of float)
-signature math.SmoothStep = three (values_of float)
-signature math.FaceForward = three (vectors_of float)
-signature math.Mix = record (three (values_of float)) { further = same ∷ same_or_scalar ∷ [] }
-signature math.Refract = record (three (vectors_of float)) { further = same ∷ its_scalar ∷ [] }
-signature math.Abs = one (values_of number)
-signature math.Min = two (values_of number)
-signature math.Max = two (values_of number)
-signature math.Clamp = three (values_of number)
-signature math.Dot = record (two (vectors_of number)) { result = scalar_type }
-signature math.Sign = one (values_of signed)
-signature math.CountTrailingZeros = one (values_of integer)
-signature math.CountLeadingZeros = one (values_of integer)
-signature math.CountOneBits = one (values_of integer)
-signature math.ReverseBits = one (values_of integer)
-signature math.FirstTrailingBit = one (values_of integer)
-signature math.FirstLeadingBit = one (values_of integer)
-signature math.ExtractBits = record (one (values_of integer)) { further = exactly (Scalar u32_scalar) ∷ exactly (Scalar u32_scalar) ∷ [] }
-signature math.InsertBits = record (one (values_of integer)) { further = same ∷ exactly (Scalar u32_scalar) ∷ exactly (Scalar u32_scalar) ∷ [] }
-signature math.Transpose = record (one is_matrix) { result = transposed }
-signature math.Determinant = record (one is_square) { result = scalar_type }
-signature math.Pack2x16float = record (one (same (Vector Bi f32_scalar))) { result = λ first. Some (Scalar u32_scalar) }
-signature math.Unpack2x16float = record (one (same (Scalar u32_scalar))) { result = λ first. Some (Vector Bi f32_scalar) }
+signature math.Saturate = unary (values_of float)
+signature math.Cos = unary (values_of float)
+signature math.Cosh = unary (values_of float)
+signature math.Sin = unary (values_of float)
+signature math.Sinh = unary (values_of float)
+signature math.Tan = unary (values_of float)
+signature math.Tanh = unary (values_of float)
+signature math.Acos = unary (values_of float)
+signature math.Asin = unary (values_of float)
+signature math.Atan = unary (values_of float)
+signature math.Asinh = unary (values_of float)
+signature math.Acosh = unary (values_of float)
+signature math.Atanh = unary (values_of float)
+signature math.Radians = unary (values_of float)
+signature math.Degrees = unary (values_of float)
+signature math.Ceil = unary (values_of float)
+signature math.Floor = unary (values_of float)
+signature math.Round = unary (values_of float)
+signature math.Fract = unary (values_of float)
+signature math.Trunc = unary (values_of float)
+signature math.Exp = unary (values_of float)
+signature math.Exp2 = unary (values_of float)
+signature math.Log = unary (values_of float)
+signature math.Log2 = unary (values_of float)
+signature math.Sqrt = unary (values_of float)
+signature math.InverseSqrt = unary (values_of float)
+signature math.QuantizeToF16 = unary (values_of float)
+signature math.Length = record (unary (values_of float)) { result = scalar_type }
+signature math.Normalize = unary (vectors_of float)
+signature math.Atan2 = binary (values_of float)
+signature math.Pow = binary (values_of float)
+signature math.Step = binary (values_of float)
+signature math.Reflect = binary (vectors_of float)
+signature math.Distance = record (binary (values_of float)) { result = scalar_type }
+signature math.Cross = binary (consists_of is_three float)
+signature math.Fma = ternary (values_of float)
+signature math.SmoothStep = ternary (values_of float)
+signature math.FaceForward = ternary (vectors_of float)
+signature math.Mix = record (ternary (values_of float)) { further = same ∷ same_or_scalar ∷ [] }
+signature math.Refract = record (ternary (vectors_of float)) { further = same ∷ scalar_of_first ∷ [] }
+signature math.Abs = unary (values_of number)
+signature math.Min = binary (values_of number)
+signature math.Max = binary (values_of number)
+signature math.Clamp = ternary (values_of number)
+signature math.Dot = record (binary (vectors_of number)) { result = scalar_type }
+signature math.Sign = unary (values_of signed)
+signature math.CountTrailingZeros = unary (values_of integer)
+signature math.CountLeadingZeros = unary (values_of integer)
+signature math.CountOneBits = unary (values_of integer)
+signature math.ReverseBits = unary (values_of integer)
+signature math.FirstTrailingBit = unary (values_of integer)
+signature math.FirstLeadingBit = unary (values_of integer)
+signature math.ExtractBits = record (unary (values_of integer)) { further = exactly (Scalar u32_scalar) ∷ exactly (Scalar u32_scalar) ∷ [] }
+signature math.InsertBits = record (unary (values_of integer)) { further = same ∷ exactly (Scalar u32_scalar) ∷ exactly (Scalar u32_scalar) ∷ [] }
+signature math.Transpose = record (unary is_matrix) { result = transposed }
+signature math.Determinant = record (unary is_square) { result = scalar_type }
+signature math.Pack2x16float = record (unary (same (Vector Bi f32_scalar))) { result = λ first. Some (Scalar u32_scalar) }
+signature math.Unpack2x16float = record (unary (same (Scalar u32_scalar))) { result = λ first. Some (Vector Bi f32_scalar) }
 
 -- each further argument is as its rule says beside the first
-abbrev pub are_taken : List (TypeInner → TypeInner → Truth) → TypeInner → List TypeInner → Truth
-are_taken rules first further = list_all (λ pair. pair.0 first pair.1) (zip rules further)
+abbrev pub each_ok : List (TypeInner → TypeInner → Boolean) → TypeInner → List TypeInner → Boolean
+each_ok rules first further = list_all (λ pair. pair.0 first pair.1) (zip rules further)
 
 -- so it is, and there are no more arguments than rules
-abbrev pub takes_each : List (TypeInner → TypeInner → Truth) → TypeInner → List TypeInner → Truth
-takes_each rules first further = leb (length further) (length rules) && are_taken rules first further
+abbrev pub takes_each : List (TypeInner → TypeInner → Boolean) → TypeInner → List TypeInner → Boolean
+takes_each rules first further = leb (length further) (length rules) && each_ok rules first further
 
 -- a function takes arguments of these types, which may be the first of several: the first is as it takes it, and so is each further one beside the first
-abbrev pub takes : Signature → List TypeInner → Truth
+abbrev pub takes : Signature → List TypeInner → Boolean
 takes s [] = true
 takes s (first ∷ further) = s.first first && takes_each s.further first further
 
 -- the same of a function by its name
-abbrev pub accepts : MathFunction → List TypeInner → Truth
+abbrev pub accepts : MathFunction → List TypeInner → Boolean
 accepts fun types = takes (signature fun) types
 
 -- how many arguments a function takes
@@ -227,7 +227,7 @@ result_type fun [] = None
 result_type fun (first ∷ further) = if accepts fun (first ∷ further) && length (first ∷ further) == argument_count fun then (signature fun).result first else None
 
 -- no argument is given after one that isn't
-abbrev pub has_no_gap : {A : Type 0} → Option A → Option A → Option A → Truth
+abbrev pub has_no_gap : {A : Type 0} → Option A → Option A → Option A → Boolean
 has_no_gap second third fourth = (is_some second || not (is_some third)) && (is_some third || not (is_some fourth))
 
 -- the arguments that are given

@@ -1,5 +1,5 @@
 -- Whether two types are the same, as a truth value.
-use Rattle.std.specs.Prelude.{◌==◌, ◌&&◌, ◌||◌, not, ℕ, Bool as Truth, true, false, List, Option, Some, None}
+use Rattle.std.specs.Prelude.{◌==◌, ◌&&◌, ◌||◌, not, ℕ, Bool as Boolean, true, false, List, Option, Some, None}
 use Rattle.naga_ir.specs.contracts.types.TypeInnerPartialEq.TheImpl as of_inner
 use Rattle.naga_ir.specs.declared.types.«Type».{«Type»}
 use Rattle.naga_ir.specs.declared.types.TypeInner.{TypeInner}
@@ -8,7 +8,7 @@ use Rattle.naga_typing.specs.Resolutions.{canonical, handle_of, inner_in}
 use Rattle.naga_typing.specs.declared.typifier.TypeResolution.{TypeResolution}
 
 -- whether a form is a struct
-abbrev pub is_struct : TypeInner → Truth
+abbrev pub is_struct : TypeInner → Boolean
 is_struct (Struct members span) = true
 is_struct (Scalar scalar) = false
 is_struct (Vector size scalar) = false
@@ -25,22 +25,22 @@ is_struct (RayQuery vertex_return) = false
 is_struct (BindingArray base size) = false
 
 -- whether there are two handles, and they are equal
-abbrev pub is_one_handle : Option ℕ → Option ℕ → Truth
+abbrev pub is_one_handle : Option ℕ → Option ℕ → Boolean
 is_one_handle (Some t) (Some u) = t == u
 is_one_handle (Some t) None = false
 is_one_handle None _ = false
 
 -- whether two forms are of the same type: structs if they have the same handle, other forms if they are equal as they are compared
-abbrev pub are_same_inners : List «Type» → Truth → TypeInner → TypeInner → Truth
+abbrev pub are_same_inners : List «Type» → Boolean → TypeInner → TypeInner → Boolean
 are_same_inners types one_handle x y =
     is_struct x && (is_struct y && one_handle) || not (is_struct x) && (not (is_struct y) && of_inner.ghosts.eq (canonical types x) (canonical types y))
 
 -- whether there are two forms, and they are of the same type
-abbrev pub are_same_found : List «Type» → Truth → Option TypeInner → Option TypeInner → Truth
+abbrev pub are_same_found : List «Type» → Boolean → Option TypeInner → Option TypeInner → Boolean
 are_same_found types one_handle (Some x) (Some y) = are_same_inners types one_handle x y
 are_same_found types one_handle (Some x) None = false
 are_same_found types one_handle None _ = false
 
 -- whether two resolutions are of the same type
-unfoldable pub are_same : List «Type» → TypeResolution → TypeResolution → Truth
+unfoldable pub are_same : List «Type» → TypeResolution → TypeResolution → Boolean
 are_same types lhs rhs = are_same_found types (is_one_handle (handle_of lhs) (handle_of rhs)) (inner_in types lhs) (inner_in types rhs)

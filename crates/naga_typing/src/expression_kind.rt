@@ -1,7 +1,7 @@
 //! When the values of expressions are known.
 
 ghost use Rattle.std.specs.Prelude.{◌≡◌, ◌<◌, [], Contains, IfOk, IsOk, length, slice_get, ℕ};
-ghost use Rattle.naga_ir.specs.Handles.{GoBack, OrderedOperands};
+ghost use Rattle.naga_ir.specs.Handles.{ReferencesPrecede, OrderedOperands};
 ghost use Rattle.naga_ir.specs.References as references;
 ghost use Rattle.naga_typing.specs.Kinds as spec;
 ghost use Rattle.naga_typing.specs.Kinds.{AreKinds, is_const, is_const_or_override};
@@ -58,7 +58,7 @@ impl ExpressionKindTracker {
         alloc: Global,
         arena: &Arena<Expression, ExpressionTag>,
     ) -> Result<ExpressionKindTracker, OutOfMemory>
-        requires { GoBack (OrderedOperands arena.now) }
+        requires { ReferencesPrecede (OrderedOperands arena.now) }
         ensures kinds { IfOk result (AreKinds arena.now) }
         ensures none { arena.now ≡ [] → IsOk result }
     {

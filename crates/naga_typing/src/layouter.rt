@@ -3,7 +3,7 @@
 ghost use Rattle.std.specs.Prelude.{◌≡◌, ◌*◌, ◌<◌, [], ◌∷◌, ◌++◌, All, length, map, slice_get, IfSome, is_some, take, IfErr, IsOk, MatchResult, OnErr, Ok, Err, Some};
 ghost use Rattle.std.specs.Int.{is_power_of_two};
 ghost use Rattle.naga_arena.specs.Memory.{UnlessOutOfMemory};
-ghost use Rattle.naga_arena.specs.Results.{IsFirstRefusal};
+ghost use Rattle.naga_arena.specs.Results.{IsFirstError};
 ghost use Rattle.naga_ir.specs.Handles.{GlobalReferencesOk};
 ghost use Rattle.naga_ir.specs.declared.types.StructMember as member;
 ghost use Rattle.naga_ir.specs.Sizes as sizes;
@@ -161,7 +161,7 @@ impl Layouter {
     pub fn update(&mut self, gctx: GlobalCtx<'_>) -> Result<(), LayoutError>
         requires { GlobalReferencesOk (lists_of gctx) }
         ensures layouts { UnlessOutOfMemory (λ e. e.inner ≡ LayoutErrorInner.OutOfMemory) result (λ _. AreLayouts (lists_of gctx.entry) self.new)
-            (λ e. IsFirstRefusal (layout_results (lists_of gctx.entry)) e.ty e.inner) }
+            (λ e. IsFirstError (layout_results (lists_of gctx.entry)) e.ty e.inner) }
         ensures place { IfErr result (λ e. e.ty < length gctx.entry.types.now) }
         ensures memory { IfErr result (λ e. e.inner ≡ LayoutErrorInner.OutOfMemory → slice_get (layout_results (lists_of gctx.entry)) e.ty ≡ Some (Ok tt)) }
         ensures before { IfErr result (λ e. All IsOk (take e.ty (layout_results (lists_of gctx.entry)))) }

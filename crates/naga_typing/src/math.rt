@@ -102,8 +102,8 @@ fn row(
 }
 
 /// The row of functions of one argument, whose type the result has.
-fn one(first: FirstArgument) -> Signature
-    ensures { meaning result ≡ spec.one (takes_first first) }
+fn unary(first: FirstArgument) -> Signature
+    ensures { meaning result ≡ spec.unary (takes_first first) }
 {
     row(first, &[], ArgumentType)
 }
@@ -114,15 +114,15 @@ fn signature_of(fun: Math) -> Signature
     ensures { meaning result ≡ spec.signature fun }
 {
     match fun {
-        Math::Cos | Math::Sin | Math::Tan | Math::Acos | Math::Asin | Math::Atan => one(FLOATS),
-        Math::Cosh | Math::Sinh | Math::Tanh => one(FLOATS),
-        Math::Acosh | Math::Asinh | Math::Atanh => one(FLOATS),
-        Math::Radians | Math::Degrees | Math::Saturate | Math::QuantizeToF16 => one(FLOATS),
-        Math::Ceil | Math::Floor | Math::Round | Math::Fract | Math::Trunc => one(FLOATS),
-        Math::Exp | Math::Exp2 | Math::Log | Math::Log2 => one(FLOATS),
-        Math::Sqrt | Math::InverseSqrt => one(FLOATS),
+        Math::Cos | Math::Sin | Math::Tan | Math::Acos | Math::Asin | Math::Atan => unary(FLOATS),
+        Math::Cosh | Math::Sinh | Math::Tanh => unary(FLOATS),
+        Math::Acosh | Math::Asinh | Math::Atanh => unary(FLOATS),
+        Math::Radians | Math::Degrees | Math::Saturate | Math::QuantizeToF16 => unary(FLOATS),
+        Math::Ceil | Math::Floor | Math::Round | Math::Fract | Math::Trunc => unary(FLOATS),
+        Math::Exp | Math::Exp2 | Math::Log | Math::Log2 => unary(FLOATS),
+        Math::Sqrt | Math::InverseSqrt => unary(FLOATS),
         Math::Length => row(FLOATS, &[], ScalarOfArgument),
-        Math::Normalize => one(FLOAT_VECTORS),
+        Math::Normalize => unary(FLOAT_VECTORS),
         Math::Atan2 | Math::Pow | Math::Step => row(FLOATS, &[Same], ArgumentType),
         Math::Distance => row(FLOATS, &[Same], ScalarOfArgument),
         Math::Reflect => row(FLOAT_VECTORS, &[Same], ArgumentType),
@@ -131,13 +131,13 @@ fn signature_of(fun: Math) -> Signature
         Math::FaceForward => row(FLOAT_VECTORS, &[Same, Same], ArgumentType),
         Math::Mix => row(FLOATS, &[Same, SameOrScalar], ArgumentType),
         Math::Refract => row(FLOAT_VECTORS, &[Same, ScalarOfFirst], ArgumentType),
-        Math::Abs => one(NUMBERS),
+        Math::Abs => unary(NUMBERS),
         Math::Min | Math::Max => row(NUMBERS, &[Same], ArgumentType),
         Math::Clamp => row(NUMBERS, &[Same, Same], ArgumentType),
         Math::Dot => row(Vector(ScalarSet::Number), &[Same], ScalarOfArgument),
-        Math::Sign => one(ScalarOrVector(ScalarSet::Signed)),
-        Math::CountTrailingZeros | Math::CountLeadingZeros | Math::CountOneBits => one(INTEGERS),
-        Math::ReverseBits | Math::FirstTrailingBit | Math::FirstLeadingBit => one(INTEGERS),
+        Math::Sign => unary(ScalarOrVector(ScalarSet::Signed)),
+        Math::CountTrailingZeros | Math::CountLeadingZeros | Math::CountOneBits => unary(INTEGERS),
+        Math::ReverseBits | Math::FirstTrailingBit | Math::FirstLeadingBit => unary(INTEGERS),
         Math::ExtractBits => row(INTEGERS, &[ExactlyU32, ExactlyU32], ArgumentType),
         Math::InsertBits => row(INTEGERS, &[Same, ExactlyU32, ExactlyU32], ArgumentType),
         Math::Transpose => row(Matrix, &[], Transposed),
@@ -236,7 +236,7 @@ impl FirstArgument {
 
 /// Whether a type is that of the scalar of another.
 fn is_scalar_of(first: &TypeInner, inner: &TypeInner) -> bool
-    ensures { result ≡ spec.its_scalar first.now inner.now }
+    ensures { result ≡ spec.scalar_of_first first.now inner.now }
 {
     match first.scalar() {
         Some(scalar) => TypeInner::Scalar(scalar) == *inner,

@@ -6,7 +6,7 @@ use Rattle.std.proofs.lemmas.List.Elements.{All-append}
 use Rattle.std.proofs.lemmas.Option.{slice_get_within}
 use Rattle.naga_arena.proofs.InOrder.{get_stays}
 use Rattle.naga_valid.specs.declared.error.ValidationError.{ValidationError}
-use Rattle.naga_valid.specs.steps.JudgedValues.{IsFirstError}
+use Rattle.naga_valid.specs.steps.KnownValues.{IsFirstValueError}
 
 -- an item of the second list follows all of the first
 in-second : {A : Type 0} (xs ys : List A) (n : ℕ) → slice_get (xs ++ ys) (length xs + n) ≡ slice_get ys n
@@ -15,13 +15,13 @@ in-second (x ∷ xs) ys n = let here : suc (length xs) + n ≡ suc (length xs + 
 
 module _ (first second : List (Result (Unit {0}) ValidationError)) (e : ValidationError) where
   -- an error of the first list
-  pub error-in-first : IsFirstError first e → IsFirstError (first ++ second) e
+  pub error-in-first : IsFirstValueError first e → IsFirstValueError (first ++ second) e
   error-in-first (place, r) =
       let within = slice_get_within first place _ r.refused in
       (place, record { refused = get_stays first second place within ∙ r.refused; accepted_before = subst (All IsOk) (sym (take-append-le place first second (omega (arith, within)))) r.accepted_before })
 
   -- an error of the second, if the first has none
-  pub error-in-second : All IsOk first → IsFirstError second e → IsFirstError (first ++ second) e
+  pub error-in-second : All IsOk first → IsFirstValueError second e → IsFirstValueError (first ++ second) e
   error-in-second ok (place, r) = (
     length first + place,
     record {

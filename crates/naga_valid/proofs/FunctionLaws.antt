@@ -21,7 +21,7 @@ use Rattle.naga_types.specs.declared.info.TypeInfo.{TypeInfo}
 use Rattle.naga_typing.specs.Typings.{Resolves}
 use Rattle.naga_info.specs.ModuleInfo.{ModuleInfoLists}
 use Rattle.naga_valid.specs.Accepted.{Accepts}
-use Rattle.naga_valid.specs.Functions.{CanJudgeFunction, CanJudgeInOrder}
+use Rattle.naga_valid.specs.Functions.{IsFunctionReady, AreFunctionsReadyInOrder}
 use Rattle.naga_valid.specs.State.{Settings}
 
 call_named : (called : ℕ) → named_item (form.CallResult called) ≡ Some (to.Function called)
@@ -37,13 +37,13 @@ calls_referred f e called at =
     (Contains-append_right (local_references f) _ (to.Function called) (Contains-append_left (flat_map expression_references f.expressions) _ (to.Function called) own))
 
 module _ (m : Module) (h : HandlesAccepted m) where
-  function_at : (i : ℕ) (f : Function) → slice_get m.functions i ≡ Some f → CanJudgeFunction m f i
+  function_at : (i : ℕ) (f : Function) → slice_get m.functions i ≡ Some f → IsFunctionReady m f i
   function_at i f at = record {
     references = function_references_ok m f (Contains-append_left m.functions _ f (contains-place m.functions i f at)) h;
     calls = λ e called there. h.back (to.Function i) (to.Function called) (calls_function i called f at (calls_referred f e called there));
   }
 
-  entry_point_at : (i : ℕ) (p : EntryPoint) → slice_get m.entry_points i ≡ Some p → CanJudgeFunction m p.function (length m.functions)
+  entry_point_at : (i : ℕ) (p : EntryPoint) → slice_get m.entry_points i ≡ Some p → IsFunctionReady m p.function (length m.functions)
   entry_point_at i p at =
       let f = p.function in
       let among : Contains (all_functions m) f = Contains-append_right m.functions _ f (contains-map (λ (p : EntryPoint). p.function) m.entry_points p (contains-place m.entry_points i p at)) in
@@ -54,8 +54,8 @@ module _ (m : Module) (h : HandlesAccepted m) where
       }
 
   -- the functions of a module whose handles are right can be judged in order
-  pub can_judge_in_order : CanJudgeInOrder m
-  can_judge_in_order = record { functions = function_at; entry_points = entry_point_at }
+  pub ready_in_order : AreFunctionsReadyInOrder m
+  ready_in_order = record { functions = function_at; entry_points = entry_point_at }
 
 -- it is known what each type of an accepted module may be used for
 pub flags_known : (resolves : Resolves) (m : Module) (settings : Settings) (infos : List TypeInfo) (lists : ModuleInfoLists) → Accepts resolves m settings infos lists → length m.types ≤ length lists.type_flags

@@ -10,8 +10,8 @@ use Rattle.std.proofs.lemmas.Option.{same_Some, slice_get_within}
 use Rattle.naga_arena.proofs.Elements.{all-of}
 use Rattle.naga_arena.proofs.InOrder.{accepted_once, found_at, get_before, get_stays, refused_not_accepted}
 use Rattle.naga_arena.proofs.Progress.{slice_get-seam}
-use Rattle.naga_arena.specs.InOrder.{FollowInOrder, IsFirstRefusalInOrder, given_at}
-use Rattle.naga_exprs.specs.ExpressionRule.{IsExpressionReturned, IsMeant}
+use Rattle.naga_arena.specs.InOrder.{FollowInOrder, IsFirstErrorInOrder, given_at}
+use Rattle.naga_exprs.specs.ExpressionRule.{IsExpressionResult, IsRule}
 use Rattle.naga_flags.specs.Bits.{all_stages}
 use Rattle.naga_flags.specs.declared.flags.ShaderStages.{ShaderStages}
 use Rattle.naga_info.specs.FunctionTypes.{AreFunctionTypes, AreTypesBefore, IsUntyped, function_resolves, type_in_order, type_of_argument}
@@ -25,8 +25,8 @@ use Rattle.naga_ir.specs.declared.expression.Expression.TheVariants as form
 use Rattle.naga_ir.specs.declared.ir.Function.{Function}
 use Rattle.naga_ir.specs.declared.ir.FunctionArgument.{FunctionArgument}
 use Rattle.naga_ir.specs.declared.ir.Module.{Module}
-use Rattle.naga_info.specs.Results.{IsReturned}
-use Rattle.naga_info.specs.Surroundings.{CanJudge}
+use Rattle.naga_info.specs.Results.{IsRuleResult}
+use Rattle.naga_info.specs.Surroundings.{IsReady}
 use Rattle.naga_info.specs.declared.expression_error.ExpressionError.{ExpressionError}
 use Rattle.naga_info.specs.declared.expression_error.ExpressionError.TheVariants as refusal
 use Rattle.naga_typing.proofs.Iteration.{Iterating, accepts_all, all_counted, begin, next_index, next_item, one_more}
@@ -36,10 +36,10 @@ use Rattle.naga_typing.specs.declared.expression_kind.ExpressionKind.{Expression
 use Rattle.naga_typing.specs.declared.typifier.ResolveError.{ResolveError}
 use Rattle.naga_typing.specs.declared.typifier.TypeResolution.{TypeResolution}
 use Rattle.naga_valid.proofs.Meanings.{allows, not_both, refuses}
-use Rattle.naga_valid.specs.Functions.{AreTypesReached, FunctionSurroundings, IsFirstUntyped, IsFunctionAccepted, IsMeantAt, KeepRules, RefusesFunction, breaks_rule, common_stages, has_no_type, judged_with}
+use Rattle.naga_valid.specs.Functions.{AreTypesReached, FunctionSurroundings, IsFirstUntyped, IsFunctionAccepted, IsRuleAt, KeepRules, RefusesFunction, breaks_rule, common_stages, has_no_type, expression_surroundings}
 use Rattle.naga_valid.specs.declared.function.FunctionError.{FunctionError}
 use Rattle.naga_valid.specs.declared.function.FunctionError.TheVariants.{Expression as Expression_, OutOfMemory}
-use Rattle.naga_valid.specs.steps.Functions.{AllowInCommon, CanAskRules, IsFirstBreach, IsFirstBreachAs}
+use Rattle.naga_valid.specs.steps.Functions.{AllowInCommon, CanCheckRules, IsFirstBreach, IsFirstBreachAs}
 
 -- an argument that has a type exists
 argument_there : (arguments : List FunctionArgument) (i : ℕ) (found : Option FunctionArgument) (ty : TypeResolution) → slice_get arguments i ≡ found → type_of_argument found ≡ Ok ty → i < length arguments
@@ -77,9 +77,9 @@ module _ (s : FunctionSurroundings) where
   follows types (inr part) = part.1.0.follow
 
   -- an expression up to the first without a type can be judged
-  pub can_judge_next : (types : List TypeResolution) (kinds : List ExpressionKind) (place : ℕ) (x : Expression)
-      → CanAskRules s types → AreKinds f.expressions kinds → slice_get f.expressions place ≡ Some x → place ≤ length types → CanJudge (judged_with s types kinds) place x
-  can_judge_next types kinds place x can are at typed =
+  pub ready_next : (types : List TypeResolution) (kinds : List ExpressionKind) (place : ℕ) (x : Expression)
+      → CanCheckRules s types → AreKinds f.expressions kinds → slice_get f.expressions place ≡ Some x → place ≤ length types → IsReady (expression_surroundings s types kinds) place x
+  ready_next types kinds place x can are at typed =
       let earlier : (o : ℕ) → Contains (operands x) o → o < place = λ o names. can.in_function.back _ _ (own_operand place o x at names) in
       let within = slice_get_within f.expressions place x at in
       record {
@@ -106,13 +106,13 @@ module _ (s : FunctionSurroundings) where
   none_asked types common left all whole = record { stages = []; iterating = begin accepts_all f.expressions left whole; rules = none_kept types; are_common = all }
 
   -- one more keeps its rule
-  one_more_kept : (types : List TypeResolution) (stages : List ShaderStages) (allowed : ShaderStages) → KeepRules s types stages → IsMeantAt s types (length stages) (Ok allowed) → KeepRules s types (stages ++ allowed ∷ [])
+  one_more_kept : (types : List TypeResolution) (stages : List ShaderStages) (allowed : ShaderStages) → KeepRules s types stages → IsRuleAt s types (length stages) (Ok allowed) → KeepRules s types (stages ++ allowed ∷ [])
   one_more_kept types stages allowed rules one k found at =
       let reached : k ≤ length stages = omega (arith, slice_get_within (stages ++ allowed ∷ []) k found at, length-append stages (allowed ∷ [])) in
       ⊎_elim
       (λ (e : k ≡ length stages).
       let same : allowed ≡ found = same_Some allowed found (sym (slice_get-seam stages [] allowed) ∙ ap (slice_get (stages ++ allowed ∷ [])) (sym e) ∙ at) in
-      subst (λ (st : ShaderStages). IsMeantAt s types k (Ok st)) same (subst (λ n. IsMeantAt s types n (Ok allowed)) (sym e) one))
+      subst (λ (st : ShaderStages). IsRuleAt s types k (Ok st)) same (subst (λ n. IsRuleAt s types n (Ok allowed)) (sym e) one))
       (λ (before : k < length stages). rules k found (sym (get_stays stages (allowed ∷ []) k before) ∙ at))
       (eq-or-lt_of_le reached)
 
@@ -134,19 +134,19 @@ module _ (s : FunctionSurroundings) where
     next_place = next_index accepts_all f.expressions (length w.stages) left n x more w.iterating e
 
     -- it keeps its rule
-    pub one_allowed : (allowed now : ShaderStages) → IsMeantAt s types n (Ok allowed) → now.0 ≡ bit_and common.0 allowed.0 → Asked types now more
+    pub one_allowed : (allowed now : ShaderStages) → IsRuleAt s types n (Ok allowed) → now.0 ≡ bit_and common.0 allowed.0 → Asked types now more
     one_allowed allowed now meant is =
         let as_stages : ℕ → ShaderStages = λ n. record { 0 = n } in
         let of : ShaderStages → ℕ = λ st. st.0 in
         record {
           stages = w.stages ++ allowed ∷ [];
           iterating = subst (λ k. Iterating accepts_all f.expressions k more) (sym (length-append w.stages (allowed ∷ []))) (one_more accepts_all f.expressions (length w.stages) left n x more w.iterating e refl);
-          rules = one_more_kept types w.stages allowed w.rules (subst (λ k. IsMeantAt s types k (Ok allowed)) next_place meant);
+          rules = one_more_kept types w.stages allowed w.rules (subst (λ k. IsRuleAt s types k (Ok allowed)) next_place meant);
           are_common = ap as_stages (is ∙ ap (λ k. bit_and k allowed.0) (ap of w.are_common)) ∙ sym (one_more_common w.stages allowed);
         }
 
     -- it breaks its rule, as the first
-    pub one_breach : (source : ExpressionError) → n ≤ length types → IsMeantAt s types n (Err source) → IsFirstBreach s types n source
+    pub one_breach : (source : ExpressionError) → n ≤ length types → IsRuleAt s types n (Err source) → IsFirstBreach s types n source
     one_breach source typed meant = record { typed = typed; before = w.stages; as_many = sym next_place; rules = w.rules; broken = meant }
 
     -- all expressions up to it have been asked, and one of them has no type
@@ -158,11 +158,11 @@ module _ (s : FunctionSurroundings) where
   all_asked types common left w none = record { stages = w.stages; enough = inl (all_counted accepts_all f.expressions (length w.stages) left w.iterating none); rules = w.rules; are_common = w.are_common }
 
   -- what a call returns that isn't out of memory is what is meant
-  meant_allowed : (meant : Result ShaderStages ExpressionError) (allowed : ShaderStages) → IsReturned meant (allows allowed) → meant ≡ allows allowed
+  meant_allowed : (meant : Result ShaderStages ExpressionError) (allowed : ShaderStages) → IsRuleResult meant (allows allowed) → meant ≡ allows allowed
   meant_allowed meant allowed (inl is) = sym is
   meant_allowed meant allowed (inr lacks) = absurd (cc lacks.0)
 
-  meant_refused : (meant : Result ShaderStages ExpressionError) (source : ExpressionError) → (source ≡ refusal.OutOfMemory → ⊥) → IsReturned meant (refuses source) → meant ≡ refuses source
+  meant_refused : (meant : Result ShaderStages ExpressionError) (source : ExpressionError) → (source ≡ refusal.OutOfMemory → ⊥) → IsRuleResult meant (refuses source) → meant ≡ refuses source
   meant_refused meant source other (inl is) = sym is
   meant_refused meant source other (inr lacks) = absurd (other (same_error source refusal.OutOfMemory lacks.0))
     where
@@ -170,40 +170,40 @@ module _ (s : FunctionSurroundings) where
       same_error a b e = cc e
 
   module _ (types : List TypeResolution) (kinds : List ExpressionKind) (place : ℕ) (x : Expression) (are : AreKinds f.expressions kinds) (at : slice_get f.expressions place ≡ Some x) where
-    abbrev at_place : (meant : Result ShaderStages ExpressionError) → IsMeant s.math (judged_with s types kinds) x meant → IsMeantAt s types place meant
+    abbrev at_place : (meant : Result ShaderStages ExpressionError) → IsRule s.math (expression_surroundings s types kinds) x meant → IsRuleAt s types place meant
     at_place meant is = (x, kinds, at, are, is)
 
     -- a call says what the rule of the expression at a place says
-    pub allowed_at : (allowed : ShaderStages) → IsExpressionReturned s.math (judged_with s types kinds) x (allows allowed) → IsMeantAt s types place (allows allowed)
-    allowed_at allowed h = subst (IsMeantAt s types place) (meant_allowed h.0 allowed h.2) (at_place h.0 h.1)
+    pub allowed_at : (allowed : ShaderStages) → IsExpressionResult s.math (expression_surroundings s types kinds) x (allows allowed) → IsRuleAt s types place (allows allowed)
+    allowed_at allowed h = subst (IsRuleAt s types place) (meant_allowed h.0 allowed h.2) (at_place h.0 h.1)
 
-    pub refused_at : (source : ExpressionError) → (source ≡ refusal.OutOfMemory → ⊥) → IsExpressionReturned s.math (judged_with s types kinds) x (refuses source) → IsMeantAt s types place (refuses source)
-    refused_at source other h = subst (IsMeantAt s types place) (meant_refused h.0 source other h.2) (at_place h.0 h.1)
+    pub refused_at : (source : ExpressionError) → (source ≡ refusal.OutOfMemory → ⊥) → IsExpressionResult s.math (expression_surroundings s types kinds) x (refuses source) → IsRuleAt s types place (refuses source)
+    refused_at source other h = subst (IsRuleAt s types place) (meant_refused h.0 source other h.2) (at_place h.0 h.1)
 
   -- a place has one meaning at most: the rule there doesn't both allow and refuse
-  not_both_at : (types : List TypeResolution) (place : ℕ) (allowed : ShaderStages) (source : ExpressionError) → IsMeantAt s types place (allows allowed) → IsMeantAt s types place (refuses source) → ⊥
+  not_both_at : (types : List TypeResolution) (place : ℕ) (allowed : ShaderStages) (source : ExpressionError) → IsRuleAt s types place (allows allowed) → IsRuleAt s types place (refuses source) → ⊥
   not_both_at types place allowed source a b =
       let kinds = accepted_once kind_in_order f.expressions a.1 b.1 a.3 b.3 in
       let same : a.0 ≡ b.0 = same_Some a.0 b.0 (sym a.2 ∙ b.2) in
-      not_both allowed source (judged_with s types b.1) s.math b.0
-      (subst (λ (x : Expression). IsMeant s.math (judged_with s types b.1) x (allows allowed)) same (subst (λ (k : List ExpressionKind). IsMeant s.math (judged_with s types k) a.0 (allows allowed)) kinds a.4))
+      not_both allowed source (expression_surroundings s types b.1) s.math b.0
+      (subst (λ (x : Expression). IsRule s.math (expression_surroundings s types b.1) x (allows allowed)) same (subst (λ (k : List ExpressionKind). IsRule s.math (expression_surroundings s types k) a.0 (allows allowed)) kinds a.4))
       b.4
 
   -- if an expression has no type, the function isn't accepted
   untyped_not_accepted : (types : List TypeResolution) (error : ResolveError) → IsFirstUntyped s types error → (info : FunctionInfo) → IsFunctionAccepted s info → ⊥
   untyped_not_accepted types error untyped info accepted =
       let before = untyped.0 in
-      let refusal : IsFirstRefusalInOrder (type_in_order s.resolves m f) f.expressions (length types) error = record { before = types; as_many = refl; follow = before.follow; refused = untyped.1 } in
+      let refusal : IsFirstErrorInOrder (type_in_order s.resolves m f) f.expressions (length types) error = record { before = types; as_many = refl; follow = before.follow; refused = untyped.1 } in
       refused_not_accepted (type_in_order s.resolves m f) f.expressions info.types (length types) error refusal accepted.types
 
   -- nor if one breaks its rule
-  breach_not_accepted : (types : List TypeResolution) (place : ℕ) (source : ExpressionError) → AreFunctionTypes s.resolves m f types → IsMeantAt s types place (refuses source) → (info : FunctionInfo) → IsFunctionAccepted s info → ⊥
+  breach_not_accepted : (types : List TypeResolution) (place : ℕ) (source : ExpressionError) → AreFunctionTypes s.resolves m f types → IsRuleAt s types place (refuses source) → (info : FunctionInfo) → IsFunctionAccepted s info → ⊥
   breach_not_accepted types place source all broken info accepted =
       let same = accepted_once (type_in_order s.resolves m f) f.expressions info.types types accepted.types all in
       let there = found_at accepted.stages place (omega (arith, accepted.as_many, slice_get_within f.expressions place broken.0 broken.2)) in
-      not_both_at types place there.0 source (subst (λ (t : List TypeResolution). IsMeantAt s t place (allows there.0)) same (accepted.rules place there.0 there.1)) broken
+      not_both_at types place there.0 source (subst (λ (t : List TypeResolution). IsRuleAt s t place (allows there.0)) same (accepted.rules place there.0 there.1)) broken
 
-  reached_breach : (types : List TypeResolution) (place : ℕ) (source : ExpressionError) → AreTypesReached s types → IsMeantAt s types place (refuses source) → (info : FunctionInfo) → IsFunctionAccepted s info → ⊥
+  reached_breach : (types : List TypeResolution) (place : ℕ) (source : ExpressionError) → AreTypesReached s types → IsRuleAt s types place (refuses source) → (info : FunctionInfo) → IsFunctionAccepted s info → ⊥
   reached_breach types place source (inl all) broken = breach_not_accepted types place source all broken
   reached_breach types place source (inr part) broken = untyped_not_accepted types part.0 part.1
 
@@ -258,7 +258,7 @@ module _ (s : FunctionSurroundings) where
       before = take (length types) allow.stages;
       as_many = length-take-le (length types) allow.stages (omega (arith, within)) ∙ same;
       rules = fewer_kept types allow.stages (length types) (omega (arith, within)) allow.rules;
-      refused = has_no_type last.0 error (subst (λ n. IsMeantAt s types n (allows last.0)) same (allow.rules (length types) last.0 last.1)) same untyped;
+      refused = has_no_type last.0 error (subst (λ n. IsRuleAt s types n (allows last.0)) same (allow.rules (length types) last.0 last.1)) same untyped;
     },
     untyped_not_accepted types error untyped,
   )

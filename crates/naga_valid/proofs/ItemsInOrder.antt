@@ -1,11 +1,11 @@
--- Judging items in their order, each with its index, up to the first that is refused.
+-- Checks items in their order, each with its index, up to the first that is refused.
 use Rattle.std.proofs.Common.{◌≡◌, ◌+◌, ℕ, zero, suc, List, [], ◌∷◌, ◌++◌, Some, All, IsOk, Ok, Err, Result, length, map, slice_get, refl, ap, ◌∙◌, arith, length-append}
 use Rattle.std.specs.List.{enumerate_from}
 use Rattle.std.proofs.lemmas.List.{length-map}
 use Rattle.std.proofs.lemmas.List.FromFn.{length-enumerate_from}
 use Rattle.std.proofs.lemmas.Option.{same_Some, slice_get_within}
 use Rattle.naga_arena.proofs.Progress.{Progress, accepted_ok, begun, ended, number, refused, stands, went_on}
-use Rattle.naga_arena.specs.Results.{IsFirstRefusal}
+use Rattle.naga_arena.specs.Results.{IsFirstError}
 use Rattle.naga_valid.specs.Values.{results_of}
 use Rattle.naga_valid.specs.declared.error.ValidationError.{ValidationError}
 
@@ -29,15 +29,15 @@ accepted_unless (Err e) other = absurd (other e refl)
 
 module _ {X : Type 0} (rule : ℕ × X → Result (Unit {0}) ValidationError) (items : List X) where
   -- so many items are accepted, and these are left, each with its index
-  pub record Judging (count : ℕ) (left : List (ℕ × X)) : Type 0 where
+  pub record Checks (count : ℕ) (left : List (ℕ × X)) : Type 0 where
     done : List (Unit {0})
     progress : Progress items (results_of rule items) done left
     as_many_done : length done ≡ count
 
-  pub begin : (left : List (ℕ × X)) → left ≡ enumerate_from 0 items → Judging 0 left
+  pub begin : (left : List (ℕ × X)) → left ≡ enumerate_from 0 items → Checks 0 left
   begin left all = record { done = []; progress = begun items (results_of rule items) [] left refl all; as_many_done = refl }
 
-  module _ (count : ℕ) (left : List (ℕ × X)) (n : ℕ) (x : X) (more : List (ℕ × X)) (w : Judging count left) (e : left ≡ (n, x) ∷ more) where
+  module _ (count : ℕ) (left : List (ℕ × X)) (n : ℕ) (x : X) (more : List (ℕ × X)) (w : Checks count left) (e : left ≡ (n, x) ∷ more) where
     -- the next item is the one of the index that it comes with
     pub next_item : slice_get items n ≡ Some x
     next_item = stands items (results_of rule items) w.done left n x more w.progress e
@@ -50,7 +50,7 @@ module _ {X : Type 0} (rule : ℕ × X → Result (Unit {0}) ValidationError) (i
     result-is r is = let here : 0 + n ≡ n = omega arith in at-index rule items 0 n x next_item ∙ ap (λ k. Some (rule (k, x))) here ∙ ap Some is
 
     -- it is accepted
-    pub one_more : rule (n, x) ≡ Ok tt → Judging (count + 1) more
+    pub one_more : rule (n, x) ≡ Ok tt → Checks (count + 1) more
     one_more accepted = record {
       done = w.done ++ tt ∷ [];
       progress = went_on items (results_of rule items) w.done left n x more tt (w.done ++ tt ∷ []) w.progress e (result-is (Ok tt) accepted) refl;
@@ -58,9 +58,9 @@ module _ {X : Type 0} (rule : ℕ × X → Result (Unit {0}) ValidationError) (i
     }
 
     -- it is refused, as the first
-    pub first_refused : (error : ValidationError) → rule (n, x) ≡ Err error → IsFirstRefusal (results_of rule items) n error
+    pub first_refused : (error : ValidationError) → rule (n, x) ≡ Err error → IsFirstError (results_of rule items) n error
     first_refused error is = refused items (results_of rule items) w.done left n x more error w.progress e (result-is (Err error) is)
 
   -- no item is left, so all are accepted
-  pub all_accepted : (count : ℕ) (left : List (ℕ × X)) → Judging count left → left ≡ [] → All IsOk (results_of rule items)
+  pub all_accepted : (count : ℕ) (left : List (ℕ × X)) → Checks count left → left ≡ [] → All IsOk (results_of rule items)
   all_accepted count left w e = accepted_ok (results_of rule items) w.done (ended items (results_of rule items) w.done left (as-many rule items) w.progress e)

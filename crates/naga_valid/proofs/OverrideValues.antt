@@ -10,13 +10,13 @@ use Rattle.naga_info.specs.ModuleInfo.{ModuleInfoLists}
 use Rattle.naga_ir.specs.declared.expression.Expression.{Expression}
 use Rattle.naga_ir.specs.declared.ir.Module.{Module}
 use Rattle.naga_ir.specs.declared.ir.Override.{Override as OverrideItem}
-use Rattle.naga_types.specs.Judging.{judged, unless}
+use Rattle.naga_types.specs.Checks.{first_error_or, require}
 use Rattle.naga_types.proofs.OverrideValues.{unresolved as unresolved_types}
 use Rattle.naga_typing.specs.Typings.{Resolves}
 use Rattle.naga_typing.specs.declared.expression_kind.ExpressionKind.{ExpressionKind}
 use Rattle.naga_valid.specs.Accepted.{AreValidTypes, IsAccepted, lists_of}
 use Rattle.naga_valid.specs.State.{Facts, Settings}
-use Rattle.naga_valid.specs.Values.{const_surroundings, constant_result, expression_result, override_result, initialiser_refusal, is_constructible, is_override_type, override_rule, reported, results_of, value_results, is_taken}
+use Rattle.naga_valid.specs.Values.{const_surroundings, constant_result, expression_result, override_result, initialiser_error, is_constructible, is_override_type, override_rule, reported, results_of, value_results, is_taken}
 use Rattle.naga_typing.specs.Resolutions.{inner_in}
 use Rattle.naga_typing.specs.declared.typifier.TypeResolution.TheVariants.{Handle}
 use Rattle.naga_valid.specs.declared.error.OverrideError.{OverrideError}
@@ -41,11 +41,11 @@ all-weaker strict lax items weaker all =
 
 -- all of these conditions hold
 abbrev Passes : List (Option OverrideError) → Type 0
-Passes refusals = let judgement : Result (Unit {0}) OverrideError = judged refusals tt in judgement ≡ Ok tt
+Passes refusals = let judgement : Result (Unit {0}) OverrideError = first_error_or refusals tt in judgement ≡ Ok tt
 
 -- conditions that pass do so too if the last is weaker
 last-weaker : (a b c strict lax : Option OverrideError) → (strict ≡ None → lax ≡ None) → Passes (a ∷ b ∷ c ∷ strict ∷ []) → Passes (a ∷ b ∷ c ∷ lax ∷ [])
-last-weaker None None None None lax weaker ok = ap (λ (l : Option OverrideError). let judgement : Result (Unit {0}) OverrideError = judged (None ∷ None ∷ None ∷ l ∷ []) tt in judgement) (weaker refl)
+last-weaker None None None None lax weaker ok = ap (λ (l : Option OverrideError). let judgement : Result (Unit {0}) OverrideError = first_error_or (None ∷ None ∷ None ∷ l ∷ []) tt in judgement) (weaker refl)
 last-weaker None None None (Some e) lax weaker ok = cc (ok)
 last-weaker None None (Some e) strict lax weaker ok = cc (ok)
 last-weaker None (Some e) c strict lax weaker ok = cc (ok)
@@ -57,15 +57,15 @@ module _ (capabilities : Capabilities) (m : Module) (info : ModuleInfoLists) (ki
       let s = const_surroundings capabilities false m info kinds in
       reported-if (ConstExpression at.0) (const_expression_rule s at.0 at.1) (unresolved_expression s at.0 at.1 (accepted-if (ConstExpression at.0) (const_expression_rule (const_surroundings capabilities true m info kinds) at.0 at.1) ok))
 
-  initialiser-too : (t : ℕ) (init : Option ℕ) → initialiser_refusal true m info t init ≡ None → initialiser_refusal false m info t init ≡ None
+  initialiser-too : (t : ℕ) (init : Option ℕ) → initialiser_error true m info t init ≡ None → initialiser_error false m info t init ≡ None
   initialiser-too t (Some e) none = none
   initialiser-too t None none = refl
 
   rule-too : (is_duplicate : Bool) (o : OverrideItem) → override_rule is_duplicate true m info o ≡ Ok tt → override_rule is_duplicate false m info o ≡ Ok tt
   rule-too is_duplicate o ok =
-      last-weaker (unless (not is_duplicate) override_error.DuplicateID) (unless (is_constructible info o.ty) override_error.NonConstructibleType)
-      (unless (is_override_type (inner_in m.types (Handle o.ty))) override_error.TypeNotScalar)
-      (initialiser_refusal true m info o.ty o.init) (initialiser_refusal false m info o.ty o.init) (initialiser-too o.ty o.init) ok
+      last-weaker (require (not is_duplicate) override_error.DuplicateID) (require (is_constructible info o.ty) override_error.NonConstructibleType)
+      (require (is_override_type (inner_in m.types (Handle o.ty))) override_error.TypeNotScalar)
+      (initialiser_error true m info o.ty o.init) (initialiser_error false m info o.ty o.init) (initialiser-too o.ty o.init) ok
 
   override-too : (at : ℕ × OverrideItem) → IsOk (override_result true m info at) → IsOk (override_result false m info at)
   override-too at ok =

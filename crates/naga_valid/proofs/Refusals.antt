@@ -2,7 +2,7 @@
 use Rattle.std.proofs.Common.{◌≡◌, ℕ, List, Result, Err, IsOk, IsTrue, inl, inr, slice_get, refl, sym, subst, ap, ◌∙◌}
 use Rattle.naga_arena.proofs.Elements.{all_at}
 use Rattle.naga_arena.proofs.InOrder.{accepted_once, refused_not_accepted}
-use Rattle.naga_arena.specs.InOrder.{AllAcceptedInOrder, IsFirstRefusalInOrder}
+use Rattle.naga_arena.specs.InOrder.{AllAcceptedInOrder, IsFirstErrorInOrder}
 use Rattle.naga_handles.specs.Faults.{IsFault, invalid, missing_member}
 use Rattle.naga_handles.specs.declared.error.ValidationFault.{ValidationFault}
 use Rattle.naga_ir.specs.Handles.{HandlesAccepted}
@@ -17,13 +17,13 @@ use Rattle.naga_typing.specs.Layout.{layout_results}
 use Rattle.naga_typing.specs.Typings.{Resolves, resolve_in_order}
 use Rattle.naga_typing.specs.declared.layouter.LayoutError.{LayoutError}
 use Rattle.naga_typing.specs.declared.layouter.TypeLayout.{TypeLayout}
-use Rattle.naga_valid.specs.Accepted.{AreValidTypes, IsEarlyRefusal, IsKnown, IsLayoutRefusal, IsTypeRefusal, IsValid, Refuses, checks_values, lists_of}
+use Rattle.naga_valid.specs.Accepted.{AreValidTypes, IsEarlyRefusal, AreTypesAndExpressionsAccepted, IsLayoutRefusal, IsTypeRefusal, IsValid, Refuses, checks_values, lists_of}
 use Rattle.naga_valid.specs.Faults.{error_of}
 use Rattle.naga_valid.specs.State.{Facts, Settings}
 use Rattle.naga_valid.specs.Values.{AreValueResults, value_results}
 use Rattle.naga_valid.specs.declared.error.ValidationError.{ValidationError}
 use Rattle.naga_valid.specs.declared.error.ValidationError.TheVariants.{Layouter, Type_}
-use Rattle.naga_valid.specs.steps.JudgedValues.{IsFirstError, IsFirstUnresolved}
+use Rattle.naga_valid.specs.steps.KnownValues.{IsFirstValueError, IsFirstUnresolved}
 
 module _ (resolves : Resolves) (m : Module) (settings : Settings) where
   -- a fault of the handles
@@ -40,7 +40,7 @@ module _ (resolves : Resolves) (m : Module) (settings : Settings) where
   type_refuses handle name source r = (inl (inr r), λ v. not_valid v)
     where
       First : List TypeLayout → Type 0
-      First layouts = IsFirstRefusalInOrder (types_rule (global_lists m) settings.capabilities settings.resolved layouts) m.types handle source
+      First layouts = IsFirstErrorInOrder (types_rule (global_lists m) settings.capabilities settings.resolved layouts) m.types handle source
 
       not_valid : ¬ (IsValid resolves m settings)
       not_valid (facts, v) =
@@ -65,7 +65,7 @@ module _ (resolves : Resolves) (m : Module) (settings : Settings) where
       Of layouts = AllAcceptedInOrder (types_rule (global_lists m) settings.capabilities settings.resolved layouts) m.types us
 
   -- and so are all facts
-  facts_once : (us vs : Facts) → IsKnown resolves m settings us → IsKnown resolves m settings vs → us ≡ vs
+  facts_once : (us vs : Facts) → AreTypesAndExpressionsAccepted resolves m settings us → AreTypesAndExpressionsAccepted resolves m settings vs → us ≡ vs
   facts_once us vs u v = record_once (infos_once us.infos vs.infos u.types v.types) (accepted_once (resolve_in_order resolves m) m.global_expressions us.resolutions vs.resolutions u.resolutions v.resolutions)
     where
       record_once : us.infos ≡ vs.infos → us.resolutions ≡ vs.resolutions → us ≡ vs
@@ -77,8 +77,8 @@ module _ (resolves : Resolves) (m : Module) (settings : Settings) where
       r.2 ∙ ap (value_results settings.capabilities settings.resolved m (lists_of facts)) (accepted_once kind_in_order m.global_expressions r.0 q.0 r.1 q.1) ∙ sym q.2
 
   -- a value that breaks its rule
-  pub value_refuses : (facts : Facts) (results : List (Result (Unit {0}) ValidationError)) (e : ValidationError) → IsKnown resolves m settings facts → IsTrue (checks_values settings)
-      → AreValueResults settings.capabilities settings.resolved m (lists_of facts) results → IsFirstError results e → Refuses resolves m settings e
+  pub value_refuses : (facts : Facts) (results : List (Result (Unit {0}) ValidationError)) (e : ValidationError) → AreTypesAndExpressionsAccepted resolves m settings facts → IsTrue (checks_values settings)
+      → AreValueResults settings.capabilities settings.resolved m (lists_of facts) results → IsFirstValueError results e → Refuses resolves m settings e
   value_refuses facts results e known checked are first = (
     inr (record { facts = facts; known = known; checked = checked; results = results; are_results = are; place = first.0; first = first.1 }),
     not_valid,

@@ -2,7 +2,7 @@
 use Rattle.std.proofs.Common.{◌≡◌, ℕ, List, Option, Some, None, IfSome, slice_get}
 use Rattle.naga_immediates.proofs.SlotLeaves.{slots_of_leaves}
 use Rattle.naga_immediates.specs.LeafSlots.{HasNoArray, HasSlotsOfLeaves}
-use Rattle.naga_immediates.specs.Slots.{AreExactly, UsesSlot}
+use Rattle.naga_immediates.specs.Slots.{IsSetOf, UsesSlot}
 use Rattle.naga_immediates.specs.declared.immediates.ImmediateSlots.{ImmediateSlots}
 use Rattle.naga_ir.specs.ItemReferences.{global_lists}
 use Rattle.naga_ir.specs.declared.ir.Module.{Module}
@@ -22,7 +22,7 @@ followed P Q (Some info) f h = f info h
 module _ (m : Module) (settings : Settings) (infos : List TypeInfo) (valid : AreValidTypes m settings infos) (t n at : ℕ) (slots : ImmediateSlots) where
   -- a set has the slots of the leaves if it has those that the type uses
   abbrev UsesLeaves : Type 0
-  UsesLeaves = HasNoArray (global_lists m) t → (inner : TypeInner) → inner_at (global_lists m) t ≡ Some inner → AreExactly (UsesSlot (global_lists m) inner at) slots → HasSlotsOfLeaves (global_lists m) n t at slots
+  UsesLeaves = HasNoArray (global_lists m) t → (inner : TypeInner) → inner_at (global_lists m) t ≡ Some inner → IsSetOf (UsesSlot (global_lists m) inner at) slots → HasSlotsOfLeaves (global_lists m) n t at slots
 
   pub same_as_leaves : IfSome (slice_get infos t) (λ info. IsForHosts info → UsesLeaves)
   same_as_leaves =

@@ -1,7 +1,7 @@
 -- Which modules are accepted, and how the others are refused.
 use Rattle.std.specs.Prelude.{◌≡◌, ◌⊎◌, ℕ, Bool, List, [], All, IsOk, IsTrue, Result, Some, map, slice_get, unwrap_or}
-use Rattle.naga_arena.specs.InOrder.{IsFirstRefusalInOrder}
-use Rattle.naga_arena.specs.Results.{IsFirstRefusal}
+use Rattle.naga_arena.specs.InOrder.{IsFirstErrorInOrder}
+use Rattle.naga_arena.specs.Results.{IsFirstError}
 use Rattle.naga_flags.specs.Bits.{CONSTANTS}
 use Rattle.naga_flags.specs.Flags.{has}
 use Rattle.naga_handles.specs.Faults.{IsFault, IsHandleFault}
@@ -37,7 +37,7 @@ pub record AreValidTypes (m : Module) (settings : Settings) (infos : List TypeIn
   pub accepted : AreTypesAccepted m settings.capabilities settings.resolved layouts infos
 
 -- so are they, and its global expressions have types: these are the facts
-pub record IsKnown (resolves : Resolves) (m : Module) (settings : Settings) (facts : Facts) : Type 0 where
+pub record AreTypesAndExpressionsAccepted (resolves : Resolves) (m : Module) (settings : Settings) (facts : Facts) : Type 0 where
   pub types : AreValidTypes m settings facts.infos
   pub resolutions : AreResolved resolves m facts.resolutions
 
@@ -53,7 +53,7 @@ checks_values settings = has settings.flags.0 CONSTANTS
 
 -- a module is accepted, and these are the facts: they are known, and its values keep their rules if they are validated
 pub record IsAccepted (resolves : Resolves) (m : Module) (settings : Settings) (facts : Facts) : Type 0 where
-  pub known : IsKnown resolves m settings facts
+  pub known : AreTypesAndExpressionsAccepted resolves m settings facts
   pub values : IsTrue (checks_values settings) → AreValuesAccepted m settings facts
 
 -- a module keeps all rules
@@ -77,13 +77,13 @@ IsMissingMember m handle name source = IsFault m (MissingMember handle name) × 
 
 -- all handles are right, and this is the first type that has no layout
 abbrev pub IsLayoutRefusal : Module → LayoutError → Type 0
-IsLayoutRefusal m e = HandlesAccepted m × IsFirstRefusal (layout_results (global_lists m)) e.ty e.inner
+IsLayoutRefusal m e = HandlesAccepted m × IsFirstError (layout_results (global_lists m)) e.ty e.inner
 
 -- all types have layouts, and the type of this index is the first that breaks its rule
 pub record IsTypeRefusal (m : Module) (settings : Settings) (handle : ℕ) (name : List ℕ) (source : TypeError) : Type 0 where
   pub layouts : List TypeLayout
   pub laid_out : IsLaidOut m layouts
-  pub first : IsFirstRefusalInOrder (types_rule (global_lists m) settings.capabilities settings.resolved layouts) m.types handle source
+  pub first : IsFirstErrorInOrder (types_rule (global_lists m) settings.capabilities settings.resolved layouts) m.types handle source
   pub named : IsNameOf m.types handle name
 
 -- all types keep their rules, and the global expression of this index is the first that has no type
@@ -91,18 +91,18 @@ pub record IsUnresolved (resolves : Resolves) (m : Module) (settings : Settings)
   pub infos : List TypeInfo
   pub types : AreValidTypes m settings infos
   pub error : ResolveError
-  pub first : IsFirstRefusalInOrder (resolve_in_order resolves m) m.global_expressions handle error
+  pub first : IsFirstErrorInOrder (resolve_in_order resolves m) m.global_expressions handle error
   pub reported_as : source ≡ Unresolved error
 
 -- types and global expressions are known, and this is the first error among the values
 pub record IsValueRefusal (resolves : Resolves) (m : Module) (settings : Settings) (e : ValidationError) : Type 0 where
   pub facts : Facts
-  pub known : IsKnown resolves m settings facts
+  pub known : AreTypesAndExpressionsAccepted resolves m settings facts
   pub checked : IsTrue (checks_values settings)
   pub results : List (Result (Unit {0}) ValidationError)
   pub are_results : AreValueResults settings.capabilities settings.resolved m (lists_of facts) results
   pub place : ℕ
-  pub first : IsFirstRefusal results place e
+  pub first : IsFirstError results place e
 
 -- a refusal of a module before its values are judged: a fault of its handles, else the first of its layouts, else of its types, else of the types of its global expressions
 abbrev pub IsEarlyRefusal : Resolves → Module → Settings → ValidationError → Type 0

@@ -2,7 +2,7 @@
 use Rattle.std.specs.Prelude.{◌≡◌, ◌⊎◌, ◌<◌, ◌≤◌, ℕ, Bool, List, Result, Ok, Err, Some, bit_and, fold, length, map, slice_get}
 use Rattle.naga_flags.specs.Bits.{all_stages}
 use Rattle.naga_flags.specs.declared.flags.ShaderStages.{ShaderStages}
-use Rattle.naga_exprs.specs.ExpressionRule.{IsMeant}
+use Rattle.naga_exprs.specs.ExpressionRule.{IsRule}
 use Rattle.naga_info.specs.FunctionTypes.{AreFunctionTypes, AreTypesBefore, IsUntyped}
 use Rattle.naga_info.specs.ModuleInfo.{ModuleInfoLists}
 use Rattle.naga_info.specs.declared.module_info.FunctionInfo.{FunctionInfo}
@@ -50,8 +50,8 @@ function_surroundings resolves math state resolved m f infos = record {
 }
 
 -- what one of them is judged by, once their types and kinds are known
-abbrev pub judged_with : FunctionSurroundings → List TypeResolution → List ExpressionKind → ExpressionSurroundings
-judged_with s types kinds = record {
+abbrev pub expression_surroundings : FunctionSurroundings → List TypeResolution → List ExpressionKind → ExpressionSurroundings
+expression_surroundings s types kinds = record {
   capabilities = s.capabilities;
   resolved = s.resolved;
   subgroup_stages = s.subgroup_stages;
@@ -63,13 +63,13 @@ judged_with s types kinds = record {
 }
 
 -- by these types, this is what the rule of the expression at a place says
-abbrev pub IsMeantAt : FunctionSurroundings → List TypeResolution → ℕ → Result ShaderStages ExpressionError → Type 0
-IsMeantAt s types place meant =
-    (x : Expression) × (kinds : List ExpressionKind) × (slice_get s.function.expressions place ≡ Some x) × AreKinds s.function.expressions kinds × IsMeant s.math (judged_with s types kinds) x meant
+abbrev pub IsRuleAt : FunctionSurroundings → List TypeResolution → ℕ → Result ShaderStages ExpressionError → Type 0
+IsRuleAt s types place meant =
+    (x : Expression) × (kinds : List ExpressionKind) × (slice_get s.function.expressions place ≡ Some x) × AreKinds s.function.expressions kinds × IsRule s.math (expression_surroundings s types kinds) x meant
 
 -- as many of the first expressions keep their rules, and these are the stages that may use each
 abbrev pub KeepRules : FunctionSurroundings → List TypeResolution → List ShaderStages → Type 0
-KeepRules s types stages = (place : ℕ) (allowed : ShaderStages) → slice_get stages place ≡ Some allowed → IsMeantAt s types place (Ok allowed)
+KeepRules s types stages = (place : ℕ) (allowed : ShaderStages) → slice_get stages place ≡ Some allowed → IsRuleAt s types place (Ok allowed)
 
 -- the stages that are in each of some sets of stages
 abbrev pub common_stages : List ShaderStages → ShaderStages
@@ -94,8 +94,8 @@ AreTypesReached s types = AreFunctionTypes s.resolves s.«module» s.function ty
 
 -- the expression at a place is refused: its rule says so, or allows some stages, and it has no type
 pub data IsRefusedAt (s : FunctionSurroundings) (types : List TypeResolution) (place : ℕ) : ExpressionError → Type 0 where
-  breaks_rule : (source : ExpressionError) → IsMeantAt s types place (Err source) → IsRefusedAt s types place source
-  has_no_type : (allowed : ShaderStages) (error : ResolveError) → IsMeantAt s types place (Ok allowed) → length types ≡ place → IsFirstUntyped s types error → IsRefusedAt s types place (Type_ error)
+  breaks_rule : (source : ExpressionError) → IsRuleAt s types place (Err source) → IsRefusedAt s types place source
+  has_no_type : (allowed : ShaderStages) (error : ResolveError) → IsRuleAt s types place (Ok allowed) → length types ≡ place → IsFirstUntyped s types error → IsRefusedAt s types place (Type_ error)
 
 -- the expression at a place is the first that is refused: those before it have types and keep their rules
 pub record IsFunctionRefusal (s : FunctionSurroundings) (place : ℕ) (source : ExpressionError) : Type 0 where
@@ -117,11 +117,11 @@ abbrev pub CallsBefore : Function → ℕ → Type 0
 CallsBefore f count = (e called : ℕ) → slice_get f.expressions e ≡ Some (form.CallResult called) → called < count
 
 -- the handles of a function are right, and so many functions have to be known before it is judged
-pub record CanJudgeFunction (m : Module) (f : Function) (count : ℕ) : Type 0 where
+pub record IsFunctionReady (m : Module) (f : Function) (count : ℕ) : Type 0 where
   pub references : FunctionReferencesOk m f
   pub calls : CallsBefore f count
 
 -- the functions of a module can be judged in order, each once those before it are known, and its entry points once all functions are
-pub record CanJudgeInOrder (m : Module) : Type 0 where
-  pub functions : (i : ℕ) (f : Function) → slice_get m.functions i ≡ Some f → CanJudgeFunction m f i
-  pub entry_points : (i : ℕ) (e : EntryPoint) → slice_get m.entry_points i ≡ Some e → CanJudgeFunction m e.function (length m.functions)
+pub record AreFunctionsReadyInOrder (m : Module) : Type 0 where
+  pub functions : (i : ℕ) (f : Function) → slice_get m.functions i ≡ Some f → IsFunctionReady m f i
+  pub entry_points : (i : ℕ) (e : EntryPoint) → slice_get m.entry_points i ≡ Some e → IsFunctionReady m e.function (length m.functions)

@@ -4,7 +4,7 @@
 -- Accepted.Accepts, Refuses: what validate says of a module that it accepts, and of one that it refuses
 -- Values.constant_rule, override_rule, value_results: the rules of constants and overrides, and of all values of a module
 -- Functions.IsFunctionAccepted, IsFunctionRefusal, RefusesFunction: when the expressions of a function are accepted, what is known of it then, and the first that is refused
--- Functions.CanJudgeInOrder: what a module's functions need for that
+-- Functions.AreFunctionsReadyInOrder: what a module's functions need for that
 -- State.State, Settings, fresh: what a validator keeps from call to call, and begins with
 pub mod Accepted
 pub mod Faults

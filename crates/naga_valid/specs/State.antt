@@ -45,8 +45,8 @@ abbrev pub operations_with : ℕ → ℕ
 operations_with capabilities = if has capabilities SUBGROUP then all_subgroup_operations else 0
 
 -- a validator under these settings that has accepted no module
-abbrev pub fresh : {T : Type 0} → ValidationFlags → Capabilities → T → State T
-fresh flags capabilities typing = record {
+abbrev pub new_state : {T : Type 0} → ValidationFlags → Capabilities → T → State T
+new_state flags capabilities typing = record {
   flags = flags;
   capabilities = capabilities;
   subgroup_stages = record { 0 = stages_with capabilities.0 };

@@ -1,4 +1,4 @@
 -- What private functions alone do.
 pub mod Functions
 pub mod Ids
-pub mod JudgedValues
+pub mod KnownValues

@@ -4,12 +4,12 @@ ghost use Rattle.std.specs.Prelude.{◌≡◌, ◌<◌, ◌≤◌, ◌⊎◌, �
 ghost use Rattle.naga_arena.specs.Memory.{UnlessOutOfMemory};
 ghost use Rattle.naga_arena.specs.Span.{inner_of};
 ghost use Rattle.naga_exprs.specs.ConstExpression.{literal_rule};
-ghost use Rattle.naga_exprs.specs.ExpressionRule.{IsExpressionReturned};
+ghost use Rattle.naga_exprs.specs.ExpressionRule.{IsExpressionResult};
 ghost use Rattle.naga_flags.specs.Width.{width_rule};
 ghost use Rattle.naga_ir.specs.Handles.{HandlesAccepted};
 ghost use Rattle.naga_ir.specs.ItemReferences.{global_lists};
-ghost use Rattle.naga_info.specs.Surroundings.{CanJudge};
-ghost use Rattle.naga_types.specs.AcceptedTypes.{IsLaidOut, judged_by, rule_at};
+ghost use Rattle.naga_info.specs.Surroundings.{IsReady};
+ghost use Rattle.naga_types.specs.AcceptedTypes.{IsLaidOut, surroundings_by, rule_at};
 ghost use Rattle.naga_types.specs.HostLeaves.{AllLeavesAreSeparate};
 ghost use Rattle.naga_types.specs.RuleResults.{IsRuleResult};
 ghost use Rattle.naga_types.specs.declared.error.TypeError.TheVariants as TypeError;
@@ -18,7 +18,7 @@ ghost use Rattle.naga_typing.specs.Typings.{AreResolved, Resolves};
 ghost use Rattle.naga_valid.specs.Accepted.{Accepts, AreValidTypes, Refuses, lists_of};
 ghost use Rattle.naga_valid.specs.State.{settings_of};
 ghost use Rattle.naga_valid.specs.State as state;
-ghost use Rattle.naga_valid.specs.steps.JudgedValues.{IsFirstUnresolved};
+ghost use Rattle.naga_valid.specs.steps.KnownValues.{IsFirstUnresolved};
 
 use crate::error::ValidationError;
 use crate::override_ids::OverrideIds;
@@ -146,7 +146,7 @@ impl Validator<PlainTyping> {
         flags: ValidationFlags,
         capabilities: Capabilities,
     ) -> Validator<PlainTyping>
-        ensures { result ≡ state.fresh flags capabilities result.typing }
+        ensures { result ≡ state.new_state flags capabilities result.typing }
     {
         Validator::with_typing(alloc, flags, capabilities, PlainTyping)
     }
@@ -160,7 +160,7 @@ impl<T: Typing> Validator<T> {
         capabilities: Capabilities,
         typing: T,
     ) -> Validator<T>
-        ensures { result ≡ state.fresh flags capabilities typing }
+        ensures { result ≡ state.new_state flags capabilities typing }
     {
         Validator {
             alloc,
@@ -353,7 +353,7 @@ impl<T: Typing> Validator<T> {
         mod_info: &ModuleInfo,
         kinds: &ExpressionKindTracker,
     ) -> Result<ShaderStages, ExpressionError>
-        requires can_judge { CanJudge (record {
+        requires ready { IsReady (record {
           capabilities = self.now.capabilities.0;
           resolved = overrides_resolved;
           subgroup_stages = self.now.subgroup_stages;
@@ -363,7 +363,7 @@ impl<T: Typing> Validator<T> {
           infos = mod_info.now.lists;
           kinds = kinds.now;
         }) root expression.now }
-        ensures { IsExpressionReturned (record { accepts = T.accepts_types self.now.typing; least_arguments = T.least_arguments self.now.typing }) (record {
+        ensures { IsExpressionResult (record { accepts = T.accepts_types self.now.typing; least_arguments = T.least_arguments self.now.typing }) (record {
           capabilities = self.now.capabilities.0;
           resolved = overrides_resolved;
           subgroup_stages = self.now.subgroup_stages;
@@ -474,9 +474,9 @@ fn type_info_of(
     module: &Module,
 ) -> Result<TypeInfo, TypeError>
     requires exists { handle < length «module».now.types }
-    requires judged { handle ≤ length infos.now.infos }
+    requires known { handle ≤ length infos.now.infos }
     requires laid_out { IsLaidOut «module».now layouter.now }
-    ensures { IfSome (rule_at (judged_by (global_lists «module».now) settings.capabilities settings.resolved layouter.now infos.now.infos) handle) (λ rule. IsRuleResult rule result) }
+    ensures { IfSome (rule_at (surroundings_by (global_lists «module».now) settings.capabilities settings.resolved layouter.now infos.now.infos) handle) (λ rule. IsRuleResult rule result) }
 {
     let ctx = TypeContext {
         capabilities: settings.capabilities,

@@ -4,7 +4,7 @@ ghost use Rattle.std.specs.Prelude.{◌≡◌, ◌≤◌, length};
 ghost use Rattle.naga_arena.specs.Memory.{UnlessOutOfMemory};
 ghost use Rattle.naga_ir.specs.Handles.{FunctionReferencesOk, HandlesAccepted};
 ghost use Rattle.naga_valid.specs.Functions.{CallsBefore, IsFunctionAccepted, RefusesFunction, function_surroundings};
-ghost use Rattle.naga_valid.specs.steps.Functions.{AllowInCommon, CanAskRules, IsFirstBreachAs};
+ghost use Rattle.naga_valid.specs.steps.Functions.{AllowInCommon, CanCheckRules, IsFirstBreachAs};
 
 use crate::driver::Validator;
 use bitflags::Flags;
@@ -126,7 +126,7 @@ impl<T: Typing> Validator<T> {
         info: &FunctionInfo,
         overrides_resolved: bool,
     ) -> Result<ShaderStages, FunctionError>
-        requires { CanAskRules (function_surroundings (T.resolves self.now.typing) (record { accepts = T.accepts_types self.now.typing; least_arguments = T.least_arguments self.now.typing }) self.now overrides_resolved «module».now function.now mod_info.now.lists) info.now.types }
+        requires { CanCheckRules (function_surroundings (T.resolves self.now.typing) (record { accepts = T.accepts_types self.now.typing; least_arguments = T.least_arguments self.now.typing }) self.now overrides_resolved «module».now function.now mod_info.now.lists) info.now.types }
         ensures { UnlessOutOfMemory (λ e. e ≡ FunctionError.OutOfMemory) result
             (λ common. AllowInCommon (function_surroundings (T.resolves self.now.typing) (record { accepts = T.accepts_types self.now.typing; least_arguments = T.least_arguments self.now.typing }) self.now overrides_resolved «module».now function.now mod_info.now.lists) info.now.types common)
             (λ e. IsFirstBreachAs (function_surroundings (T.resolves self.now.typing) (record { accepts = T.accepts_types self.now.typing; least_arguments = T.least_arguments self.now.typing }) self.now overrides_resolved «module».now function.now mod_info.now.lists) info.now.types e) }

@@ -12,7 +12,7 @@
 ghost use Rattle.std.specs.Prelude.{◌≡◌, ◌+◌, ◌*◌, ◌≤◌, ℕ, IfSome, Some, bit_or, length, slice_get};
 ghost use Rattle.naga_immediates.specs.LeafSlots.{HasNoArray, HasSlotsOfLeaves};
 ghost use Rattle.naga_immediates.specs.SlotText as text;
-ghost use Rattle.naga_immediates.specs.Slots.{AreExactly, SharesByte, UsesSlot};
+ghost use Rattle.naga_immediates.specs.Slots.{IsSetOf, SharesByte, UsesSlot};
 ghost use Rattle.naga_ir.specs.Handles.{HandlesAccepted};
 ghost use Rattle.naga_ir.specs.ItemReferences.{global_lists};
 ghost use Rattle.naga_types.specs.HostLayouts.{HasStorageByLeaves, HasUniformByLeaves, HaveLeafAlignments, IsForHosts, MembersHaveFlags};
@@ -20,7 +20,7 @@ ghost use Rattle.naga_types.specs.HostLeaves.{IsLaidOutForHosts, resolved_for_ho
 ghost use Rattle.naga_ir.specs.declared.types.TypeInner.{TypeInner};
 ghost use Rattle.naga_typing.specs.Leaves.{AreSeparate, EndsInArray, inner_at, size_at_index};
 ghost use Rattle.naga_valid.specs.Accepted.{Accepts, AreValidTypes};
-ghost use Rattle.naga_valid.specs.Functions.{CanJudgeInOrder};
+ghost use Rattle.naga_valid.specs.Functions.{AreFunctionsReadyInOrder};
 ghost use Rattle.naga_valid.specs.State.{settings_of};
 
 use crate::driver::Validator;
@@ -151,7 +151,7 @@ pub fn slots_of_leaves<T: Typing>(
 )
     requires accepted { AreValidTypes «module».now (settings_of validator.now resolved) validator.now.infos }
     ensures { IfSome (slice_get validator.now.infos ty) (λ info. IsForHosts info → HasNoArray (global_lists «module».now) ty
-        → (inner : TypeInner) → inner_at (global_lists «module».now) ty ≡ Some inner → AreExactly (UsesSlot (global_lists «module».now) inner offset) slots
+        → (inner : TypeInner) → inner_at (global_lists «module».now) ty ≡ Some inner → IsSetOf (UsesSlot (global_lists «module».now) inner offset) slots
         → HasSlotsOfLeaves (global_lists «module».now) length ty offset slots) }
 {}
 
@@ -174,9 +174,9 @@ pub fn ranges_join(
     next: ImmediateSlots,
     both: ImmediateSlots,
 )
-    requires first { AreExactly (SharesByte offset size) first }
-    requires next { AreExactly (SharesByte (offset + size) more) next }
-    requires both { AreExactly (SharesByte offset (size + more)) both }
+    requires first { IsSetOf (SharesByte offset size) first }
+    requires next { IsSetOf (SharesByte (offset + size) more) next }
+    requires both { IsSetOf (SharesByte offset (size + more)) both }
     ensures { record { 0 = bit_or first.0 next.0 } ≡ both }
 {}
 
@@ -193,5 +193,5 @@ pub fn functions<T: Typing>(
     requires accepted { Accepts (T.resolves validator.now.typing) «module».now (settings_of validator.now resolved) validator.now.infos mod_info.now.lists }
     ensures handles { HandlesAccepted «module».now }
     ensures flags { length «module».now.types ≤ length mod_info.now.lists.type_flags }
-    ensures in_order { CanJudgeInOrder «module».now }
+    ensures in_order { AreFunctionsReadyInOrder «module».now }
 {}

@@ -8,7 +8,7 @@ ghost use Rattle.naga_valid.specs.Values as rule;
 ghost use Rattle.naga_valid.specs.Values.{AreValueResults};
 ghost use Rattle.naga_valid.specs.declared.error.ValidationError as error;
 ghost use Rattle.naga_valid.specs.steps.Ids.{IsChecked, id_count};
-ghost use Rattle.naga_valid.specs.steps.JudgedValues.{AreFilled, AreJudged, IsFirstError};
+ghost use Rattle.naga_valid.specs.steps.KnownValues.{AreFilled, AreFilledWithKinds, IsFirstValueError};
 
 use crate::error::{ConstantError, OverrideError, ValidationError};
 use crate::override_ids::OverrideIds;
@@ -104,7 +104,7 @@ fn validate_constant(
     mod_info: &ModuleInfo,
     kinds: &ExpressionKindTracker,
 ) -> Result<(), ConstantError>
-    requires judged { AreJudged «module».now mod_info.now.lists kinds.now }
+    requires known { AreFilledWithKinds «module».now mod_info.now.lists kinds.now }
     requires ty { constant.now.ty < length «module».now.types }
     requires init { constant.now.init < length «module».now.global_expressions }
     ensures { result ≡ rule.constant_rule «module».now mod_info.now.lists kinds.now constant.now }
@@ -170,10 +170,10 @@ fn validate_expressions<T: Typing>(
     mod_info: &ModuleInfo,
     kinds: &ExpressionKindTracker,
 ) -> Result<(), WithSpan<ValidationError>>
-    requires { AreJudged «module».now mod_info.now.lists kinds.now }
+    requires { AreFilledWithKinds «module».now mod_info.now.lists kinds.now }
     ensures { MatchResult result
         (λ _. All IsOk (rule.results_of (rule.expression_result (rule.const_surroundings ctx.entry.capabilities ctx.entry.overrides_resolved «module».now mod_info.now.lists kinds.now)) «module».now.global_expressions))
-        (λ e. IsFirstError (rule.results_of (rule.expression_result (rule.const_surroundings ctx.entry.capabilities ctx.entry.overrides_resolved «module».now mod_info.now.lists kinds.now)) «module».now.global_expressions) (inner_of e)) }
+        (λ e. IsFirstValueError (rule.results_of (rule.expression_result (rule.const_surroundings ctx.entry.capabilities ctx.entry.overrides_resolved «module».now mod_info.now.lists kinds.now)) «module».now.global_expressions) (inner_of e)) }
 {
     for (handle, _) in module.global_expressions.iter() {
         if let Err(source) = validate_const_expression(
@@ -197,10 +197,10 @@ fn validate_constants(
     mod_info: &ModuleInfo,
     kinds: &ExpressionKindTracker,
 ) -> Result<(), WithSpan<ValidationError>>
-    requires { AreJudged «module».now mod_info.now.lists kinds.now }
+    requires { AreFilledWithKinds «module».now mod_info.now.lists kinds.now }
     ensures { UnlessOutOfMemory (λ e. inner_of e ≡ ValidationError.OutOfMemory) result
         (λ _. All IsOk (rule.results_of (rule.constant_result «module».now mod_info.now.lists kinds.now) «module».now.constants))
-        (λ e. IsFirstError (rule.results_of (rule.constant_result «module».now mod_info.now.lists kinds.now) «module».now.constants) (inner_of e)) }
+        (λ e. IsFirstValueError (rule.results_of (rule.constant_result «module».now mod_info.now.lists kinds.now) «module».now.constants) (inner_of e)) }
 {
     for (handle, constant) in module.constants.iter() {
         if let Err(source) = validate_constant(constant, module, mod_info, kinds) {
@@ -227,7 +227,7 @@ fn validate_overrides(
     requires { AreFilled «module».now mod_info.now.lists }
     ensures { UnlessOutOfMemory (λ e. inner_of e ≡ ValidationError.OutOfMemory) result
         (λ _. All IsOk (rule.results_of (rule.override_result overrides_resolved «module».now mod_info.now.lists) «module».now.overrides))
-        (λ e. IsFirstError (rule.results_of (rule.override_result overrides_resolved «module».now mod_info.now.lists) «module».now.overrides) (inner_of e)) }
+        (λ e. IsFirstValueError (rule.results_of (rule.override_result overrides_resolved «module».now mod_info.now.lists) «module».now.overrides) (inner_of e)) }
 {
     ids.clear()?;
     for (handle, over) in module.overrides.iter() {
@@ -262,7 +262,7 @@ pub fn validate_values<T: Typing>(
     requires { AreFilled «module».now mod_info.now.lists }
     ensures { UnlessOutOfMemory (λ e. inner_of e ≡ ValidationError.OutOfMemory) result
         (λ _. (results : List (Result (Unit {0}) error.ValidationError)) × AreValueResults ctx.entry.capabilities ctx.entry.overrides_resolved «module».now mod_info.now.lists results × All IsOk results)
-        (λ e. (results : List (Result (Unit {0}) error.ValidationError)) × AreValueResults ctx.entry.capabilities ctx.entry.overrides_resolved «module».now mod_info.now.lists results × IsFirstError results (inner_of e)) }
+        (λ e. (results : List (Result (Unit {0}) error.ValidationError)) × AreValueResults ctx.entry.capabilities ctx.entry.overrides_resolved «module».now mod_info.now.lists results × IsFirstValueError results (inner_of e)) }
 {
     let kinds = ExpressionKindTracker::from_arena(alloc, &module.global_expressions)?;
     validate_expressions(ctx, module, mod_info, &kinds)?;

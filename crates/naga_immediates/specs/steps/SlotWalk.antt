@@ -30,7 +30,7 @@ pub record TypeUses (g : GlobalLists) (t at k : ℕ) : Type 0 where
   pub uses : UsesSlot g inner at k
 
 -- a set has gained exactly the slots that a type uses from a byte on
-pub record Gains (g : GlobalLists) (t at : ℕ) (old new : ImmediateSlots) : Type 0 where
+pub record AddsSlotsOf (g : GlobalLists) (t at : ℕ) (old new : ImmediateSlots) : Type 0 where
   pub kept : (k : ℕ) → HasSlot old k → HasSlot new k
   pub gained : (k : ℕ) → k < slot_count → TypeUses g t at k → HasSlot new k
   pub only : (k : ℕ) → HasSlot new k → HasSlot old k ⊎ ((k < slot_count) × TypeUses g t at k)

@@ -4,7 +4,7 @@ use Rattle.std.specs.Prelude.{Ok, Err}
 use Rattle.std.specs.List.{flat_map}
 use Rattle.naga_ir.specs.Statements.{block_references, statement_references, case_references}
 use Rattle.naga_ir.specs.steps.StatementParts.{references_of}
-use Rattle.naga_ir.specs.FirstFailure.{ChecksEach}
+use Rattle.naga_ir.specs.FirstError.{ChecksEach}
 use Rattle.naga_ir.specs.declared.statement.Statement.TheOpen as one
 use Rattle.naga_ir.specs.declared.statement.Statement.TheViews.{out-Statement, the_lemmas}
 use Rattle.naga_ir.proofs.StatementLemmas.{nested, checks-along, checks-none, checks-before, checks-then, checks-more, checks-stop, checks-end, checks-statement, statement-out, block-out, case-out}

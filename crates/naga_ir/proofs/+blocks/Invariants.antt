@@ -2,7 +2,7 @@ use Rattle.std.proofs.Common.{take, map}
 use Rattle.std.specs.Prelude.{Ok}
 use Rattle.std.specs.List.{flat_map}
 use Rattle.naga_ir.specs.Statements.{statement_references, case_references}
-use Rattle.naga_ir.specs.FirstFailure.{ChecksEach}
+use Rattle.naga_ir.specs.FirstError.{ChecksEach}
 use Rattle.naga_ir.proofs.+blocks.Given as goal
 
 abbrev pub invariant-statement::Block::try_for_each_reference-loop-statement : goal.invariant-statement::Block::try_for_each_reference-loop-statement

@@ -1,9 +1,9 @@
 -- Where the integers of expressions come from.
-use Rattle.std.specs.Prelude.{◌≡◌, ◌+◌, ◌<◌, ◌≤◌, ℕ, ℤ, Bool as Truth, true, false, Contains, List, Option, Some, None, length, slice_get, ⊤}
+use Rattle.std.specs.Prelude.{◌≡◌, ◌+◌, ◌<◌, ◌≤◌, ℕ, ℤ, Bool as Boolean, true, false, Contains, List, Option, Some, None, length, slice_get, ⊤}
 use Rattle.naga_ir.specs.declared.expression.Expression.{Expression}
 use Rattle.naga_ir.specs.declared.expression.Expression.TheVariants as form
 use Rattle.naga_info.specs.Surroundings.{ExpressionSurroundings}
-use Rattle.naga_operator_exprs.specs.Integers.{HasForbidden, HasInteger, IsOwnInteger, beside, expression_at, is_forbidden}
+use Rattle.naga_operator_exprs.specs.Integers.{ContainsForbidden, ContainsInteger, IsOwnInteger, operand_place, expression_at, is_forbidden}
 use Rattle.naga_operator_exprs.specs.declared.integers.Forbidden.{Forbidden}
 use Rattle.naga_operator_exprs.specs.declared.integers.Place.{Place}
 use Rattle.naga_operator_exprs.specs.declared.integers.Place.TheVariants.{InFunction, InModule}
@@ -22,15 +22,15 @@ rank s (InModule e) = e
 pub record IsSource (s : ExpressionSurroundings) (p q : Place) : Type 0 where
   pub exists : PlaceExists s q
   pub before : rank s q < rank s p
-  pub given : (n : ℤ) → HasInteger s q n → HasInteger s p n
-  pub taken : (n : ℤ) → HasInteger s p n → HasInteger s q n
+  pub given : (n : ℤ) → ContainsInteger s q n → ContainsInteger s p n
+  pub taken : (n : ℤ) → ContainsInteger s p n → ContainsInteger s q n
 
 -- the same, or it is the same place
 pub record IsSourceOrItself (s : ExpressionSurroundings) (p q : Place) : Type 0 where
   pub exists : PlaceExists s q
   pub not_after : rank s q ≤ rank s p
-  pub given : (n : ℤ) → HasInteger s q n → HasInteger s p n
-  pub taken : (n : ℤ) → HasInteger s p n → HasInteger s q n
+  pub given : (n : ℤ) → ContainsInteger s q n → ContainsInteger s p n
+  pub taken : (n : ℤ) → ContainsInteger s p n → ContainsInteger s q n
 
 -- an expression is no constant and no splat
 abbrev pub HasNoSource : Expression → Type 0
@@ -79,7 +79,7 @@ pub record AreComponents (s : ExpressionSurroundings) (p : Place) (components : 
   pub composed : (c : ℕ) → Contains components c → (ty : ℕ) × (expression_at s p ≡ Some (form.Compose ty components))
 
 -- whether a number that may not be there is forbidden
-abbrev pub is_forbidden_found : Forbidden → Option ℤ → Truth
+abbrev pub is_forbidden_found : Forbidden → Option ℤ → Boolean
 is_forbidden_found forbidden (Some n) = is_forbidden forbidden n
 is_forbidden_found forbidden None = false
 
@@ -89,4 +89,4 @@ OwnForbidden s forbidden x = (n : ℤ) × IsOwnInteger s x n × (is_forbidden fo
 
 -- no forbidden number is in the first of some components of the expression at a place
 abbrev pub NoneBefore : ExpressionSurroundings → Forbidden → Place → List ℕ → ℕ → Type 0
-NoneBefore s forbidden p components i = (k c : ℕ) → k < i → slice_get components k ≡ Some c → HasForbidden s forbidden (beside p c) → ⊥
+NoneBefore s forbidden p components i = (k c : ℕ) → k < i → slice_get components k ≡ Some c → ContainsForbidden s forbidden (operand_place p c) → ⊥

@@ -3,7 +3,7 @@
 
 ghost use Rattle.std.specs.Prelude.{◌≡◌, ◌≤◌, IfOk, IfSome, OnOk, [], length};
 ghost use Rattle.naga_ir.specs.Handles.{FunctionReferencesOk, HandlesAccepted};
-ghost use Rattle.naga_valid.specs.Functions.{CallsBefore, CanJudgeFunction, CanJudgeInOrder};
+ghost use Rattle.naga_valid.specs.Functions.{CallsBefore, IsFunctionReady, AreFunctionsReadyInOrder};
 
 use crate::answers::modules::{add_error, add_not_applicable};
 use crate::callable::{FunctionAt, function_of};
@@ -58,7 +58,7 @@ fn validate_first(
     count: usize,
 ) -> Result<(), Refusal>
     requires handles { HandlesAccepted draft.now.«module» }
-    requires in_order { CanJudgeInOrder draft.now.«module» }
+    requires in_order { AreFunctionsReadyInOrder draft.now.«module» }
     requires flags { length draft.now.«module».types ≤ length info.old.lists.type_flags }
     requires none { info.old.lists.functions ≡ [] }
     requires count { count ≤ length draft.now.«module».functions }
@@ -96,7 +96,7 @@ fn add_validated(
 ) -> Result<(), OutOfMemory>
     requires handles { HandlesAccepted draft.now.«module» }
     requires flags { length draft.now.«module».types ≤ length info.now.lists.type_flags }
-    requires can { CanJudgeFunction draft.now.«module» at.function.now (length info.now.lists.functions) }
+    requires can { IsFunctionReady draft.now.«module» at.function.now (length info.now.lists.functions) }
 {
     let validator = &session.validator;
     let resolved = draft.settings.resolved();
@@ -115,7 +115,7 @@ fn add_after_others(
     callable: Callable,
 ) -> Result<(), OutOfMemory>
     requires handles { HandlesAccepted draft.now.«module» }
-    requires in_order { CanJudgeInOrder draft.now.«module» }
+    requires in_order { AreFunctionsReadyInOrder draft.now.«module» }
     requires flags { length draft.now.«module».types ≤ length info.old.lists.type_flags }
     requires none { info.old.lists.functions ≡ [] }
 {

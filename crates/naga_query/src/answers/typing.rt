@@ -2,7 +2,7 @@
 //! types, and what mathematical functions take.
 
 ghost use Rattle.std.specs.Prelude.{IfSome};
-ghost use Rattle.naga_ir.specs.Handles.{ExpressionReferencesOk, FunctionReferencesOk, GlobalReferencesOk, GoBack, HandlesAccepted, OrderedOperands};
+ghost use Rattle.naga_ir.specs.Handles.{ExpressionReferencesOk, FunctionReferencesOk, GlobalReferencesOk, ReferencesPrecede, HandlesAccepted, OrderedOperands};
 ghost use Rattle.naga_ir.specs.ItemReferences.{global_lists};
 ghost use Rattle.naga_query.specs.Accepted.{AreHandlesRight, IsFunctionAt};
 ghost use Rattle.naga_typing.specs.Context.{ReferencesExist};
@@ -122,7 +122,7 @@ pub fn add_last_typed(
 /// The expressions of the last function, or the global ones if there is none.
 fn expressions_of(draft: &Draft) -> &Arena<Expression, ExpressionTag>
     requires { AreHandlesRight draft.now.«module» }
-    ensures { GoBack (OrderedOperands result.now) }
+    ensures { ReferencesPrecede (OrderedOperands result.now) }
 {
     match last_function(draft) {
         Some(at) => &at.function.expressions,

@@ -1,6 +1,6 @@
 //! The rule of structs whose members have names or are built in, as no text describes them.
 
-use super::{add_type, assert_same, judged, with_module};
+use super::{add_type, assert_same, result_of_last, with_module};
 use bitflags::Flags;
 use naga_flags::flags::Capabilities;
 use naga_ir::handle::Handle;
@@ -71,7 +71,7 @@ fn judged_lights(
 ) -> Result<Result<TypeInfo, TypeError>, OutOfMemory> {
     with_module(alloc, |module| {
         add_lights(rt, alloc, module, name)?;
-        judged(rt, alloc, Capabilities::default(), module)
+        result_of_last(rt, alloc, Capabilities::default(), module)
     })
 }
 
@@ -91,7 +91,7 @@ fn structs_that_no_text_describes_are_judged(rt: HostRuntime) -> Result<(), Fail
         members.push(member(word, 4, source(1)))?;
         members.push(member(word, 8, Some(Binding::BuiltIn(0))))?;
         add_type(&rt, module, TypeInner::Struct { members, span: 12 })?;
-        judged(&rt, rt.alloc(), Capabilities::DUAL_SOURCE_BLENDING, module)
+        result_of_last(&rt, rt.alloc(), Capabilities::DUAL_SOURCE_BLENDING, module)
     })?;
     assert_same(&rt, &info?.flags.bits(), &0xff);
     Ok(())

@@ -1,5 +1,5 @@
 -- Components as the code goes over them.
-use Rattle.std.specs.Prelude.{◌<◌, ℕ, Bool as Truth, List, All, length, slice_get, ⊤}
+use Rattle.std.specs.Prelude.{◌<◌, ℕ, Bool as Boolean, List, All, length, slice_get, ⊤}
 use Rattle.naga_ir.specs.declared.types.«Type».{«Type»}
 use Rattle.naga_ir.specs.declared.types.StructMember.{StructMember}
 use Rattle.naga_typing.specs.Resolutions.{TypesExist, inner_in}
@@ -21,7 +21,7 @@ ComponentsExist types (Given resolutions) = All (TypesExist types) resolutions.n
 ComponentsExist types (At places resolutions) = All (λ e. e < length resolutions.now) places.now × All (TypesExist types) resolutions.now
 
 -- whether a component is what is wanted at its place
-abbrev pub fits : List «Type» → Wanted → ℕ × TypeResolution → Truth
+abbrev pub fits : List «Type» → Wanted → ℕ × TypeResolution → Boolean
 fits types (wanted.PartOf scalar) = λ at. is_part_of scalar (inner_in types at.1)
 fits types (wanted.Column rows scalar) = λ at. is_vector_of rows scalar (inner_in types at.1)
 fits types (wanted.Element base) = λ at. is_of types base at.1

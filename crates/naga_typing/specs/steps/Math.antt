@@ -1,5 +1,5 @@
 -- What the rows of the code's table of mathematical functions mean.
-use Rattle.std.specs.Prelude.{Bool as Truth, List, Option, Some, map}
+use Rattle.std.specs.Prelude.{Bool as Boolean, List, Option, Some, map}
 use Rattle.naga_ir.specs.declared.types.ScalarKind.{ScalarKind}
 use Rattle.naga_ir.specs.declared.types.TypeInner.{TypeInner}
 use Rattle.naga_ir.specs.declared.types.TypeInner.TheVariants.{Scalar, Vector}
@@ -24,7 +24,7 @@ kinds_of set.Signed = spec.signed
 kinds_of set.Integer = spec.integer
 
 -- which types a first argument may have
-abbrev pub takes_first : FirstArgument → TypeInner → Truth
+abbrev pub takes_first : FirstArgument → TypeInner → Boolean
 takes_first (first.ScalarOrVector scalars) = spec.values_of (kinds_of scalars)
 takes_first (first.Vector scalars) = spec.vectors_of (kinds_of scalars)
 takes_first (first.VectorOfThree scalars) = consists_of spec.is_three (kinds_of scalars)
@@ -34,10 +34,10 @@ takes_first first.TwoF32 = spec.same (Vector Bi f32_scalar)
 takes_first first.U32 = spec.same (Scalar u32_scalar)
 
 -- which types a further one may have beside a first one
-abbrev pub takes_further : FurtherArgument → TypeInner → TypeInner → Truth
+abbrev pub takes_further : FurtherArgument → TypeInner → TypeInner → Boolean
 takes_further further.Same = spec.same
 takes_further further.SameOrScalar = spec.same_or_scalar
-takes_further further.ScalarOfFirst = spec.its_scalar
+takes_further further.ScalarOfFirst = spec.scalar_of_first
 takes_further further.ExactlyU32 = spec.exactly (Scalar u32_scalar)
 
 -- which type the result has, by that of the first argument

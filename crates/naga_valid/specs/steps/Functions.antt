@@ -6,12 +6,12 @@ use Rattle.naga_ir.specs.ItemReferences.{global_lists}
 use Rattle.naga_info.specs.declared.expression_error.ExpressionError.{ExpressionError}
 use Rattle.naga_typing.specs.Resolutions.{ResolutionExists}
 use Rattle.naga_typing.specs.declared.typifier.TypeResolution.{TypeResolution}
-use Rattle.naga_valid.specs.Functions.{AreTypesReached, CallsBefore, FunctionSurroundings, IsMeantAt, KeepRules, common_stages}
+use Rattle.naga_valid.specs.Functions.{AreTypesReached, CallsBefore, FunctionSurroundings, IsRuleAt, KeepRules, common_stages}
 use Rattle.naga_valid.specs.declared.function.FunctionError.{FunctionError}
 use Rattle.naga_valid.specs.declared.function.FunctionError.TheVariants.{Expression, OutOfMemory}
 
 -- the rules of a function's expressions can be asked, by these types
-pub record CanAskRules (s : FunctionSurroundings) (types : List TypeResolution) : Type 0 where
+pub record CanCheckRules (s : FunctionSurroundings) (types : List TypeResolution) : Type 0 where
   pub handles : HandlesAccepted s.«module»
   pub in_function : ExpressionReferencesOk s.«module» s.function
   pub flags : length s.«module».types ≤ length s.infos.type_flags
@@ -32,7 +32,7 @@ pub record IsFirstBreach (s : FunctionSurroundings) (types : List TypeResolution
   pub before : List ShaderStages
   pub as_many : length before ≡ place
   pub rules : KeepRules s types before
-  pub broken : IsMeantAt s types place (Err source)
+  pub broken : IsRuleAt s types place (Err source)
 
 -- this as an error
 abbrev pub IsFirstBreachAs : FunctionSurroundings → List TypeResolution → FunctionError → Type 0

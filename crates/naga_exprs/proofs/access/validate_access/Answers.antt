@@ -1,6 +1,6 @@
-use Rattle.std.proofs.Common.{◌≡◌, ◌∙◌, [], ◌∷◌, Bool as Truth, true, false, Option, Some, None, Err, rules, slice_get, ap, subst, sym}
+use Rattle.std.proofs.Common.{◌≡◌, ◌∙◌, [], ◌∷◌, Bool as Boolean, true, false, Option, Some, None, Err, rules, slice_get, ap, subst, sym}
 use Rattle.naga_exprs.proofs.access.validate_access.Goals as goal
-use Rattle.naga_exprs.specs.Accesses.{bad_constant, has_parts, lengths}
+use Rattle.naga_exprs.specs.Accesses.{constant_index_error, has_parts, lengths}
 use Rattle.naga_ir.proofs.Handles.{global_references_ok}
 use Rattle.naga_ir.specs.Handles.{GlobalReferencesOk}
 use Rattle.naga_ir.specs.ItemReferences.{GlobalLists, global_lists}
@@ -8,14 +8,14 @@ use Rattle.naga_info.specs.Stages.{every_stage}
 use Rattle.naga_info.specs.Surroundings.{form_at, surroundings}
 use Rattle.naga_info.specs.Words.{is_scalar_that}
 use Rattle.naga_info.specs.declared.expression_error.ExpressionError.{ExpressionError}
-use Rattle.naga_types.specs.Judging.{granted, judged, unless}
+use Rattle.naga_types.specs.Checks.{ok_unless, first_error_or, require}
 use Rattle.naga_types.specs.TypeRule.{is_integer}
 use Rattle.naga_typing.specs.Constants.{index_of}
 use Rattle.naga_typing.specs.Index.{IsLength}
 
 -- what breaks the third condition alone is refused with its error
-refused : (parts integer : Truth) (bad : Option ExpressionError) (a b error : ExpressionError) → parts ≡ true → integer ≡ true → granted bad (tt {0}) ≡ Err error
-    → judged (unless parts a ∷ unless integer b ∷ bad ∷ []) every_stage ≡ Err error
+refused : (parts integer : Boolean) (bad : Option ExpressionError) (a b error : ExpressionError) → parts ≡ true → integer ≡ true → ok_unless bad (tt {0}) ≡ Err error
+    → first_error_or (require parts a ∷ require integer b ∷ bad ∷ []) every_stage ≡ Err error
 refused true true None a b error p i h = cc h
 refused true true (Some x) a b error p i h = cc h
 refused true false bad a b error p i h = cc i
@@ -40,5 +40,5 @@ returns-in_err-check_constant c =
     let constant : c.get_const_val_from-constant.result ≡ index_of g found = c.get_const_val_from-constant.ensures ∙ ap (λ (lists : GlobalLists). index_of lists found) c.to_ctx-gctx.ensures.lists in
     let parts : has_parts (form_at s c.args.base) ≡ true = search rules in
     let integer : is_scalar_that (λ scalar. is_integer scalar.kind) (form_at s c.args.index) ≡ true = search rules in
-    let bad : granted (bad_constant c.args.base c.args.index length (index_of g found)) (tt {0}) ≡ Err error = search rules in
+    let bad : ok_unless (constant_index_error c.args.base c.args.index length (index_of g found)) (tt {0}) ≡ Err error = search rules in
     (length, subst (λ form. IsLength g (lengths s.resolved g) form length) c.type_of-base_type.ensures.form c.indexable_length-length.ensures, is ∙ sym (refused _ _ _ _ _ error parts integer bad))

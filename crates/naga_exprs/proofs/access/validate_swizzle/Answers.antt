@@ -1,20 +1,20 @@
 use Rattle.std.proofs.Common.{◌≡◌, ◌∙◌, ℕ, Option, Some, None, Ok, Err, rules, take, ap, refl, sym}
 use Rattle.naga_exprs.proofs.access.validate_swizzle.Goals as goal
-use Rattle.naga_exprs.specs.Vectors.{bad_swizzle, first_lacking, vector_size}
+use Rattle.naga_exprs.specs.Vectors.{swizzle_error, first_lacking, vector_size}
 use Rattle.naga_ir.specs.Sizes.{components}
 use Rattle.naga_ir.specs.declared.types.VectorSize.{VectorSize}
 use Rattle.naga_info.specs.Stages.{every_stage}
 use Rattle.naga_info.specs.Surroundings.{form_at, surroundings}
 use Rattle.naga_info.specs.declared.expression_error.ExpressionError.{ExpressionError}
-use Rattle.naga_types.specs.Judging.{granted}
+use Rattle.naga_types.specs.Checks.{ok_unless}
 
 -- what is granted to a check is granted to the expression
-accepted : (bad : Option ExpressionError) → granted bad (tt {0}) ≡ Ok (tt {0}) → granted bad every_stage ≡ Ok every_stage
+accepted : (bad : Option ExpressionError) → ok_unless bad (tt {0}) ≡ Ok (tt {0}) → ok_unless bad every_stage ≡ Ok every_stage
 accepted None h = refl
 accepted (Some x) h = cc h
 
 -- and what is refused to it is refused with the same error
-refused : (bad : Option ExpressionError) (error : ExpressionError) → granted bad (tt {0}) ≡ Err error → granted bad every_stage ≡ Err error
+refused : (bad : Option ExpressionError) (error : ExpressionError) → ok_unless bad (tt {0}) ≡ Err error → ok_unless bad every_stage ≡ Err error
 refused None error h = cc h
 refused (Some x) error h = cc h
 
@@ -26,11 +26,11 @@ returns-in_err-check_components c =
     let pattern = c.args.pattern.now in
     let found : vector_size (form_at s c.args.vector) ≡ Some size = ap vector_size (sym c.type_of.ensures.form ∙ c.in-Vector.is) in
     let taken : c.from-taken.result ≡ components c.args.size = c.from-taken.ensures ∙ c.components.ensures in
-    let checked : granted (first_lacking size (take c.from-taken.result pattern)) (tt {0}) ≡ Err error = search rules in
+    let checked : ok_unless (first_lacking size (take c.from-taken.result pattern)) (tt {0}) ≡ Err error = search rules in
     let is : c.from_residual.result ≡ Err error = search rules in
     is
-    ∙ sym (ap (λ (v : Option VectorSize). granted (bad_swizzle c.args.vector c.args.size pattern v) every_stage) found
-    ∙ (ap (λ (n : ℕ). granted (first_lacking size (take n pattern)) every_stage) (sym taken)
+    ∙ sym (ap (λ (v : Option VectorSize). ok_unless (swizzle_error c.args.vector c.args.size pattern v) every_stage) found
+    ∙ (ap (λ (n : ℕ). ok_unless (first_lacking size (take n pattern)) every_stage) (sym taken)
     ∙ refused (first_lacking size (take c.from-taken.result pattern)) error checked))
 
 pub returns : goal.returns
@@ -40,8 +40,8 @@ returns c =
     let pattern = c.args.pattern.now in
     let found : vector_size (form_at s c.args.vector) ≡ Some size = ap vector_size (sym c.type_of.ensures.form ∙ c.in-Vector.is) in
     let taken : c.from-taken.result ≡ components c.args.size = c.from-taken.ensures ∙ c.components.ensures in
-    let checked : granted (first_lacking size (take c.from-taken.result pattern)) (tt {0}) ≡ Ok (tt {0}) = search rules in
+    let checked : ok_unless (first_lacking size (take c.from-taken.result pattern)) (tt {0}) ≡ Ok (tt {0}) = search rules in
     ap Ok c.every_stage.ensures
-    ∙ sym (ap (λ (v : Option VectorSize). granted (bad_swizzle c.args.vector c.args.size pattern v) every_stage) found
-    ∙ (ap (λ (n : ℕ). granted (first_lacking size (take n pattern)) every_stage) (sym taken)
+    ∙ sym (ap (λ (v : Option VectorSize). ok_unless (swizzle_error c.args.vector c.args.size pattern v) every_stage) found
+    ∙ (ap (λ (n : ℕ). ok_unless (first_lacking size (take n pattern)) every_stage) (sym taken)
     ∙ accepted (first_lacking size (take c.from-taken.result pattern)) checked))

@@ -2,11 +2,11 @@ use Rattle.std.proofs.Common.{◌≡◌, ◌<◌, ℕ, Option, Some, IfSome, len
 use Rattle.naga_ir.specs.declared.expression.Expression.TheVariants as form
 use Rattle.naga_ir.specs.declared.expression.MathFunction.{MathFunction}
 use Rattle.naga_exprs.proofs.math.validate_math.Goals as goal
-use Rattle.naga_info.specs.Surroundings.{ExpressionSurroundings, IsJudgeable}
+use Rattle.naga_info.specs.Surroundings.{ExpressionSurroundings, IsReadySomewhere}
 use Rattle.naga_typing.proofs.MathOperands.{OfArguments, of_arguments}
 
 -- the types of the arguments are known
-all_known : (s : ExpressionSurroundings) (fun : MathFunction) (arg : ℕ) (arg1 arg2 arg3 : Option ℕ) → IsJudgeable s (form.Math fun arg arg1 arg2 arg3) → OfArguments (λ (e : ℕ). e < length s.types) arg arg1 arg2 arg3
+all_known : (s : ExpressionSurroundings) (fun : MathFunction) (arg : ℕ) (arg1 arg2 arg3 : Option ℕ) → IsReadySomewhere s (form.Math fun arg arg1 arg2 arg3) → OfArguments (λ (e : ℕ). e < length s.types) arg arg1 arg2 arg3
 all_known s fun arg arg1 arg2 arg3 can = of_arguments (λ (e : ℕ). e < length s.types) (form.Math fun arg arg1 arg2 arg3) fun arg arg1 arg2 arg3 can.1.typed refl
 
 -- and so is that of each that is given

@@ -1,7 +1,7 @@
 use Rattle.std.proofs.Common.{rules, ◌≡◌, ◌∙◌, [], ◌∷◌, subst, sym}
 use Rattle.std.specs.Prelude.{Ok, Err}
 use Rattle.naga_ir.specs.References.{operands}
-use Rattle.naga_ir.specs.FirstFailure.{ChecksEach}
+use Rattle.naga_ir.specs.FirstError.{ChecksEach}
 use Rattle.naga_ir.proofs.StatementLemmas.{checks-single}
 use Rattle.naga_handles.specs.steps.ItemChecks.{IsOperandResult}
 use Rattle.naga_handles.proofs.PassedPrefix.{begin, end, left-along, more, stop}

@@ -1,7 +1,7 @@
 use Rattle.std.proofs.Common.{rules, ◌≡◌, List, subst, sym}
 use Rattle.std.specs.Prelude.{Err}
 use Rattle.std.specs.List.{enumerate_from, flat_map}
-use Rattle.naga_ir.specs.FirstFailure.{ChecksEach}
+use Rattle.naga_ir.specs.FirstError.{ChecksEach}
 use Rattle.naga_ir.proofs.StatementLemmas.{checks-before, checks-then}
 use Rattle.naga_handles.specs.steps.ItemChecks.{IsResult, Check, entry_point_checks, numbered_checks}
 use Rattle.naga_handles.proofs.CheckLemmas.{checks-called-reads}

@@ -1,6 +1,6 @@
 use Rattle.std.proofs.Common.{rules, ◌≡◌, List, None, subst, sym}
 use Rattle.std.specs.Prelude.{Ok, Err}
-use Rattle.naga_ir.specs.FirstFailure.{ChecksEach}
+use Rattle.naga_ir.specs.FirstError.{ChecksEach}
 use Rattle.naga_ir.specs.Handles.{module_counts, function_counts}
 use Rattle.naga_ir.specs.ItemReferences.{entry_point_references}
 use Rattle.naga_ir.proofs.StatementLemmas.{checks-before, checks-then}

@@ -2,7 +2,7 @@ use Rattle.std.proofs.Common.{rules, ◌≡◌, ap, subst, sym, map}
 use Rattle.std.specs.Prelude.{Ok, Err}
 use Rattle.naga_ir.specs.ItemReferences.{named_references}
 use Rattle.naga_ir.specs.References.{operands}
-use Rattle.naga_ir.specs.FirstFailure.{ChecksEach}
+use Rattle.naga_ir.specs.FirstError.{ChecksEach}
 use Rattle.naga_ir.specs.declared.reference.Reference.TheVariants as to
 use Rattle.naga_ir.proofs.StatementLemmas.{checks-along, checks-before, checks-then}
 use Rattle.naga_handles.specs.steps.ItemChecks.{IsResult, checks}

@@ -1,7 +1,7 @@
 use Rattle.std.proofs.Common.{rules, ◌≡◌, ◌∙◌, ap, subst, sym}
 use Rattle.std.specs.Prelude.{Err}
 use Rattle.std.specs.List.{enumerate_from, flat_map}
-use Rattle.naga_ir.specs.FirstFailure.{ChecksEach}
+use Rattle.naga_ir.specs.FirstError.{ChecksEach}
 use Rattle.naga_handles.specs.steps.ItemChecks.{IsResult, expression_checks}
 use Rattle.naga_handles.proofs.PassedPrefix.{begin, end, left-along, more, stop}
 use Rattle.naga_handles.proofs.handles.validate_expressions.Goals as goal

@@ -1,7 +1,7 @@
 use Rattle.std.proofs.Common.{rules, List, [], ◌∷◌, None, ap, map, option_to_list}
 use Rattle.std.specs.Prelude.{option_map}
 use Rattle.std.specs.List.{enumerate_from, flat_map}
-use Rattle.naga_ir.specs.FirstFailure.{ChecksEach}
+use Rattle.naga_ir.specs.FirstError.{ChecksEach}
 use Rattle.naga_ir.specs.Handles.{module_counts}
 use Rattle.naga_ir.specs.Operands.{present}
 use Rattle.naga_ir.specs.declared.reference.Reference.{Reference}

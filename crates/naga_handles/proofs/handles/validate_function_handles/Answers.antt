@@ -1,6 +1,6 @@
 use Rattle.std.proofs.Common.{rules, ◌≡◌, subst, sym}
 use Rattle.std.specs.Prelude.{Err}
-use Rattle.naga_ir.specs.FirstFailure.{ChecksEach}
+use Rattle.naga_ir.specs.FirstError.{ChecksEach}
 use Rattle.naga_ir.proofs.StatementLemmas.{checks-before, checks-then}
 use Rattle.naga_handles.specs.steps.ItemChecks.{IsResult}
 use Rattle.naga_handles.proofs.handles.validate_function_handles.Goals as goal

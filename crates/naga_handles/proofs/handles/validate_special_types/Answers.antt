@@ -1,6 +1,6 @@
 use Rattle.std.proofs.Common.{rules, ◌≡◌, List, [], ◌∷◌, ap, subst, sym}
 use Rattle.std.specs.Prelude.{Ok, Err, option_map}
-use Rattle.naga_ir.specs.FirstFailure.{ChecksEach}
+use Rattle.naga_ir.specs.FirstError.{ChecksEach}
 use Rattle.naga_ir.specs.Operands.{present}
 use Rattle.naga_ir.specs.declared.ir.SpecialTypes.{SpecialTypes}
 use Rattle.naga_ir.specs.declared.reference.Reference.{Reference}

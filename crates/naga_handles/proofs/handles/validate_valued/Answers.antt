@@ -1,6 +1,6 @@
 use Rattle.std.proofs.Common.{rules, ◌≡◌, subst, sym}
 use Rattle.std.specs.Prelude.{Err}
-use Rattle.naga_ir.specs.FirstFailure.{ChecksEach}
+use Rattle.naga_ir.specs.FirstError.{ChecksEach}
 use Rattle.naga_ir.specs.ItemReferences.{constant_references, global_variable_references, override_references}
 use Rattle.naga_handles.specs.steps.ItemChecks.{IsResult}
 use Rattle.naga_handles.specs.steps.Checks.{of_function}

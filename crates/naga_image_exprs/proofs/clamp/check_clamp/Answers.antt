@@ -5,7 +5,7 @@ use Rattle.naga_image_exprs.proofs.clamp.check_clamp.Goals as goal
 use Rattle.naga_image_exprs.specs.Samples.{can_clamp}
 use Rattle.naga_info.specs.declared.expression_error.ExpressionError.TheVariants.{InvalidSampleClampCoordinateToEdge}
 use Rattle.std.specs.Prelude.{Err}
-use Rattle.naga_types.specs.Judging.{granted}
+use Rattle.naga_types.specs.Checks.{ok_unless}
 
 pub returns-then-not-sample : goal.returns-then-not-sample
 returns-then-not-sample c =
@@ -17,7 +17,7 @@ pub returns-in_ok-text_of-in-Some : goal.returns-in_ok-text_of-in-Some
 returns-in_ok-text_of-in-Some c =
     let text = c.in_ok-text_of-in-Some.field-0 in
     let asked : c.args.sample.now.clamp_to_edge ≡ true = search rules in
-    inl (text, sym (ap (λ o. granted o (tt {0})) (refused _ (can_clamp c.args.image c.args.sample.now) (InvalidSampleClampCoordinateToEdge text) asked (sym c.in-Some.ensures))))
+    inl (text, sym (ap (λ o. ok_unless o (tt {0})) (refused _ (can_clamp c.args.image c.args.sample.now) (InvalidSampleClampCoordinateToEdge text) asked (sym c.in-Some.ensures))))
 
 pub returns-in-None : goal.returns-in-None
 returns-in-None c =

@@ -5,7 +5,7 @@ use Rattle.naga_image_exprs.proofs.FirstConditions.{broken_at, none_broken}
 use Rattle.naga_image_exprs.proofs.KnownOperands.{known_of_load, looked_up}
 use Rattle.naga_image_exprs.proofs.Results.{load_result}
 use Rattle.naga_image_exprs.proofs.load.validate_image_load.Goals as goal
-use Rattle.naga_image_exprs.specs.Loads.{load_conditions}
+use Rattle.naga_image_exprs.specs.Loads.{load_checks}
 use Rattle.naga_ir.specs.References.{operands}
 use Rattle.naga_ir.specs.declared.expression.Expression.{Expression}
 use Rattle.naga_ir.specs.declared.expression.Expression.TheVariants.{ImageLoad}
@@ -36,7 +36,7 @@ returns-in_err-check_coordinate c =
     let found = c.in_ok-found.found in
     let error = c.in_err-check_coordinate.field-0.0 in
     let is : c.from_residual-in_err-check_coordinate.result ≡ Err error = search rules in
-    let conditions = load_conditions s found c.args.coordinate c.args.array_index c.args.sample c.args.level in
+    let conditions = load_checks s found c.args.coordinate c.args.array_index c.args.sample c.args.level in
     is ∙ sym (load_result s c.args.image c.args.coordinate c.args.array_index c.args.sample c.args.level found (Err error) c.in_ok-found.ensures (broken_at conditions 0 every_stage error tt c.in_err-check_coordinate.ensures))
 
 pub returns-in_err-check_loaded_layer : goal.returns-in_err-check_loaded_layer
@@ -45,7 +45,7 @@ returns-in_err-check_loaded_layer c =
     let found = c.in_ok-found.found in
     let error = c.in_err-check_loaded_layer.field-0.0 in
     let is : c.from_residual-in_err-check_loaded_layer.result ≡ Err error = search rules in
-    let conditions = load_conditions s found c.args.coordinate c.args.array_index c.args.sample c.args.level in
+    let conditions = load_checks s found c.args.coordinate c.args.array_index c.args.sample c.args.level in
     is ∙ sym (load_result s c.args.image c.args.coordinate c.args.array_index c.args.sample c.args.level found (Err error) c.in_ok-found.ensures (broken_at conditions 1 every_stage error (c.in_ok-check_coordinate.ensures, tt) c.in_err-check_loaded_layer.ensures))
 
 pub returns-in_err-check_sample : goal.returns-in_err-check_sample
@@ -54,7 +54,7 @@ returns-in_err-check_sample c =
     let found = c.in_ok-found.found in
     let error = c.in_err-check_sample.field-0.0 in
     let is : c.from_residual-in_err-check_sample.result ≡ Err error = search rules in
-    let conditions = load_conditions s found c.args.coordinate c.args.array_index c.args.sample c.args.level in
+    let conditions = load_checks s found c.args.coordinate c.args.array_index c.args.sample c.args.level in
     is ∙ sym (load_result s c.args.image c.args.coordinate c.args.array_index c.args.sample c.args.level found (Err error) c.in_ok-found.ensures (broken_at conditions 2 every_stage error (c.in_ok-check_coordinate.ensures, (c.in_ok-check_loaded_layer.ensures, tt)) c.in_err-check_sample.ensures))
 
 pub returns-in_err-check_level : goal.returns-in_err-check_level
@@ -63,13 +63,13 @@ returns-in_err-check_level c =
     let found = c.in_ok-found.found in
     let error = c.in_err-check_level.field-0.0 in
     let is : c.from_residual-in_err-check_level.result ≡ Err error = search rules in
-    let conditions = load_conditions s found c.args.coordinate c.args.array_index c.args.sample c.args.level in
+    let conditions = load_checks s found c.args.coordinate c.args.array_index c.args.sample c.args.level in
     is ∙ sym (load_result s c.args.image c.args.coordinate c.args.array_index c.args.sample c.args.level found (Err error) c.in_ok-found.ensures (broken_at conditions 3 every_stage error (c.in_ok-check_coordinate.ensures, (c.in_ok-check_loaded_layer.ensures, (c.in_ok-check_sample.ensures, tt))) c.in_err-check_level.ensures))
 
 pub returns : goal.returns
 returns c =
     let s = surroundings c.args.context in
     let found = c.in_ok-found.found in
-    let conditions = load_conditions s found c.args.coordinate c.args.array_index c.args.sample c.args.level in
+    let conditions = load_checks s found c.args.coordinate c.args.array_index c.args.sample c.args.level in
     ap Ok c.every_stage.ensures
     ∙ sym (load_result s c.args.image c.args.coordinate c.args.array_index c.args.sample c.args.level found (Ok every_stage) c.in_ok-found.ensures (none_broken conditions every_stage (c.in_ok-check_coordinate.ensures, (c.in_ok-check_loaded_layer.ensures, (c.in_ok-check_sample.ensures, (c.in_ok-check_level.ensures, tt))))))

@@ -6,7 +6,7 @@ use Rattle.naga_image_exprs.proofs.KnownOperands.{known_of_sample, looked_up}
 use Rattle.naga_image_exprs.proofs.Results.{clamp_result, sample_result, text_passed, unfound_result}
 use Rattle.naga_image_exprs.proofs.Texts.{empty_text}
 use Rattle.naga_image_exprs.proofs.sample.validate_image_sample.Goals as goal
-use Rattle.naga_image_exprs.specs.Samples.{expression_of, level_stages, sample_conditions}
+use Rattle.naga_image_exprs.specs.Samples.{expression_of, level_stages, sample_checks}
 use Rattle.naga_ir.specs.References.{operands}
 use Rattle.naga_info.specs.Surroundings.{surroundings}
 
@@ -53,7 +53,7 @@ returns-in_err-check_sampled_layer c =
     let error = c.in_err-check_sampled_layer.field-0.0 in
     let is : c.from_residual-in_err-check_sampled_layer.result ≡ Err error = search rules in
     let text = empty_text c.args.alloc in
-    let conditions = sample_conditions s text sample image comparison in
+    let conditions = sample_checks s text sample image comparison in
     sample_result s sample image comparison c.in_ok-image.ensures c.from_residual-in_err-check_sampled_layer.result text (broken_at conditions 0 (level_stages sample.level) error tt c.in_err-check_sampled_layer.ensures ∙ sym is)
 
 pub returns-in_err-check_class : goal.returns-in_err-check_class
@@ -65,7 +65,7 @@ returns-in_err-check_class c =
     let error = c.in_err-check_class.field-0.0 in
     let is : c.from_residual-in_err-check_class.result ≡ Err error = search rules in
     let text = empty_text c.args.alloc in
-    let conditions = sample_conditions s text sample image comparison in
+    let conditions = sample_checks s text sample image comparison in
     sample_result s sample image comparison c.in_ok-image.ensures c.from_residual-in_err-check_class.result text (broken_at conditions 1 (level_stages sample.level) error (c.in_ok-check_sampled_layer.ensures, tt) c.in_err-check_class.ensures ∙ sym is)
 
 pub returns-in_err-check_comparison : goal.returns-in_err-check_comparison
@@ -77,7 +77,7 @@ returns-in_err-check_comparison c =
     let error = c.in_err-check_comparison.field-0.0 in
     let is : c.from_residual-in_err-check_comparison.result ≡ Err error = search rules in
     let text = empty_text c.args.alloc in
-    let conditions = sample_conditions s text sample image comparison in
+    let conditions = sample_checks s text sample image comparison in
     sample_result s sample image comparison c.in_ok-image.ensures c.from_residual-in_err-check_comparison.result text (broken_at conditions 2 (level_stages sample.level) error (c.in_ok-check_sampled_layer.ensures, (c.in_ok-check_class.ensures, tt)) c.in_err-check_comparison.ensures ∙ sym is)
 
 pub returns-in_err-check_coordinate : goal.returns-in_err-check_coordinate
@@ -89,7 +89,7 @@ returns-in_err-check_coordinate c =
     let error = c.in_err-check_coordinate.field-0.0 in
     let is : c.from_residual-in_err-check_coordinate.result ≡ Err error = search rules in
     let text = empty_text c.args.alloc in
-    let conditions = sample_conditions s text sample image comparison in
+    let conditions = sample_checks s text sample image comparison in
     sample_result s sample image comparison c.in_ok-image.ensures c.from_residual-in_err-check_coordinate.result text (broken_at conditions 3 (level_stages sample.level) error (c.in_ok-check_sampled_layer.ensures, (c.in_ok-check_class.ensures, (c.in_ok-check_comparison.ensures, tt))) c.in_err-check_coordinate.ensures ∙ sym is)
 
 pub returns-in_err-check_offset : goal.returns-in_err-check_offset
@@ -101,7 +101,7 @@ returns-in_err-check_offset c =
     let error = c.in_err-check_offset.field-0.0 in
     let is : c.from_residual-in_err-check_offset.result ≡ Err error = search rules in
     let text = empty_text c.args.alloc in
-    let conditions = sample_conditions s text sample image comparison in
+    let conditions = sample_checks s text sample image comparison in
     sample_result s sample image comparison c.in_ok-image.ensures c.from_residual-in_err-check_offset.result text (broken_at conditions 4 (level_stages sample.level) error (c.in_ok-check_sampled_layer.ensures, (c.in_ok-check_class.ensures, (c.in_ok-check_comparison.ensures, (c.in_ok-check_coordinate.ensures, tt)))) c.in_err-check_offset.ensures ∙ sym is)
 
 pub returns-in_err-check_depth_reference : goal.returns-in_err-check_depth_reference
@@ -113,7 +113,7 @@ returns-in_err-check_depth_reference c =
     let error = c.in_err-check_depth_reference.field-0.0 in
     let is : c.from_residual-in_err-check_depth_reference.result ≡ Err error = search rules in
     let text = empty_text c.args.alloc in
-    let conditions = sample_conditions s text sample image comparison in
+    let conditions = sample_checks s text sample image comparison in
     sample_result s sample image comparison c.in_ok-image.ensures c.from_residual-in_err-check_depth_reference.result text (broken_at conditions 5 (level_stages sample.level) error (c.in_ok-check_sampled_layer.ensures, (c.in_ok-check_class.ensures, (c.in_ok-check_comparison.ensures, (c.in_ok-check_coordinate.ensures, (c.in_ok-check_offset.ensures, tt))))) c.in_err-check_depth_reference.ensures ∙ sym is)
 
 pub returns-in_err-check_gather : goal.returns-in_err-check_gather
@@ -125,7 +125,7 @@ returns-in_err-check_gather c =
     let error = c.in_err-check_gather.field-0.0 in
     let is : c.from_residual-in_err-check_gather.result ≡ Err error = search rules in
     let text = empty_text c.args.alloc in
-    let conditions = sample_conditions s text sample image comparison in
+    let conditions = sample_checks s text sample image comparison in
     sample_result s sample image comparison c.in_ok-image.ensures c.from_residual-in_err-check_gather.result text (broken_at conditions 6 (level_stages sample.level) error (c.in_ok-check_sampled_layer.ensures, (c.in_ok-check_class.ensures, (c.in_ok-check_comparison.ensures, (c.in_ok-check_coordinate.ensures, (c.in_ok-check_offset.ensures, (c.in_ok-check_depth_reference.ensures, tt)))))) c.in_err-check_gather.ensures ∙ sym is)
 
 pub returns-in_err-check_clamp : goal.returns-in_err-check_clamp
@@ -147,7 +147,7 @@ returns-in_err-check_external c =
     let error = c.in_err-check_external.field-0.0 in
     let is : c.from_residual-in_err-check_external.result ≡ Err error = search rules in
     let text = text_passed image sample c.in_ok-check_clamp.ensures in
-    let conditions = sample_conditions s text.0 sample image comparison in
+    let conditions = sample_checks s text.0 sample image comparison in
     sample_result s sample image comparison c.in_ok-image.ensures c.from_residual-in_err-check_external.result text.0 (broken_at conditions 8 (level_stages sample.level) error (c.in_ok-check_sampled_layer.ensures, (c.in_ok-check_class.ensures, (c.in_ok-check_comparison.ensures, (c.in_ok-check_coordinate.ensures, (c.in_ok-check_offset.ensures, (c.in_ok-check_depth_reference.ensures, (c.in_ok-check_gather.ensures, (text.1, tt)))))))) c.in_err-check_external.ensures ∙ sym is)
 
 pub returns-in_err-check_level : goal.returns-in_err-check_level
@@ -159,7 +159,7 @@ returns-in_err-check_level c =
     let error = c.in_err-check_level.field-0.0 in
     let is : c.from_residual-in_err-check_level.result ≡ Err error = search rules in
     let text = text_passed image sample c.in_ok-check_clamp.ensures in
-    let conditions = sample_conditions s text.0 sample image comparison in
+    let conditions = sample_checks s text.0 sample image comparison in
     sample_result s sample image comparison c.in_ok-image.ensures c.from_residual-in_err-check_level.result text.0 (broken_at conditions 9 (level_stages sample.level) error (c.in_ok-check_sampled_layer.ensures, (c.in_ok-check_class.ensures, (c.in_ok-check_comparison.ensures, (c.in_ok-check_coordinate.ensures, (c.in_ok-check_offset.ensures, (c.in_ok-check_depth_reference.ensures, (c.in_ok-check_gather.ensures, (text.1, (c.in_ok-check_external.ensures, tt))))))))) c.in_err-check_level.ensures ∙ sym is)
 
 pub returns : goal.returns
@@ -169,5 +169,5 @@ returns c =
     let image = c.in_ok-image.image in
     let comparison = c.in_ok-image.comparison in
     let text = text_passed image sample c.in_ok-check_clamp.ensures in
-    let conditions = sample_conditions s text.0 sample image comparison in
+    let conditions = sample_checks s text.0 sample image comparison in
     sample_result s sample image comparison c.in_ok-image.ensures (Ok c.level_stages.result) text.0 (none_broken conditions (level_stages sample.level) (c.in_ok-check_sampled_layer.ensures, (c.in_ok-check_class.ensures, (c.in_ok-check_comparison.ensures, (c.in_ok-check_coordinate.ensures, (c.in_ok-check_offset.ensures, (c.in_ok-check_depth_reference.ensures, (c.in_ok-check_gather.ensures, (text.1, (c.in_ok-check_external.ensures, (c.in_ok-check_level.ensures, tt)))))))))) ∙ ap Ok (sym c.level_stages.ensures))

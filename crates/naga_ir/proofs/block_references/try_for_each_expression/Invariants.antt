@@ -1,7 +1,7 @@
 use Rattle.std.proofs.Common.{take, map}
 use Rattle.std.specs.Prelude.{Ok}
 use Rattle.std.specs.List.{flat_map}
-use Rattle.naga_ir.specs.FirstFailure.{ChecksEach}
+use Rattle.naga_ir.specs.FirstError.{ChecksEach}
 use Rattle.naga_ir.proofs.StatementLemmas.{named}
 use Rattle.naga_ir.proofs.block_references.try_for_each_expression.Given as goal
 

@@ -2,7 +2,7 @@ use Rattle.std.proofs.Common.{rules, ◌≡◌, ap, subst, sym, map, []}
 use Rattle.std.specs.Prelude.{Ok, Err}
 use Rattle.naga_ir.specs.steps.StatementParts.{call_arguments, operands_of, target_of}
 use Rattle.naga_ir.specs.Operands.{present}
-use Rattle.naga_ir.specs.FirstFailure.{ChecksEach}
+use Rattle.naga_ir.specs.FirstError.{ChecksEach}
 use Rattle.naga_ir.specs.declared.statement.Statement.TheViews.{out-Statement}
 use Rattle.naga_ir.specs.declared.reference.Reference.TheVariants as to
 use Rattle.naga_ir.proofs.StatementLemmas.{checks-along, checks-none, checks-single, checks-before, checks-then, checks-own}

@@ -15,7 +15,7 @@ returns-in-Constant-clause-source c =
 pub returns-in-Splat-clause-source : goal.returns-in-Splat-clause-source
 returns-in-Splat-clause-source c =
     let s = surroundings c.args.context in
-    subst (IsSource s c.args.place.now) (sym c.beside.ensures) (splat_source s c.requires.sound c.args.place.now c.requires.exists c.in-Splat.size c.in-Splat.value (c.expression_at.ensures ∙ ap Some c.in-Splat.is))
+    subst (IsSource s c.args.place.now) (sym c.operand_place.ensures) (splat_source s c.requires.sound c.args.place.now c.requires.exists c.in-Splat.size c.in-Splat.value (c.expression_at.ensures ∙ ap Some c.in-Splat.is))
 
 -- a list of one element has no other
 only_one : (xs : List ℕ) (o d : ℕ) → length xs ≡ 1 → o ≡ get_or xs 0 d → Contains xs o × ((x : ℕ) → Contains xs x → x ≡ o)
@@ -36,5 +36,5 @@ returns-in-len1-clause-source c =
     let o = c.component-item.result in
     let one : length c.as_slice.result.now ≡ 1 = omega (arith, c.in-len1.len_at_least, c.in-len1.len_below) in
     let alone = only_one components o o (ap length (sym c.as_slice.ensures) ∙ one) (c.component-item.is ∙ ap (λ (os : List ℕ). get_or os 0 o) c.as_slice.ensures) in
-    subst (IsSource s c.args.place.now) (sym c.beside-in-len1.ensures)
+    subst (IsSource s c.args.place.now) (sym c.operand_place-in-len1.ensures)
     (component_source s c.requires.sound c.args.place.now c.requires.exists c.in-Compose.ty components o (c.expression_at.ensures ∙ ap Some c.in-Compose.is) alone.0 alone.1)

@@ -1,6 +1,6 @@
 use Rattle.std.proofs.Common.{rules, ◌≡◌, ◌∙◌}
 use Rattle.std.specs.Prelude.{Err}
-use Rattle.naga_types.proofs.JudgingLemmas.{same_refusal}
+use Rattle.naga_types.proofs.CheckLemmas.{same_refusal}
 use Rattle.naga_types.proofs.type_rule.validate_atomic.Goals as goal
 
 pub returns-in_err-check_atomic : goal.returns-in_err-check_atomic

@@ -1,5 +1,5 @@
 use Rattle.std.proofs.Common.{rules, ◌≡◌, ◌∙◌, ⊎_elim, inr, subst, sym}
-use Rattle.naga_arena.specs.Results.{IsFirstRefusal}
+use Rattle.naga_arena.specs.Results.{IsFirstError}
 use Rattle.naga_arena.specs.Span.{inner_of}
 use Rattle.naga_ir.specs.Handles.{GlobalReferencesOk}
 use Rattle.naga_ir.specs.ItemReferences.{GlobalLists}
@@ -19,7 +19,7 @@ returns-in-TooLarge c =
     let m = c.args.module.now in
     let e = c.in-Err.error in
     let other : ¬ (c.in-Err.error.inner ≡ why.OutOfMemory) = search rules in
-    let First : GlobalLists → Type 0 = λ g. IsFirstRefusal (layout_results g) c.in-Err.error.ty c.in-Err.error.inner in
+    let First : GlobalLists → Type 0 = λ g. IsFirstError (layout_results g) c.in-Err.error.ty c.in-Err.error.inner in
     let first = ⊎_elim (λ (o : c.in-Err.error.inner ≡ why.OutOfMemory). absurd (other o)) (λ (f : First _). f) c.in-Err.ensures.layouts in
     let refusal : IsLayoutRefusal m e = (c.requires, subst First c.to_ctx.ensures.lists first) in
     let is : inner_of c.with_span.result ≡ Layouter e = c.with_span.ensures.inner ∙ c.new-in-TooLarge.ensures.inner ∙ c.from.ensures in

@@ -35,8 +35,8 @@ loop-handle-init c =
 pub type_info_of-requires-clause-exists : goal.type_info_of-requires-clause-exists
 type_info_of-requires-clause-exists c = slice_get_within c.args.module.now.types _ _ (next_item accepts_all c.args.module.now.types _ _ _ _ _ c.loop-handle.invariant.iterating c.in-Some.ensures.steps)
 
-pub type_info_of-requires-clause-judged : goal.type_info_of-requires-clause-judged
-type_info_of-requires-clause-judged c =
+pub type_info_of-requires-clause-known : goal.type_info_of-requires-clause-known
+type_info_of-requires-clause-known c =
     let here = next_index accepts_all c.args.module.now.types _ _ _ _ _ c.loop-handle.invariant.iterating c.in-Some.ensures.steps in
     omega (arith, here)
 

@@ -1,4 +1,4 @@
-use Rattle.naga_valid.proofs.FunctionLaws.{can_judge_in_order, flags_known}
+use Rattle.naga_valid.proofs.FunctionLaws.{ready_in_order, flags_known}
 use Rattle.naga_valid.proofs.laws.functions.Goals as goal
 
 pub returns : goal.returns
@@ -8,5 +8,5 @@ returns g c =
     record {
       handles = handles;
       flags = flags_known _ m _ _ _ c.requires.accepted;
-      in_order = can_judge_in_order m handles;
+      in_order = ready_in_order m handles;
     }

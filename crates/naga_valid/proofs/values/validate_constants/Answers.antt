@@ -1,6 +1,6 @@
 use Rattle.std.proofs.Common.{◌≡◌, ◌+◌, ◌∙◌, Err, inr, ap, sym, subst}
 use Rattle.std.proofs.lemmas.Option.{slice_get_within}
-use Rattle.naga_arena.specs.Results.{IsFirstRefusal}
+use Rattle.naga_arena.specs.Results.{IsFirstError}
 use Rattle.naga_arena.specs.Span.{inner_of}
 use Rattle.naga_valid.proofs.ItemsInOrder.{accepted_unless, all_accepted, begin, first_refused, next_item, one_more}
 use Rattle.naga_valid.proofs.ReferencedItems.{constant-initialiser, constant-type}
@@ -38,7 +38,7 @@ returns-in-Err c =
     let error : ValidationError = Constant c.in-Some.handle name c.in-Err.source in
     let is : inner_of c.with_span.result ≡ error = c.with_span.ensures.inner ∙ c.new.ensures.inner ∙ ap (λ shown. let e : ValidationError = Constant c.in-Some.handle shown c.in-Err.source in e) c.in_ok-name.ensures in
     let refused : rule (c.in-Some.handle, c.in-Some.constant.now) ≡ Err error = ap (reported (Constant c.in-Some.handle name)) (sym c.validate_constant.ensures ∙ c.in-Err.is) in
-    inr (c.in-Some.handle, subst (IsFirstRefusal (results_of rule m.constants) c.in-Some.handle) (sym is) (first_refused rule m.constants _ _ _ _ _ c.loop-handle.invariant.1 c.in-Some.ensures.steps error refused))
+    inr (c.in-Some.handle, subst (IsFirstError (results_of rule m.constants) c.in-Some.handle) (sym is) (first_refused rule m.constants _ _ _ _ _ c.loop-handle.invariant.1 c.in-Some.ensures.steps error refused))
 
 pub returns : goal.returns
 returns c = all_accepted (constant_result c.args.module.now c.args.mod_info.now.lists c.args.kinds.now) c.args.module.now.constants _ _ c.loop-handle.invariant.1 c.in-None.ensures.steps.0

@@ -1,6 +1,6 @@
 use Rattle.std.proofs.Common.{◌≡◌, ◌+◌, ◌<◌, ◌∙◌, ℕ, Bool, List, IfSome, Some, Err, Result, ap, sym, subst, arith, length, slice_get}
 use Rattle.std.proofs.lemmas.Option.{slice_get_within}
-use Rattle.naga_arena.specs.Results.{IsFirstRefusal}
+use Rattle.naga_arena.specs.Results.{IsFirstError}
 use Rattle.naga_arena.specs.Span.{inner_of}
 use Rattle.naga_exprs.specs.ConstExpression.{const_expression_rule}
 use Rattle.naga_info.specs.declared.const_expression_error.ConstExpressionError.{ConstExpressionError}
@@ -73,7 +73,7 @@ returns-in-Err g c =
     let is : inner_of c.with_span.result ≡ error = c.with_span.ensures.inner ∙ c.new.ensures.inner in
     let refused : expression_result s (c.in-Some.handle, c.in-Some.field-0-1.now) ≡ Err error = ap (reported (ConstExpression c.in-Some.handle)) (sym said ∙ c.in-Err.is) in (
       c.in-Some.handle,
-      subst (IsFirstRefusal (results_of (expression_result s) m.global_expressions) c.in-Some.handle) (sym is)
+      subst (IsFirstError (results_of (expression_result s) m.global_expressions) c.in-Some.handle) (sym is)
           (first_refused (expression_result s) m.global_expressions _ _ _ _ _ c.loop-handle.invariant.1 c.in-Some.ensures.steps error refused),
     )
 

@@ -1,6 +1,6 @@
 use Rattle.std.proofs.Common.{◌≡◌, ◌+◌, ◌∙◌, Err, Some, inr, ap, sym, subst, take, slice_get}
 use Rattle.std.proofs.lemmas.Option.{slice_get_within}
-use Rattle.naga_arena.specs.Results.{IsFirstRefusal}
+use Rattle.naga_arena.specs.Results.{IsFirstError}
 use Rattle.naga_arena.specs.Span.{inner_of}
 use Rattle.naga_valid.proofs.Ids.{none_noted, one_checked}
 use Rattle.naga_valid.proofs.ItemsInOrder.{accepted_unless, all_accepted, begin, first_refused, next_index, next_item, one_more}
@@ -61,7 +61,7 @@ returns-in-Err c =
     let error : ValidationError = Override c.in-Some.handle name c.in-Err.source in
     let is : inner_of c.with_span.result ≡ error = c.with_span.ensures.inner ∙ c.new.ensures.inner ∙ ap (λ shown. let e : ValidationError = Override c.in-Some.handle shown c.in-Err.source in e) c.in_ok-name.ensures in
     let refused : rule (c.in-Some.handle, o) ≡ Err error = ap (reported (Override c.in-Some.handle name)) (sym said ∙ c.in-Err.is) in
-    inr (c.in-Some.handle, subst (IsFirstRefusal (results_of rule m.overrides) c.in-Some.handle) (sym is) (first_refused rule m.overrides _ _ _ _ _ judging c.in-Some.ensures.steps error refused))
+    inr (c.in-Some.handle, subst (IsFirstError (results_of rule m.overrides) c.in-Some.handle) (sym is) (first_refused rule m.overrides _ _ _ _ _ judging c.in-Some.ensures.steps error refused))
 
 pub returns : goal.returns
 returns c = all_accepted (override_result c.args.overrides_resolved c.args.module.now c.args.mod_info.now.lists) c.args.module.now.overrides _ _ c.loop-handle.invariant.judging c.in-None.ensures.steps.0

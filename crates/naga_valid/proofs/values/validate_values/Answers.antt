@@ -8,7 +8,7 @@ use Rattle.naga_ir.specs.declared.ir.Module.{Module}
 use Rattle.naga_ir.specs.declared.reference.Reference.{Reference}
 use Rattle.naga_valid.specs.Values.{constant_result, override_result, results_of, value_results}
 use Rattle.naga_valid.specs.declared.error.ValidationError.TheVariants.{OutOfMemory}
-use Rattle.naga_valid.specs.steps.JudgedValues.{IsFirstError}
+use Rattle.naga_valid.specs.steps.KnownValues.{IsFirstValueError}
 use Rattle.naga_valid.proofs.FirstErrors.{error-in-first, error-in-second}
 use Rattle.naga_valid.proofs.values.validate_values.Goals as goal
 
@@ -37,7 +37,7 @@ returns-in_err-validate_constants g c =
     let p = err_from_is_err_and c.from_residual-in_err-validate_constants.result c.from_residual-in_err-validate_constants.ensures.1 in
     rw (p.1, p.2) (⊎_elim
     (λ (o : inner_of c.in_err-validate_constants.field-0.0 ≡ OutOfMemory). inl o)
-    (λ (first : IsFirstError (results_of (constant_result m info kinds) m.constants) (inner_of c.in_err-validate_constants.field-0.0)).
+    (λ (first : IsFirstValueError (results_of (constant_result m info kinds) m.constants) (inner_of c.in_err-validate_constants.field-0.0)).
     inr (value_results ctx.capabilities ctx.overrides_resolved m info kinds, (kinds, c.in_ok-kinds.ensures.kinds, refl), error-in-second _ _ _ c.in_ok-validate_expressions.ensures (error-in-first _ _ _ first)))
     c.in_err-validate_constants.ensures)
 
@@ -52,6 +52,6 @@ returns g c =
     (λ u ok. (results, (kinds, c.in_ok-kinds.ensures.kinds, refl), All-append IsOk _ _ c.in_ok-validate_expressions.ensures (All-append IsOk _ _ c.in_ok-validate_constants.ensures ok)))
     (λ e why. ⊎_elim
     (λ (o : inner_of e ≡ OutOfMemory). inl o)
-    (λ (first : IsFirstError (results_of (override_result ctx.overrides_resolved m info) m.overrides) (inner_of e)).
+    (λ (first : IsFirstValueError (results_of (override_result ctx.overrides_resolved m info) m.overrides) (inner_of e)).
     inr (results, (kinds, c.in_ok-kinds.ensures.kinds, refl), error-in-second _ _ _ c.in_ok-validate_expressions.ensures (error-in-second _ _ _ c.in_ok-validate_constants.ensures first)))
     why)

@@ -3,7 +3,7 @@ use Rattle.std.specs.Option.{option_and_then}
 use Rattle.std.proofs.lemmas.Option.{get_or_from_slice_get, slice_get_within}
 use Rattle.naga_immediates.proofs.SlotParts.{inner_is, member_exists}
 use Rattle.naga_immediates.specs.Slots.{AccessesMember}
-use Rattle.naga_immediates.specs.Slots.Reaches.{member, all}
+use Rattle.naga_immediates.specs.Slots.Touches.{member, all}
 use Rattle.naga_ir.specs.ItemReferences.{GlobalLists}
 use Rattle.naga_ir.specs.declared.expression.Expression.{Expression}
 use Rattle.naga_ir.specs.declared.ir.GlobalVariable.{GlobalVariable as Variable}

@@ -5,10 +5,10 @@ use Rattle.std.proofs.lemmas.Grind.{get_or-set_at}
 use Rattle.std.proofs.lemmas.List.{get_or-set_other, length-set}
 use Rattle.std.proofs.lemmas.Option.{get_or_from_slice_get, same_Some, slice_get-get_or, slice_get_within}
 use Rattle.naga_immediates.proofs.SlotParts.{all_added, begin, inner_is, member_before, other_added, passes_on, plain, walks_on}
-use Rattle.naga_immediates.specs.Slots.{AreExactly, HasSlot, SharesByte, slot_count}
+use Rattle.naga_immediates.specs.Slots.{IsSetOf, HasSlot, SharesByte, slot_count}
 use Rattle.naga_immediates.specs.declared.immediates.ImmediateSlots.{ImmediateSlots}
 use Rattle.naga_immediates.specs.declared.immediates.SlotWalk.{SlotWalk}
-use Rattle.naga_immediates.specs.steps.SlotWalk.{Gains, KnowsNoted, TypeUses, place_of}
+use Rattle.naga_immediates.specs.steps.SlotWalk.{AddsSlotsOf, KnowsNoted, TypeUses, place_of}
 use Rattle.naga_ir.specs.ItemReferences.{GlobalLists}
 use Rattle.naga_ir.specs.declared.types.TypeInner.TheVariants.{Struct}
 use Rattle.naga_typing.proofs.Existence.{references_exist}
@@ -23,7 +23,7 @@ still_known : (g : GlobalLists) (slots slots′ : ImmediateSlots) (noted : List 
 still_known g slots slots′ noted kept known byte t k at within u = kept k (known byte t k at within u)
 
 -- what is noted is gained already
-noted_gains : (g : GlobalLists) (walk : SlotWalk) (t byte : ℕ) → KnowsNoted g walk → slice_get walk.noted (place_of t byte) ≡ Some (Some t) → Gains g t byte walk.slots walk.slots
+noted_gains : (g : GlobalLists) (walk : SlotWalk) (t byte : ℕ) → KnowsNoted g walk → slice_get walk.noted (place_of t byte) ≡ Some (Some t) → AddsSlotsOf g t byte walk.slots walk.slots
 noted_gains g walk t byte known at = record { kept = λ k h. h; gained = λ k within u. known byte t k at within u; only = λ k h. inl h }
 
 -- what is read after a write is what was written, or what was there
@@ -62,7 +62,7 @@ pub returns-in_default : goal.returns-in_default
 returns-in_default t c =
     let gains = other_added (lists_of c.args.gctx) c.args.ty c.index.result.now.inner c.args.byte c.args.self.now.slots c.slots_of_part.result c.bitor_assign.new.self
     (inner_is (lists_of c.args.gctx) c.args.ty _ c.index.ensures) (plain _ c.in_default.not-Struct)
-    (subst (λ n. AreExactly (SharesByte n (size_of (lists_of c.args.gctx) c.index.result.now.inner)) c.slots_of_part.result) c.from.ensures c.slots_of_part.ensures)
+    (subst (λ n. IsSetOf (SharesByte n (size_of (lists_of c.args.gctx) c.index.result.now.inner)) c.slots_of_part.result) c.from.ensures c.slots_of_part.ensures)
     c.bitor_assign.ensures.after in
     record { noted = λ byte t k at within u. gains.kept k (c.requires.noted byte t k at within u); gains = gains }
 

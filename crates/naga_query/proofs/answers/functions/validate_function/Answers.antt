@@ -1,5 +1,5 @@
 use Rattle.std.proofs.Common.{◌≤◌, length, rules, subst, sym}
-use Rattle.naga_query.proofs.Functions.{can_judge_at, preceding_within}
+use Rattle.naga_query.proofs.Functions.{ready_at, preceding_within}
 use Rattle.naga_query.proofs.Validation.{known_later}
 use Rattle.naga_query.proofs.answers.functions.validate_function.Goals as goal
 use Rattle.naga_query.specs.Accepted.{ArgumentsAreThere}
@@ -14,7 +14,7 @@ validate_each-requires-clause-known c =
     let there : ArgumentsAreThere at.function.now = search rules in
     record {
       handles = known.handles;
-      function = known_later m at.function.now at.preceding _ later (can_judge_at m at.function.now at.preceding known.in_order c.requires.there);
+      function = known_later m at.function.now at.preceding _ later (ready_at m at.function.now at.preceding known.in_order c.requires.there);
       arguments = there;
       flags = known.flags;
     }

@@ -1,7 +1,7 @@
 use Rattle.std.proofs.Common.{◌≡◌, true, false, sym, ap, ◌∙◌}
 use Rattle.std.specs.Prelude.{Err}
 use Rattle.naga_types.specs.steps.Components.{fits, resolutions_of}
-use Rattle.naga_types.specs.Judging.{granted}
+use Rattle.naga_types.specs.Checks.{ok_unless}
 use Rattle.naga_types.specs.declared.error.ComposeError.TheVariants.{ComponentType}
 use Rattle.naga_types.proofs.ComposeLemmas.{component_exists, one_fits, one_misfits}
 use Rattle.naga_types.proofs.compose.Wanted.check_each.Goals as goal
@@ -15,7 +15,7 @@ returns-then-not-fits c =
     let given = resolutions_of c.args.components.now in
     let fails : wanted (c.loop-index.index, c.get.result.now) ≡ false = sym c.fits.ensures ∙ c.if-not-fits.true in
     ap (λ n. Err (ComponentType n)) c.saturated.ensures
-    ∙ sym (ap (λ o. granted o tt) (one_misfits wanted given c.loop-index.index c.get.result.now c.get.ensures c.loop-index.invariant fails))
+    ∙ sym (ap (λ o. ok_unless o tt) (one_misfits wanted given c.loop-index.index c.get.result.now c.get.ensures c.loop-index.invariant fails))
 
 pub loop-index-preserved : goal.loop-index-preserved
 loop-index-preserved c =

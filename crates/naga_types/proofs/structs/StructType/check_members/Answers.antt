@@ -2,37 +2,37 @@ use Rattle.std.proofs.Common.{rules, ◌≡◌, ◌<◌, ap, get_or, length, sub
 use Rattle.std.specs.Prelude.{Err}
 use Rattle.naga_ir.specs.declared.types.StructMember.{StructMember}
 use Rattle.naga_types.specs.RuleResults.{IsRuleResult}
-use Rattle.naga_types.specs.Judging.{first, judged}
+use Rattle.naga_types.specs.Checks.{first, first_error_or}
 use Rattle.naga_types.specs.StructRule as rule
 use Rattle.naga_types.specs.steps.Structs.{sources_of, surroundings_of}
 use Rattle.naga_types.proofs.FirstLemmas.{passed, refused}
-use Rattle.naga_types.proofs.JudgingLemmas.{not_refused, result_first}
+use Rattle.naga_types.proofs.CheckLemmas.{not_refused, result_first}
 use Rattle.naga_types.proofs.structs.StructType.check_members.Goals as goal
 
 pub returns-in_err-check_member : goal.returns-in_err-check_member
 returns-in_err-check_member c =
     let s = surroundings_of c.args.self.now in
     let members = c.args.self.now.members.now in
-    let refusal = rule.member_refusal s members c.args.self.now.span in
+    let refusal = rule.member_error s members c.args.self.now.span in
     let error = c.in_err-check_member.field-0.0 in
     let member : StructMember = get_or members c.loop-index.index c.index-self-index.result in
     let at : member ≡ get_or members c.loop-index.index member = ap (λ (m : StructMember). get_or members c.loop-index.index m) c.index-self-index.is in
     let within : c.loop-index.index < length members = omega (arith, c.loop-index-test.true, c.loop-index.auto.index-end) in
     let is : c.from_residual.result ≡ Err error = search rules in
-    subst (IsRuleResult (judged (rule.member_refusals s members c.args.self.now.span) (sources_of members))) (sym is)
-    (result_first (refusal (c.loop-index.index, member)) (first (rule.member_refusals s members c.args.self.now.span)) tt (sources_of members) error
+    subst (IsRuleResult (first_error_or (rule.member_errors s members c.args.self.now.span) (sources_of members))) (sym is)
+    (result_first (refusal (c.loop-index.index, member)) (first (rule.member_errors s members c.args.self.now.span)) tt (sources_of members) error
     (λ e some. refused refusal members c.loop-index.index member within at c.loop-index.invariant.left e some)
-    c.in_err-check_member.ensures.judged)
+    c.in_err-check_member.ensures.checks)
 
 pub loop-index-preserved : goal.loop-index-preserved
 loop-index-preserved c =
     let s = surroundings_of c.args.self.now in
     let members = c.args.self.now.members.now in
-    let refusal = rule.member_refusal s members c.args.self.now.span in
+    let refusal = rule.member_error s members c.args.self.now.span in
     let member : StructMember = get_or members c.loop-index.index c.index-self-index.result in
     let at : member ≡ get_or members c.loop-index.index member = ap (λ (m : StructMember). get_or members c.loop-index.index m) c.index-self-index.is in
     let within : c.loop-index.index < length members = omega (arith, c.loop-index-test.true, c.loop-index.auto.index-end) in
     record {
-      left = passed refusal members c.loop-index.index member within at c.loop-index.invariant.left (not_refused _ _ _ c.in_ok-check_member.ensures.judged);
+      left = passed refusal members c.loop-index.index member within at c.loop-index.invariant.left (not_refused _ _ _ c.in_ok-check_member.ensures.checks);
       noted = c.in_ok-check_member.ensures.noted;
     }

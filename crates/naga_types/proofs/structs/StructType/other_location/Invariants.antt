@@ -1,7 +1,7 @@
 use Rattle.std.proofs.Common.{◌≡◌, map, drop}
 use Rattle.naga_ir.specs.declared.types.StructMember.{StructMember}
 use Rattle.std.specs.Option.{option_or}
-use Rattle.naga_types.specs.Judging.{last}
+use Rattle.naga_types.specs.Checks.{last}
 use Rattle.naga_types.specs.StructRule as rule
 use Rattle.naga_types.proofs.structs.StructType.other_location.Given as goal
 

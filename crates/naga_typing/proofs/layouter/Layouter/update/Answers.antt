@@ -1,6 +1,6 @@
 use Rattle.std.proofs.Common.{◌≡◌, ◌<◌, ◌⊎◌, All, Err, IsOk, Ok, Some, ap, slice_get, length, take, subst, sym, ◌∙◌, inl, inr, ⊎_elim}
 use Rattle.std.proofs.lemmas.Option.{slice_get_within}
-use Rattle.naga_arena.specs.Results.{IsFirstRefusal}
+use Rattle.naga_arena.specs.Results.{IsFirstError}
 use Rattle.naga_typing.specs.Context.{lists_of}
 use Rattle.naga_typing.specs.Layout.{layout_of, layout_results, layout_rule}
 use Rattle.naga_typing.specs.declared.layouter.LayoutError.{LayoutError}
@@ -31,7 +31,7 @@ returns-in-Err-clause-layouts c =
     (λ (e : layout_rule g c.in-Some.type_.now.inner ≡ Err c.in-Err.inner).
     inr (first_refused (accepts g) g.types _ _ _ _ _ c.loop-ty.invariant.iterating c.in-Some.ensures.steps _ e))
     c.in-Err.ensures in
-    subst (λ (e : LayoutError). (e.inner ≡ OutOfMemory) ⊎ IsFirstRefusal (layout_results g) e.ty e.inner) (sym c.with.ensures) said
+    subst (λ (e : LayoutError). (e.inner ≡ OutOfMemory) ⊎ IsFirstError (layout_results g) e.ty e.inner) (sym c.with.ensures) said
 
 pub returns-in-Err-clause-place : goal.returns-in-Err-clause-place
 returns-in-Err-clause-place c =

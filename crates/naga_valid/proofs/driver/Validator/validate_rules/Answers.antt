@@ -2,7 +2,7 @@ use Rattle.std.proofs.Common.{rules, ◌≡◌, ◌≤◌, ◌<◌, ◌∙◌, �
 use Rattle.bitflags.specs.Sets.{known_from}
 use Rattle.naga_flags.specs.declared.flags.ShaderStages.{ShaderStages}
 use Rattle.naga_info.specs.declared.expression_error.ExpressionError.TheVariants as refusal
-use Rattle.naga_valid.proofs.FunctionRules.{all_asked, allowed_at, can_judge_next, enough_asked, next_there, none_asked, one_allowed, one_breach, refused_at}
+use Rattle.naga_valid.proofs.FunctionRules.{all_asked, allowed_at, ready_next, enough_asked, next_there, none_asked, one_allowed, one_breach, refused_at}
 use Rattle.naga_valid.specs.Functions.{function_surroundings}
 use Rattle.naga_valid.proofs.driver.Validator.validate_rules.Goals as goal
 use Rattle.naga_valid.proofs.driver.Validator.validate_rules.Goals.{in-None, in-Some+then-index-len}
@@ -24,8 +24,8 @@ validate_expression-requires g c =
     let types = c.args.info.now.types in
     let typed : c.in-Some.handle ≤ length types = omega (arith, c.if-index-len.false, c.index.ensures.value, c.len.ensures) in
     record {
-      can_judge =
-          can_judge_next s types c.in_ok-kinds.kinds c.in-Some.handle c.in-Some.expression.now c.requires c.in_ok-kinds.ensures.kinds
+      ready =
+          ready_next s types c.in_ok-kinds.kinds c.in-Some.handle c.in-Some.expression.now c.requires c.in_ok-kinds.ensures.kinds
           (next_there s types _ _ _ _ _ c.loop-handle.invariant c.in-Some.ensures.steps) typed;
     }
 

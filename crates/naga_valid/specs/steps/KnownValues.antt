@@ -1,7 +1,7 @@
 -- What is known when the values of a module are judged.
 use Rattle.std.specs.Prelude.{◌≡◌, ℕ, List, All, Result, length}
-use Rattle.naga_arena.specs.InOrder.{IsFirstRefusalInOrder}
-use Rattle.naga_arena.specs.Results.{IsFirstRefusal}
+use Rattle.naga_arena.specs.InOrder.{IsFirstErrorInOrder}
+use Rattle.naga_arena.specs.Results.{IsFirstError}
 use Rattle.naga_ir.specs.Handles.{HandlesAccepted}
 use Rattle.naga_ir.specs.declared.ir.Module.{Module}
 use Rattle.naga_info.specs.ModuleInfo.{ModuleInfoLists}
@@ -21,17 +21,17 @@ pub record AreFilled (m : Module) (info : ModuleInfoLists) : Type 0 where
   pub exist : All (TypesExist m.types) info.const_expression_types
 
 -- the kinds of its global expressions are known too
-pub record AreJudged (m : Module) (info : ModuleInfoLists) (kinds : List ExpressionKind) : Type 0 where
+pub record AreFilledWithKinds (m : Module) (info : ModuleInfoLists) (kinds : List ExpressionKind) : Type 0 where
   pub filled : AreFilled m info
   pub kinds_are : length kinds ≡ length m.global_expressions
 
 -- an error is the first of some results
-abbrev pub IsFirstError : List (Result (Unit {0}) ValidationError) → ValidationError → Type 0
-IsFirstError results e = (place : ℕ) × IsFirstRefusal results place e
+abbrev pub IsFirstValueError : List (Result (Unit {0}) ValidationError) → ValidationError → Type 0
+IsFirstValueError results e = (place : ℕ) × IsFirstError results place e
 
 -- an error is that of the first global expression that has no type
 pub record IsFirstUnresolved (resolves : Resolves) (m : Module) (e : ValidationError) : Type 0 where
   pub handle : ℕ
   pub error : ResolveError
-  pub first : IsFirstRefusalInOrder (resolve_in_order resolves m) m.global_expressions handle error
+  pub first : IsFirstErrorInOrder (resolve_in_order resolves m) m.global_expressions handle error
   pub reported_as : e ≡ ConstExpression handle (Unresolved error)

@@ -1,4 +1,4 @@
--- Judging by lists of conditions, in their order.
+-- Checks by lists of conditions, in their order.
 use Rattle.std.specs.Prelude.{Bool, true, false, List, [], ◌∷◌, Option, Some, None, Result, Ok, Err}
 use Rattle.std.specs.Option.{option_or}
 
@@ -13,20 +13,20 @@ last [] = None
 last (a ∷ rest) = option_or (last rest) a
 
 -- an error, unless a condition holds
-abbrev pub unless : {E : Type 0} → Bool → E → Option E
-unless true error = None
-unless false error = Some error
+abbrev pub require : {E : Type 0} → Bool → E → Option E
+require true error = None
+require false error = Some error
 
 -- an option, if a condition holds
-abbrev pub only_if : {A : Type 0} → Bool → Option A → Option A
-only_if true option = option
-only_if false option = None
+abbrev pub when : {A : Type 0} → Bool → Option A → Option A
+when true option = option
+when false option = None
 
 -- a value, unless there is an error
-abbrev pub granted : {A E : Type 0} → Option E → A → Result A E
-granted None value = Ok value
-granted (Some error) value = Err error
+abbrev pub ok_unless : {A E : Type 0} → Option E → A → Result A E
+ok_unless None value = Ok value
+ok_unless (Some error) value = Err error
 
 -- a value, unless one of the conditions is broken: the first such gives the error
-abbrev pub judged : {A E : Type 0} → List (Option E) → A → Result A E
-judged refusals value = granted (first refusals) value
+abbrev pub first_error_or : {A E : Type 0} → List (Option E) → A → Result A E
+first_error_or refusals value = ok_unless (first refusals) value

@@ -26,11 +26,11 @@ use Rattle.naga_ir.specs.declared.types.TypeInner.{TypeInner}
 use Rattle.naga_ir.specs.declared.types.TypeInner.TheVariants.{Array, Struct}
 use Rattle.naga_types.proofs.KeptConditions.{granted_ok, none_stands, unless-kept}
 use Rattle.naga_types.proofs.LeafPlaces.{map_some}
-use Rattle.naga_types.specs.AcceptedTypes.{AreTypesAccepted, judged_by, types_rule}
+use Rattle.naga_types.specs.AcceptedTypes.{AreTypesAccepted, surroundings_by, types_rule}
 use Rattle.naga_types.specs.FormFlags.{array_flags, element_flags}
-use Rattle.naga_types.specs.Judging.{first}
+use Rattle.naga_types.specs.Checks.{first}
 use Rattle.naga_types.specs.Surroundings.{Surroundings, flags_at, info_at, info_in, size_at, size_in}
-use Rattle.naga_types.specs.TypeRule.{array_conditions, array_info, type_rule}
+use Rattle.naga_types.specs.TypeRule.{array_checks, array_info, type_rule}
 use Rattle.naga_types.specs.declared.info.TypeInfo.{TypeInfo}
 use Rattle.naga_typing.proofs.Layouts.{layout_by_parts}
 use Rattle.naga_typing.specs.Layout.{AreLayouts, alignment_at, alignment_in, alignment_of, layout_of, size_of}
@@ -38,15 +38,15 @@ use Rattle.naga_typing.specs.Leaves.{inner_at, size_at_index}
 use Rattle.naga_typing.specs.declared.layouter.TypeLayout.{TypeLayout}
 
 -- a type is judged by infos that are, of the types before it, these
-pub record IsJudged (g : GlobalLists) (capabilities : Capabilities) (resolved : Bool) (layouts : List TypeLayout) (infos : List TypeInfo) (t : ℕ) : Type 0 where
+pub record IsAcceptedType (g : GlobalLists) (capabilities : Capabilities) (resolved : Bool) (layouts : List TypeLayout) (infos : List TypeInfo) (t : ℕ) : Type 0 where
   pub ty : «Type»
   pub at : slice_get g.types t ≡ Some ty
   pub known : List TypeInfo
   pub before : (p : ℕ) → p < t → slice_get known p ≡ slice_get infos p
-  pub by_rule : type_rule (judged_by g capabilities resolved layouts known) t ty.inner ≡ Ok (info_in (slice_get infos t))
+  pub by_rule : type_rule (surroundings_by g capabilities resolved layouts known) t ty.inner ≡ Ok (info_in (slice_get infos t))
 
 -- lists of a module and the layouts of their types, of which some have infos by the rule
-pub record JudgedTypes : Type 0 where
+pub record CheckedTypes : Type 0 where
   pub lists : GlobalLists
   pub capabilities : Capabilities
   pub resolved : Bool
@@ -54,12 +54,12 @@ pub record JudgedTypes : Type 0 where
   pub infos : List TypeInfo
   pub references : GlobalReferencesOk lists
   pub laid_out : AreLayouts lists layouts
-  pub judged : (t : ℕ) → t < length infos → IsJudged lists capabilities resolved layouts infos t
+  pub each_accepted : (t : ℕ) → t < length infos → IsAcceptedType lists capabilities resolved layouts infos t
 
 -- types are judged that the rule accepts in their order
-pub judged_in_order : (g : GlobalLists) (capabilities : Capabilities) (resolved : Bool) (layouts : List TypeLayout) (count : ℕ) (infos : List TypeInfo)
-    → FollowInOrder (types_rule g capabilities resolved layouts) (take count g.types) infos → (t : ℕ) → t < length infos → IsJudged g capabilities resolved layouts infos t
-judged_in_order g capabilities resolved layouts count infos follow t within =
+pub accepted_in_order : (g : GlobalLists) (capabilities : Capabilities) (resolved : Bool) (layouts : List TypeLayout) (count : ℕ) (infos : List TypeInfo)
+    → FollowInOrder (types_rule g capabilities resolved layouts) (take count g.types) infos → (t : ℕ) → t < length infos → IsAcceptedType g capabilities resolved layouts infos t
+accepted_in_order g capabilities resolved layouts count infos follow t within =
     let found = found_at infos t within in
     let Types = take count g.types in
     let split = map_some (types_rule g capabilities resolved layouts (take t infos) t) (slice_get Types t) _ (follow t found.0 found.1) in
@@ -73,9 +73,9 @@ judged_in_order g capabilities resolved layouts count infos follow t within =
     }
 
 -- a type is still judged when there are more infos
-judged_still : (g : GlobalLists) (capabilities : Capabilities) (resolved : Bool) (layouts : List TypeLayout) (infos more : List TypeInfo) (t : ℕ) → t < length infos
-    → IsJudged g capabilities resolved layouts infos t → IsJudged g capabilities resolved layouts (infos ++ more) t
-judged_still g capabilities resolved layouts infos more t within j = record {
+accepted_still : (g : GlobalLists) (capabilities : Capabilities) (resolved : Bool) (layouts : List TypeLayout) (infos more : List TypeInfo) (t : ℕ) → t < length infos
+    → IsAcceptedType g capabilities resolved layouts infos t → IsAcceptedType g capabilities resolved layouts (infos ++ more) t
+accepted_still g capabilities resolved layouts infos more t within j = record {
   ty = j.ty;
   at = j.at;
   known = j.known;
@@ -84,13 +84,13 @@ judged_still g capabilities resolved layouts infos more t within j = record {
 }
 
 -- the next type is judged too, by all infos, if its own info is that of the rule
-pub judged_with_next : (g : GlobalLists) (capabilities : Capabilities) (resolved : Bool) (layouts : List TypeLayout) (infos : List TypeInfo) (t : ℕ) (x : «Type») (info : TypeInfo) → t ≤ length infos
+pub accepted_with_next : (g : GlobalLists) (capabilities : Capabilities) (resolved : Bool) (layouts : List TypeLayout) (infos : List TypeInfo) (t : ℕ) (x : «Type») (info : TypeInfo) → t ≤ length infos
     → FollowInOrder (types_rule g capabilities resolved layouts) (take t g.types) (take t infos) → slice_get g.types t ≡ Some x
-    → type_rule (judged_by g capabilities resolved layouts infos) t x.inner ≡ Ok info → (p : ℕ) → p < length (take t infos ++ info ∷ []) → IsJudged g capabilities resolved layouts (take t infos ++ info ∷ []) p
-judged_with_next g capabilities resolved layouts infos t x info within follow at rule p below =
+    → type_rule (surroundings_by g capabilities resolved layouts infos) t x.inner ≡ Ok info → (p : ℕ) → p < length (take t infos ++ info ∷ []) → IsAcceptedType g capabilities resolved layouts (take t infos ++ info ∷ []) p
+accepted_with_next g capabilities resolved layouts infos t x info within follow at rule p below =
     let so_many : length (take t infos) ≡ t = length-take-le t infos within in
     let seam : slice_get (take t infos ++ info ∷ []) t ≡ Some info = ap (slice_get (take t infos ++ info ∷ [])) (sym so_many) ∙ slice_get-seam (take t infos) [] info in
-    let next : IsJudged g capabilities resolved layouts (take t infos ++ info ∷ []) t = record {
+    let next : IsAcceptedType g capabilities resolved layouts (take t infos ++ info ∷ []) t = record {
       ty = x;
       at = at;
       known = infos;
@@ -98,14 +98,14 @@ judged_with_next g capabilities resolved layouts infos t x info within follow at
       by_rule = rule ∙ ap (λ o. Ok (info_in o)) (sym seam);
     } in
     ⊎_elim
-    (λ (earlier : p < length (take t infos)). judged_still g capabilities resolved layouts (take t infos) (info ∷ []) p earlier (judged_in_order g capabilities resolved layouts t (take t infos) follow p earlier))
+    (λ (earlier : p < length (take t infos)). accepted_still g capabilities resolved layouts (take t infos) (info ∷ []) p earlier (accepted_in_order g capabilities resolved layouts t (take t infos) follow p earlier))
     (λ (here : length (take t infos) ≤ p).
     let last : t ≡ p = omega (arith, so_many, here, below, length-append (take t infos) (info ∷ [])) in
-    subst (IsJudged g capabilities resolved layouts (take t infos ++ info ∷ [])) last next)
+    subst (IsAcceptedType g capabilities resolved layouts (take t infos ++ info ∷ [])) last next)
     (cases_lt p (length (take t infos)))
 
 -- all types of a module are judged whose types are accepted
-abbrev pub accepted_types : (m : Module) (capabilities : Capabilities) (resolved : Bool) (layouts : List TypeLayout) (infos : List TypeInfo) → AreTypesAccepted m capabilities resolved layouts infos → JudgedTypes
+abbrev pub accepted_types : (m : Module) (capabilities : Capabilities) (resolved : Bool) (layouts : List TypeLayout) (infos : List TypeInfo) → AreTypesAccepted m capabilities resolved layouts infos → CheckedTypes
 accepted_types m capabilities resolved layouts infos accepted =
     let all : take (length m.types) m.types ≡ m.types = take_all (length m.types) m.types (omega arith) in
     record {
@@ -116,11 +116,11 @@ accepted_types m capabilities resolved layouts infos accepted =
       infos = infos;
       references = global_references_ok m accepted.laid_out.handles;
       laid_out = accepted.laid_out.each_type;
-      judged = judged_in_order (global_lists m) capabilities resolved layouts (length m.types) infos
+      each_accepted = accepted_in_order (global_lists m) capabilities resolved layouts (length m.types) infos
           (subst (λ types. FollowInOrder (types_rule (global_lists m) capabilities resolved layouts) types infos) (sym all) accepted.each_type.follow);
     }
 
-module _ (w : JudgedTypes) where
+module _ (w : CheckedTypes) where
   -- the info of a type
   abbrev pub info_of : ℕ → TypeInfo
   info_of t = info_in (slice_get w.infos t)
@@ -131,12 +131,12 @@ module _ (w : JudgedTypes) where
 
   -- the type is judged
   abbrev pub Judged : ℕ → Type 0
-  Judged t = IsJudged w.lists w.capabilities w.resolved w.layouts w.infos t
+  Judged t = IsAcceptedType w.lists w.capabilities w.resolved w.layouts w.infos t
 
   module _ (t : ℕ) (j : Judged t) where
     -- what it is judged by
     abbrev pub known : Surroundings
-    known = judged_by w.lists w.capabilities w.resolved w.layouts j.known
+    known = surroundings_by w.lists w.capabilities w.resolved w.layouts j.known
 
     -- the infos that it is judged by are those of the types before it
     pub known_is : (p : ℕ) → p < t → info_at known p ≡ info_of p
@@ -184,13 +184,13 @@ module _ (w : JudgedTypes) where
 module _ (s : Surroundings) (t base : ℕ) (size : ArraySize) (stride : ℕ) (i : TypeInfo) (is : type_rule s t (Array base size stride) ≡ Ok i) where
   -- the info of an array is that by its base
   pub array_info_is : array_info s t base size stride ≡ i
-  array_info_is = (granted_ok (first (array_conditions s t base size)) _ i is).1
+  array_info_is = (granted_ok (first (array_checks s t base size)) _ i is).1
 
   -- the elements of an array have fixed sizes
   pub element_sized : has (flags_at s base) SIZED ≡ true
   element_sized =
-      let conditions = (granted_ok (first (array_conditions s t base size)) _ i is).0 in
-      has-trans (flags_at s base) element_flags SIZED (unless-kept (has (flags_at s base) element_flags) _ (none_stands (array_conditions s t base size) 0 _ conditions refl)) refl
+      let conditions = (granted_ok (first (array_checks s t base size)) _ i is).0 in
+      has-trans (flags_at s base) element_flags SIZED (unless-kept (has (flags_at s base) element_flags) _ (none_stands (array_checks s t base size) 0 _ conditions refl)) refl
 
   -- an array has flags that its base has and its size allows
   pub array_has : (flag : ℕ) → has i.flags.0 flag ≡ true → (has (flags_at s base) flag ≡ true) × (has (array_flags size) flag ≡ true)

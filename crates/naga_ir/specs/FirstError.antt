@@ -6,7 +6,7 @@ abbrev pub AcceptsAll : {A E : Type 0} → (A → Result (Unit {0}) E → Type 0
 AcceptsAll checks items = All (λ item. checks item (Ok tt)) items
 
 -- an item is refused with this error, and all before it are accepted
-pub record IsFirstFailure {A E : Type 0} (checks : A → Result (Unit {0}) E → Type 0) (items : List A) (error : E) : Type 0 where
+pub record IsFirstErrorOf {A E : Type 0} (checks : A → Result (Unit {0}) E → Type 0) (items : List A) (error : E) : Type 0 where
   pub before : List A
   pub item : A
   pub after : List A
@@ -17,4 +17,4 @@ pub record IsFirstFailure {A E : Type 0} (checks : A → Result (Unit {0}) E →
 -- all items are accepted, or the error is that of the first that is refused
 pub record ChecksEach {A E : Type 0} (checks : A → Result (Unit {0}) E → Type 0) (items : List A) (result : Result (Unit {0}) E) : Type 0 where
   pub accepted : OnOk result (AcceptsAll checks items)
-  pub refused : IfErr result (IsFirstFailure checks items)
+  pub refused : IfErr result (IsFirstErrorOf checks items)

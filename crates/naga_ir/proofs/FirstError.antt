@@ -2,7 +2,7 @@
 use Rattle.std.proofs.Common.{arith, List, ◌∷◌, refl, subst, sym}
 use Rattle.std.specs.Prelude.{Result, Ok, Err, All, Contains, IfErr, OnOk}
 use Rattle.std.proofs.lemmas.List.Elements.{All-weaker, Contains-append_right}
-use Rattle.naga_ir.specs.FirstFailure.{ChecksEach}
+use Rattle.naga_ir.specs.FirstError.{ChecksEach}
 
 -- what follows of an item that is accepted holds of all
 pub all-from-checks : {A E : Type 0} {check : A → Result (Unit {0}) E → Type 0} {items : List A} {r : Result (Unit {0}) E} (P : A → Type 0)
