@@ -1,7 +1,7 @@
 -- To read first:
 -- Memory.UnlessOutOfMemory: unless memory was refused, a value is as one rule says, and an error as another
 -- Results.IsFirstError: the first item of a list that isn't accepted has this error
--- InOrder.AllAcceptedInOrder, IsFirstErrorInOrder: all items are accepted, or the first that isn't, if each is judged by the values of those before it
+-- InOrder.AllAcceptedInOrder, IsFirstErrorInOrder: all items are accepted, or the first that isn't, if each is validated by the values of those before it
 -- Existence.IsGoodRange: a range is within a list
 pub mod Existence
 pub mod InOrder

@@ -1,4 +1,4 @@
--- Lists beside the room that they have.
+-- Lists with the room that they have.
 use Rattle.std.specs.Prelude.{ℕ, List}
 
 -- values, and how many there is room for without more memory

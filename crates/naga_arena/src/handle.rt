@@ -43,7 +43,7 @@ impl<K> Model for Handle<K> {
 }
 
 impl<K> Handle<K> {
-    /// The handle of index `index`. `u32::MAX` is no index.
+    /// The handle of index `index`, which is below `u32::MAX`.
     pub fn new(index: u32) -> Handle<K>
         requires { index < largest_u32 }
         ensures { result ≡ index }

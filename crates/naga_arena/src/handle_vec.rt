@@ -11,7 +11,7 @@ use std::marker::{Model, PhantomData};
 use std::ops::Index;
 
 /// A value for each of the first items of an arena of kind `K`, in the order of the items. Contracts
-/// see the values, beside the room for values that takes no more memory.
+/// see the values, and the room for values that takes no more memory.
 #[derive(Drop)]
 pub struct HandleVec<V, K> {
     inner: Vec<V>,

@@ -59,7 +59,7 @@ impl Kind for GlobalVariableTag {
     }
 }
 
-/// The kind of expressions, those of a module and those of a function.
+/// The kind of expressions, of a module or of a function.
 #[derive(Clone, Copy)]
 pub struct ExpressionTag;
 

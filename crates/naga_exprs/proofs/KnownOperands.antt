@@ -1,4 +1,4 @@
--- What has to be known of the operands of an expression that can be judged.
+-- What has to be known of the operands of an expression that can be validated.
 use Rattle.std.proofs.Common.{◌≡◌, ◌<◌, ℕ, All, Bool, Contains, List, [], ◌∷◌, Some, length, map, refl, sym, ap, subst, arith, ◌∙◌}
 use Rattle.std.proofs.lemmas.List.Elements.{All-contains, Contains-append_left}
 use Rattle.naga_arena.proofs.Elements.{contains-map}

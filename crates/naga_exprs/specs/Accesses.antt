@@ -25,7 +25,7 @@ use Rattle.naga_typing.specs.declared.index.IndexableLength.TheVariants.{Known, 
 use Rattle.naga_typing.specs.declared.index.IndexableLengthError.{IndexableLengthError}
 use Rattle.naga_typing.specs.declared.typifier.TypeResolution.TheVariants.{Handle}
 
--- the values of a form have parts at indexes that are computed
+-- values of type `inner` have parts at indexes that are computed
 abbrev pub has_parts : TypeInner → Boolean
 has_parts (Vector size scalar) = true
 has_parts (Matrix columns rows scalar) = true
@@ -55,7 +55,7 @@ index_error base value (Ok Pending) = None
 index_error base value (Ok Dynamic) = None
 index_error base value (Err error) = Some (refusal.IndexableLength error)
 
--- the refusal of an index, unless it is no constant, or a number that is allowed
+-- the error of an index, unless it is not a constant, or a number that is allowed
 abbrev pub constant_index_error : ℕ → ℕ → Result IndexableLength IndexableLengthError → Result ℕ ConstValueError → Option ExpressionError
 constant_index_error base index length (Ok value) = index_error base value length
 constant_index_error base index length (Err Negative) = Some (refusal.NegativeIndex base)
@@ -70,11 +70,11 @@ access_checks s base index length =
     constant_index_error base index length (index_of (global_lists s.«module») (slice_get s.function.expressions index)) ∷
     []
 
--- what is meant by the rule of an access, by the length of its base
+-- the rule of an access, by the length of its base
 abbrev pub IsAccessRule : ExpressionSurroundings → ℕ → ℕ → Result ShaderStages ExpressionError → Type 0
-IsAccessRule s base index meant =
+IsAccessRule s base index rule =
     let g = global_lists s.«module» in
-    (length : Result IndexableLength IndexableLengthError) × IsLength g (lengths s.resolved g) (form_at s base) length × (meant ≡ first_error_or (access_checks s base index length) every_stage)
+    (length : Result IndexableLength IndexableLengthError) × IsLength g (lengths s.resolved g) (form_at s base) length × (rule ≡ first_error_or (access_checks s base index length) every_stage)
 
 -- the limit of the indexes into an array: its count if that is written, and else the greatest that there is
 abbrev pub count_limit : ArraySize → ℕ
@@ -82,7 +82,7 @@ count_limit (size.Constant n) = n.value
 count_limit (size.Pending o) = largest_u32
 count_limit size.Dynamic = largest_u32
 
--- the limit of the known indexes into a form that is no pointer to a type of the module
+-- the limit of the known indexes into a value of a type that is not a pointer to a type of the module
 abbrev pub part_limit : TypeInner → Option ℕ
 part_limit (Vector size scalar) = Some (components size)
 part_limit (ValuePointer (Some size) scalar space) = Some (components size)
@@ -100,12 +100,12 @@ part_limit (Sampler comparison) = None
 part_limit (AccelerationStructure vertex_return) = None
 part_limit (RayQuery vertex_return) = None
 
--- the same of a form that may not be there
+-- the same of a type that may not be there
 abbrev pub part_limit_in : Option TypeInner → Option ℕ
 part_limit_in None = None
 part_limit_in (Some inner) = part_limit inner
 
--- the limit of the known indexes into a form: into a pointer it is that of what it points to
+-- the limit of the known indexes into a value of a type: into a pointer, the limit of what it points to
 abbrev pub index_limit : List «Type» → TypeInner → Option ℕ
 index_limit types (Pointer base space) = part_limit_in (inner_in types (Handle base))
 index_limit types inner = part_limit inner

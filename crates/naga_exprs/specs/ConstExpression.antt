@@ -1,9 +1,11 @@
--- The rule of one global expression, by its form.
+-- The rule of one global expression, by its variant.
 use Rattle.std.specs.Prelude.{ℕ, Bool as Boolean, true, false, ◌||◌, List, [], ◌∷◌, Option, Some, None, Result, Ok, Err, slice_get}
 use Rattle.naga_flags.specs.Width.{width_rule}
 use Rattle.naga_flags.specs.declared.width.ImmediateError.{ImmediateError}
 use Rattle.naga_flags.specs.declared.width.WidthError.{WidthError}
 use Rattle.naga_info.specs.declared.const_expression_error.ConstExpressionError.{ConstExpressionError}
+use Rattle.naga_info.specs.declared.context.ExprContext.{ExprContext}
+use Rattle.naga_typing.specs.declared.context.GlobalCtx.{GlobalCtx}
 use Rattle.naga_info.specs.declared.const_expression_error.ConstExpressionError.TheVariants as refusal
 use Rattle.naga_info.specs.declared.const_expression_error.LiteralError.{LiteralError}
 use Rattle.naga_info.specs.declared.const_expression_error.LiteralError.TheVariants.{Width}
@@ -21,13 +23,23 @@ use Rattle.naga_typing.specs.Resolutions.{operand}
 use Rattle.naga_typing.specs.declared.expression_kind.ExpressionKind.{ExpressionKind}
 use Rattle.naga_typing.specs.declared.typifier.TypeResolution.{TypeResolution}
 
--- what a global expression is judged by beside its form: the capabilities, whether overrides must have their values, the types of the module, and the kinds and the types of global expressions
+-- what the validation of a global expression depends on, besides the expression: the capabilities, whether overrides must have their values, the types of the module, and the kinds and the types of global expressions
 pub record ConstSurroundings : Type 0 where
   pub capabilities : ℕ
   pub resolved : Boolean
   pub types : List «Type»
   pub kinds : List ExpressionKind
   pub resolutions : List TypeResolution
+
+-- what it is validated by in a context: the context of expressions, the context of the module, the types of the global expressions, and their kinds
+abbrev pub surroundings : {T : Type 0} → ExprContext T → GlobalCtx → List TypeResolution → List ExpressionKind → ConstSurroundings
+surroundings ctx gctx resolutions kinds = record {
+  capabilities = ctx.capabilities.0;
+  resolved = ctx.overrides_resolved;
+  types = gctx.types.now;
+  kinds = kinds;
+  resolutions = resolutions;
+}
 
 -- what the rule of widths says, as it is said of a literal
 abbrev pub of_width : Result (Result (Unit {0}) ImmediateError) WidthError → Result (Unit {0}) LiteralError
@@ -43,7 +55,7 @@ abbrev pub refused_inside : {A E F : Type 0} → (E → F) → Result A E → Op
 refused_inside wrap (Ok value) = None
 refused_inside wrap (Err error) = Some (wrap error)
 
--- whether a form is a scalar
+-- whether a type is there and is a scalar
 abbrev pub is_scalar : Option TypeInner → Boolean
 is_scalar (Some (Scalar scalar)) = true
 is_scalar (Some (Vector size scalar)) = false
@@ -81,7 +93,7 @@ splat_error s value = require (is_scalar (operand s.types s.resolutions value)) 
 abbrev pub evaluation_error : ConstSurroundings → ℕ → Option ConstExpressionError
 evaluation_error s e = when (s.resolved || is_const (slice_get s.kinds e)) (Some refusal.NonFullyEvaluatedConst)
 
--- the conditions of the form of the expression of an index
+-- the checks of expression `x`, whose index is `e`, by its variant
 abbrev pub form_checks : ConstSurroundings → ℕ → Expression → List (Option ConstExpressionError)
 form_checks s e (form.Literal value) = literal_error s value ∷ []
 form_checks s e (form.Constant c) = []
@@ -118,6 +130,6 @@ form_checks s e (form.SubgroupOperationResult ty) = evaluation_error s e ∷ []
 form_checks s e (form.CooperativeLoad pointer stride) = evaluation_error s e ∷ []
 form_checks s e (form.CooperativeMultiplyAdd a b c) = evaluation_error s e ∷ []
 
--- a global expression is accepted if its value is known before the shader runs, and it keeps the conditions of its form
+-- a global expression is accepted if its value is known before the shader runs, and it passes the checks of its variant
 abbrev pub const_expression_rule : ConstSurroundings → ℕ → Expression → Result (Unit {0}) ConstExpressionError
 const_expression_rule s e x = first_error_or (not_const_error s e ∷ form_checks s e x) tt

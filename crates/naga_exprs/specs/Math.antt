@@ -20,6 +20,10 @@ pub record MathTyping : Type 0 where
   pub accepts : MathFunction → List TypeInner → Boolean
   pub least_arguments : MathFunction → List TypeInner → ℕ
 
+-- what a typing says by these two
+abbrev pub math_typing : (MathFunction → List TypeInner → Boolean) → (MathFunction → List TypeInner → ℕ) → MathTyping
+math_typing accepts least_arguments = record { accepts = accepts; least_arguments = least_arguments }
+
 -- the functions that keep floating-point numbers of 16 bits in ones of 32
 abbrev pub keeps_float16 : MathFunction → Boolean
 keeps_float16 fun = list_any (of_function.ghosts.eq fun) (QuantizeToF16 ∷ Pack2x16float ∷ Unpack2x16float ∷ [])
@@ -43,7 +47,7 @@ argument_checks typing fun types given =
     require (leb (typing.least_arguments fun types) (length types)) (refusal.WrongArgumentCount fun) ∷
     []
 
--- the conditions of a function: its capability, that no argument is left out before another, and those of the arguments
+-- the checks of a function: its capability, that no argument is left out before another, and the arguments
 abbrev pub math_checks : MathTyping → ExpressionSurroundings → MathFunction → ℕ → Option ℕ → Option ℕ → Option ℕ → List (Option ExpressionError)
 math_checks typing s fun arg arg1 arg2 arg3 =
     float16_error s.capabilities fun ∷

@@ -22,7 +22,7 @@ use Rattle.naga_typing.specs.declared.typifier.TypeResolution.TheVariants.{Handl
 abbrev pub loadable_flags : ℕ
 loadable_flags = union_of (SIZED ∷ DATA ∷ [])
 
--- a value can be loaded through a form: a pointer to data of a fixed size, or any value pointer
+-- a value can be loaded through `inner`: a pointer to data of a fixed size, or any value pointer
 abbrev pub can_load : ExpressionSurroundings → TypeInner → Boolean
 can_load s (Pointer base space) = has (flags_at s base) loadable_flags
 can_load s (ValuePointer size scalar space) = true
@@ -43,13 +43,13 @@ can_load s (BindingArray base size) = false
 abbrev pub load_rule : ExpressionSurroundings → ℕ → Result ShaderStages ExpressionError
 load_rule s pointer = ok_unless (require (can_load s (form_at s pointer)) (refusal.InvalidPointerType pointer)) every_stage
 
--- a count is that of a runtime-sized array
+-- `size` is the size of a runtime-sized array
 abbrev pub is_dynamic : ArraySize → Boolean
 is_dynamic Dynamic = true
 is_dynamic (Constant n) = false
 is_dynamic (Pending o) = false
 
--- a form is that of runtime-sized arrays
+-- `inner` is a runtime-sized array
 abbrev pub is_dynamic_array : Option TypeInner → Boolean
 is_dynamic_array (Some (Array base size stride)) = is_dynamic size
 is_dynamic_array (Some (Scalar scalar)) = false
@@ -67,7 +67,7 @@ is_dynamic_array (Some (RayQuery vertex_return)) = false
 is_dynamic_array (Some (BindingArray base size)) = false
 is_dynamic_array None = false
 
--- a form is a pointer to a runtime-sized array
+-- `inner` is a pointer to a runtime-sized array
 abbrev pub points_to_dynamic : List «Type» → TypeInner → Boolean
 points_to_dynamic types (Pointer base space) = is_dynamic_array (inner_in types (Handle base))
 points_to_dynamic types (Scalar scalar) = false
@@ -88,7 +88,7 @@ points_to_dynamic types (BindingArray base size) = false
 abbrev pub array_length_rule : ExpressionSurroundings → ℕ → Result ShaderStages ExpressionError
 array_length_rule s array = ok_unless (require (points_to_dynamic s.«module».types (form_at s array)) (refusal.InvalidArrayType array)) every_stage
 
--- the scalar of what a form points to, if that is a scalar, a vector or a matrix of either kind
+-- the scalar of what `inner` points to, if that is a scalar, a vector or a matrix of either kind
 abbrev pub target_scalar : List «Type» → TypeInner → Option ScalarType
 target_scalar types (Pointer base space) = option_and_then scalar_of (inner_in types (Handle base))
 target_scalar types (ValuePointer size scalar space) = Some scalar

@@ -1,4 +1,4 @@
--- The rules of what is asked of ray queries.
+-- The rules of reading from ray queries.
 use Rattle.std.specs.Prelude.{◌&&◌, ◌||◌, ℕ, Bool as Boolean, true, false, not, List, Option, Some, None, Result}
 use Rattle.naga_flags.specs.declared.flags.ShaderStages.{ShaderStages}
 use Rattle.naga_ir.specs.declared.types.«Type».{«Type»}
@@ -14,7 +14,7 @@ use Rattle.naga_types.specs.Checks.{ok_unless, require}
 use Rattle.naga_typing.specs.Resolutions.{inner_in}
 use Rattle.naga_typing.specs.declared.typifier.TypeResolution.TheVariants.{Handle}
 
--- an address space is that of a function
+-- an address space is `Function`
 abbrev pub is_function : AddressSpace → Boolean
 is_function «space».Function = true
 is_function «space».Private = false
@@ -27,7 +27,7 @@ is_function «space».TaskPayload = false
 is_function «space».RayPayload = false
 is_function «space».IncomingRayPayload = false
 
--- a form is a ray query, one that gives the vertices of a hit if these are asked for
+-- `inner` is a ray query, which gives the vertices of a hit if `vertices` are wanted
 abbrev pub is_ray_query : Boolean → Option TypeInner → Boolean
 is_ray_query vertices (Some (RayQuery vertex_return)) = vertex_return || not vertices
 is_ray_query vertices (Some (Scalar scalar)) = false
@@ -45,7 +45,7 @@ is_ray_query vertices (Some (AccelerationStructure vertex_return)) = false
 is_ray_query vertices (Some (BindingArray base size)) = false
 is_ray_query vertices None = false
 
--- a form is a pointer to a ray query of the function, and to one that gives the vertices of a hit if they are asked for
+-- `inner` is a pointer to a ray query of the function, which gives the vertices of a hit if they are wanted
 abbrev pub points_to_ray_query : List «Type» → Boolean → TypeInner → Boolean
 points_to_ray_query types vertices (Pointer base space) = is_function space && is_ray_query vertices (inner_in types (Handle base))
 points_to_ray_query types vertices (Scalar scalar) = false
@@ -62,7 +62,7 @@ points_to_ray_query types vertices (AccelerationStructure vertex_return) = false
 points_to_ray_query types vertices (RayQuery vertex_return) = false
 points_to_ray_query types vertices (BindingArray base size) = false
 
--- what is asked of a ray query: what the ray has hit, or the vertices of that
+-- the rule of reading from a ray query: what the ray has hit, or the vertices of that
 abbrev pub ray_query_rule : Boolean → ExpressionSurroundings → ℕ → Result ShaderStages ExpressionError
 ray_query_rule vertices s query = ok_unless (require (points_to_ray_query s.«module».types vertices (form_at s query)) (InvalidRayQueryType query)) every_stage
 

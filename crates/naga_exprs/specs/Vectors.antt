@@ -13,7 +13,7 @@ use Rattle.naga_info.specs.declared.expression_error.ExpressionError.{Expression
 use Rattle.naga_info.specs.declared.expression_error.ExpressionError.TheVariants as refusal
 use Rattle.naga_types.specs.Checks.{first, ok_unless, require}
 
--- the size of a vector; other forms have none
+-- the size of a vector; other types have none
 abbrev pub vector_size : TypeInner → Option VectorSize
 vector_size (Vector size scalar) = Some size
 vector_size (Scalar scalar) = None

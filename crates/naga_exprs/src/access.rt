@@ -26,7 +26,7 @@ use naga_typing::index::{
     IndexableLength, IndexableLengthError, indexable_length_pending, indexable_length_resolved,
 };
 
-/// Whether the values of a form have parts at indexes that are computed.
+/// Whether values of a type have parts at indexes that are computed.
 fn has_parts(inner: &TypeInner) -> bool
     ensures { result ≡ rule.has_parts inner.now }
 {
@@ -105,7 +105,7 @@ fn check_constant(
 /// # Errors
 ///
 /// - `InvalidBaseType` if the base has no parts at such indexes.
-/// - `InvalidIndexType` if the index is no integer, or a constant of another width than 16 or 32 bits.
+/// - `InvalidIndexType` if the index is not an integer, or a constant of another width than 16 or 32 bits.
 /// - `NegativeIndex` if it is a constant below 0.
 /// - `IndexableLength` if it is a constant, and the base has no length.
 /// - `IndexOutOfBounds` if it is a constant that isn't below the length of the base.
@@ -134,7 +134,7 @@ pub fn validate_access(
     Ok(every_stage())
 }
 
-/// The limit of the known indexes into a form that is no pointer to a type of the module.
+/// The limit of the known indexes into a value of a type that is not a pointer to a type of the module.
 fn part_limit(inner: &TypeInner) -> Option<usize>
     ensures { result ≡ rule.part_limit inner.now }
 {
@@ -163,7 +163,7 @@ fn part_limit(inner: &TypeInner) -> Option<usize>
     }
 }
 
-/// The limit of the known indexes into a form: into a pointer, that of what it points to (naga's
+/// The limit of the known indexes into a value: into a pointer, the limit of what it points to (naga's
 /// `resolve_index_limit`).
 fn index_limit(inner: &TypeInner, module: &Module) -> Option<usize>
     requires exist { ReferencesExist (global_lists «module».now) inner.now }
@@ -231,7 +231,7 @@ fn check_components(
 ///
 /// # Errors
 ///
-/// - `InvalidVectorType` if what is swizzled is no vector.
+/// - `InvalidVectorType` if what is swizzled is not a vector.
 /// - `InvalidSwizzleComponent` if it lacks one of the first `size` components of the pattern: the first
 ///   such.
 pub fn validate_swizzle(

@@ -2,7 +2,7 @@
 //! `validate_const_expression`).
 
 ghost use Rattle.std.specs.Prelude.{◌≡◌, ◌<◌, ◌≤◌, ◌||◌, [], ◌∷◌, All, IfSome, Some, length, slice_get};
-ghost use Rattle.naga_exprs.specs.ConstExpression.{const_expression_rule, form_checks, is_scalar, literal_rule};
+ghost use Rattle.naga_exprs.specs.ConstExpression.{const_expression_rule, form_checks, is_scalar, literal_rule, surroundings};
 ghost use Rattle.naga_info.specs.declared.const_expression_error.ConstExpressionError.TheVariants as refusal;
 ghost use Rattle.naga_ir.specs.Handles.{GlobalReferencesOk};
 ghost use Rattle.naga_types.specs.Checks.{ok_unless, first_error_or, when, require};
@@ -34,7 +34,7 @@ use naga_typing::typing::Typing;
 pub fn validate_literal(capabilities: Capabilities, literal: Literal) -> Result<(), LiteralError>
     ensures { result ≡ literal_rule capabilities.0 literal }
 {
-    // Whether immediates may hold such a scalar is no condition of literals.
+    // Whether immediates may hold such a scalar does not matter to literals.
     let _immediates = check_width(capabilities, literal.scalar())?;
     Ok(())
 }
@@ -95,29 +95,23 @@ fn check_splat(
     }
 }
 
-/// Checks that a global expression keeps the conditions of its form.
+/// Checks that a global expression keeps the conditions of its variant.
 fn check_form<T: Typing>(
     ctx: ExprContext<'_, T>,
     handle: Handle<ExpressionTag>,
-    expression: &Expression,
     gctx: GlobalCtx<'_>,
     mod_info: &ModuleInfo,
     kinds: &ExpressionKindTracker,
 ) -> Result<(), ConstExpressionError>
-    requires there { slice_get gctx.global_expressions.now handle ≡ Some expression.now }
+    requires exists { handle < length gctx.global_expressions.now }
     requires references { GlobalReferencesOk (lists_of gctx) }
     requires kinds { handle < length kinds.now }
     requires typed { handle ≤ length mod_info.now.lists.const_expression_types }
     requires types { All (TypesExist gctx.types.now) mod_info.now.lists.const_expression_types }
-    ensures { result ≡ first_error_or (form_checks (record {
-      capabilities = ctx.entry.capabilities.0;
-      resolved = ctx.entry.overrides_resolved;
-      types = gctx.entry.types.now;
-      kinds = kinds.now;
-      resolutions = mod_info.now.lists.const_expression_types;
-    }) handle expression.now) tt }
+    ensures { IfSome (slice_get gctx.entry.global_expressions.now handle) (λ x. result ≡ first_error_or
+        (form_checks (surroundings ctx.entry gctx.entry mod_info.now.lists.const_expression_types kinds.now) handle x) tt) }
 {
-    match expression {
+    match &gctx.global_expressions[handle] {
         Expression::Literal(literal) => Ok(validate_literal(ctx.capabilities, *literal)?),
         Expression::Constant(_) | Expression::ZeroValue(_) => Ok(()),
         Expression::Compose { ty, components } => {
@@ -162,7 +156,7 @@ fn check_form<T: Typing>(
 /// Checks a global expression, of which the operands are accepted.
 ///
 /// Its value has to be known before the shader runs. Literals have to be allowed, compositions have to
-/// fit, and only scalars are splatted. Constants and zero values are accepted. All other forms are
+/// fit, and only scalars are splatted. Constants and zero values are accepted. All other variants are
 /// accepted only while they depend on overrides that need no values yet.
 ///
 /// # Errors
@@ -170,8 +164,8 @@ fn check_form<T: Typing>(
 /// - `NonConstOrOverride` if the value is known only when the shader runs.
 /// - `Literal` if a literal is refused.
 /// - `Compose` if a value can't be composed of its components.
-/// - `InvalidSplatType` if the operand of a splat is no scalar.
-/// - `NonFullyEvaluatedConst` if an expression of another form is const, or overrides must have their
+/// - `InvalidSplatType` if the operand of a splat is not a scalar.
+/// - `NonFullyEvaluatedConst` if an expression of another variant is const, or overrides must have their
 ///   values.
 pub fn validate_const_expression<T: Typing>(
     ctx: ExprContext<'_, T>,
@@ -185,21 +179,9 @@ pub fn validate_const_expression<T: Typing>(
     requires kinds { handle < length kinds.now }
     requires typed { handle ≤ length mod_info.now.lists.const_expression_types }
     requires types { All (TypesExist gctx.types.now) mod_info.now.lists.const_expression_types }
-    ensures { IfSome (slice_get gctx.entry.global_expressions.now handle) (λ x. result ≡ const_expression_rule (record {
-      capabilities = ctx.entry.capabilities.0;
-      resolved = ctx.entry.overrides_resolved;
-      types = gctx.entry.types.now;
-      kinds = kinds.now;
-      resolutions = mod_info.now.lists.const_expression_types;
-    }) handle x) }
+    ensures { IfSome (slice_get gctx.entry.global_expressions.now handle) (λ x. result ≡ const_expression_rule
+        (surroundings ctx.entry gctx.entry mod_info.now.lists.const_expression_types kinds.now) handle x) }
 {
     check_known(handle, kinds)?;
-    check_form(
-        ctx,
-        handle,
-        &gctx.global_expressions[handle],
-        gctx,
-        mod_info,
-        kinds,
-    )
+    check_form(ctx, handle, gctx, mod_info, kinds)
 }

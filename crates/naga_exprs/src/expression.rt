@@ -1,7 +1,8 @@
 //! The rule of one expression of a function (naga's `Validator::validate_expression`).
 
 ghost use Rattle.naga_exprs.specs.ExpressionRule.{IsExpressionResult};
-ghost use Rattle.naga_info.specs.Surroundings.{IsReady, IsReadySomewhere, surroundings};
+ghost use Rattle.naga_exprs.specs.Math.{math_typing};
+ghost use Rattle.naga_info.specs.Surroundings.{IsReadySomewhere, surroundings};
 
 use crate::access::{validate_access, validate_access_index, validate_swizzle};
 use crate::math::validate_math;
@@ -15,31 +16,47 @@ use naga_flags::flags::ShaderStages;
 use naga_image_exprs::load::validate_image_load;
 use naga_image_exprs::query::validate_image_query;
 use naga_image_exprs::sample::{Sample, validate_image_sample};
-use naga_info::context::{ExprContext, FunctionContext, every_stage};
+use naga_info::context::{FunctionContext, every_stage};
 use naga_info::expression_error::ExpressionError;
-use naga_info::module_info::{FunctionInfo, ModuleInfo};
 use naga_ir::expression::Expression;
-use naga_ir::handle::Handle;
-use naga_ir::ir::{Function, Module};
-use naga_ir::tags::ExpressionTag;
 use naga_operator_exprs::binary::validate_binary;
 use naga_operator_exprs::cooperative::validate_cooperative_multiply_add;
 use naga_operator_exprs::operators::{
     validate_as, validate_derivative, validate_relational, validate_select, validate_unary,
 };
-use naga_typing::expression_kind::ExpressionKindTracker;
 use naga_typing::typing::Typing;
 use std::alloc::Global;
 
-/// The stages that may use an expression, by the rule of its form.
-fn validate_form<T: Typing>(
+/// The pipeline stages that may use an expression of a function (naga's `Validator::validate_expression`).
+///
+/// The handles of the module are right, and the handles of the function except the types of its variables.
+/// `context` knows what each type of the module may be used for. All that the expression refers to exists. Its
+/// operands precede its place in the function, and `context` knows their types and kinds; what these types refer
+/// to exists. Each `FunctionArgument` before that place names an argument. If the expression is the result of a
+/// call, `context` knows the function. What mathematical functions take is what the typing accepts.
+///
+/// Accepting takes no memory. The cost is linear in the expression's own components, in the members of
+/// structs that it compares, and in the pointers through which its base is reached, except for the search for
+/// forbidden integers on the right of a division or a shift. It goes through the compositions that a constant
+/// is made of as if they were written out in full, and calls itself at compositions of several components. If all
+/// these are accepted, they have at most as many components as a vector. Expressions that nobody has checked,
+/// global ones without the flag `CONSTANTS` or earlier ones of the function, can make the search take
+/// exponential time, by `vec2(E0, E0)`, `vec2(E1, E1)` and so on, or a stack as deep as their arena, by
+/// `vec2(E0, 1)`, `vec2(E1, 1)` and so on.
+///
+/// # Errors
+///
+/// The error of the first condition of its variant that the expression breaks; the functions of variants list
+/// them. `OutOfMemory` if memory was refused for a struct or a text that an error holds.
+pub fn validate_expression<T: Typing>(
     alloc: Global,
     typing: &T,
     context: FunctionContext<'_>,
     expression: &Expression,
 ) -> Result<ShaderStages, ExpressionError>
     requires ready { IsReadySomewhere (surroundings context) expression.now }
-    ensures { IsExpressionResult (record { accepts = T.accepts_types typing.now; least_arguments = T.least_arguments typing.now }) (surroundings context.entry) expression.now result }
+    ensures { IsExpressionResult (math_typing (T.accepts_types typing.now) (T.least_arguments typing.now))
+        (surroundings context.entry) expression.now result }
 {
     match *expression {
         Expression::Access { base, index } => validate_access(context, base, index),
@@ -135,70 +152,4 @@ fn validate_form<T: Typing>(
             validate_cooperative_multiply_add(context, a, b, c)
         }
     }
-}
-
-/// The pipeline stages that may use an expression of a function (naga's `Validator::validate_expression`).
-///
-/// The handles of the module are right, and those of the function but for the types of its variables.
-/// `mod_info` says of each type what it may be used for. All that the expression refers to exists. Its
-/// operands come before `root`, and `info` and `kinds` know them; what the types in `info` refer to exists.
-/// Each `FunctionArgument` before `root` names an argument. If the expression is the result of a call, `mod_info` knows the function. What
-/// mathematical functions take is what the typing accepts.
-///
-/// Accepting takes no memory. The cost is linear in the expression's own components, in the members of
-/// structs that it compares, and in the pointers through which its base is reached, but for the search for
-/// forbidden integers on the right of a division or a shift. It goes through the compositions that a constant
-/// is made of as if they were written out in full, and calls itself at those of several components. If all
-/// these are accepted, they have at most as many components as a vector. Expressions that nobody has checked,
-/// global ones without the flag `CONSTANTS` or those of the function before `root`, can make the search take
-/// exponential time, by `vec2(E0, E0)`, `vec2(E1, E1)` and so on, or a stack as deep as their arena, by
-/// `vec2(E0, 1)`, `vec2(E1, 1)` and so on.
-///
-/// # Errors
-///
-/// That of the first condition of its form that the expression breaks; the forms' own functions list
-/// them. `OutOfMemory` if memory was refused for a struct or a text that an error holds.
-pub fn validate_expression<T: Typing>(
-    alloc: Global,
-    ctx: ExprContext<'_, T>,
-    root: Handle<ExpressionTag>,
-    expression: &Expression,
-    function: &Function,
-    module: &Module,
-    info: &FunctionInfo,
-    mod_info: &ModuleInfo,
-    kinds: &ExpressionKindTracker,
-) -> Result<ShaderStages, ExpressionError>
-    requires ready { IsReady (record {
-      capabilities = ctx.capabilities.0;
-      resolved = ctx.overrides_resolved;
-      subgroup_stages = ctx.subgroup_stages;
-      «module» = «module».now;
-      function = function.now;
-      types = info.now.types;
-      infos = mod_info.now.lists;
-      kinds = kinds.now;
-    }) root expression.now }
-    ensures { IsExpressionResult (record { accepts = T.accepts_types ctx.entry.typing.now; least_arguments = T.least_arguments ctx.entry.typing.now }) (record {
-      capabilities = ctx.entry.capabilities.0;
-      resolved = ctx.entry.overrides_resolved;
-      subgroup_stages = ctx.entry.subgroup_stages;
-      «module» = «module».now;
-      function = function.now;
-      types = info.now.types;
-      infos = mod_info.now.lists;
-      kinds = kinds.now;
-    }) expression.now result }
-{
-    let context = FunctionContext {
-        capabilities: ctx.capabilities,
-        overrides_resolved: ctx.overrides_resolved,
-        subgroup_stages: ctx.subgroup_stages,
-        module,
-        function,
-        info,
-        mod_info,
-        kinds,
-    };
-    validate_form(alloc, ctx.typing, context, expression)
 }

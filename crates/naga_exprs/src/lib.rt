@@ -1,4 +1,4 @@
-//! The rules of global expressions, and of the expressions of functions but those of operators and images.
+//! The rules of global expressions, and of the expressions of functions except operators and images.
 #![tactic(auto)]
 
 pub mod access;

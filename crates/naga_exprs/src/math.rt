@@ -3,7 +3,7 @@
 ghost use Rattle.std.specs.Prelude.{◌≡◌, ◌≤◌, length, map};
 ghost use Rattle.naga_ir.specs.declared.expression.Expression.TheVariants as form;
 ghost use Rattle.naga_exprs.specs.Math as rule;
-ghost use Rattle.naga_exprs.specs.Math.{argument_checks, first_argument_error, math_rule};
+ghost use Rattle.naga_exprs.specs.Math.{argument_checks, first_argument_error, math_rule, math_typing};
 ghost use Rattle.naga_info.specs.Stages as stages;
 ghost use Rattle.naga_info.specs.Surroundings.{IsReadySomewhere, surroundings};
 ghost use Rattle.naga_types.specs.Checks.{ok_unless, first_error_or};
@@ -42,7 +42,7 @@ fn check_arguments<T: Typing>(
 ) -> Result<(), ExpressionError>
     requires typed { length arguments.now ≡ length types.now }
     requires few { length arguments.now ≤ 4 }
-    ensures { result ≡ ok_unless (first_argument_error (record { accepts = T.accepts_types typing.now; least_arguments = T.least_arguments typing.now }) fun (map (λ t. t.now) types.now) arguments.now) tt }
+    ensures { result ≡ ok_unless (first_argument_error (math_typing (T.accepts_types typing.now) (T.least_arguments typing.now)) fun (map (λ t. t.now) types.now) arguments.now) tt }
 {
     for (index, argument) in arguments.iter().enumerate() {
         if !typing.accepts(fun, &types[..index + 1]) {
@@ -62,7 +62,7 @@ fn validate_arguments<T: Typing>(
 ) -> Result<ShaderStages, ExpressionError>
     requires typed { length arguments.now ≡ length types.now }
     requires few { length arguments.now ≤ 4 }
-    ensures { result ≡ first_error_or (argument_checks (record { accepts = T.accepts_types typing.now; least_arguments = T.least_arguments typing.now }) fun (map (λ t. t.now) types.now) arguments.now) stages.every_stage }
+    ensures { result ≡ first_error_or (argument_checks (math_typing (T.accepts_types typing.now) (T.least_arguments typing.now)) fun (map (λ t. t.now) types.now) arguments.now) stages.every_stage }
 {
     check_arguments(typing, fun, arguments, types)?;
     if types.len() < typing.min_arguments(fun, types) {
@@ -79,7 +79,7 @@ fn validate_arguments<T: Typing>(
 /// - `MissingCapabilities` if the function keeps floating-point numbers of 16 bits in ones of 32, and that
 ///   capability isn't given.
 /// - `WrongArgumentCount` if an argument is left out before another, or there are fewer than the typing
-///   asks for.
+///   requires.
 /// - `InvalidArgumentType` of the first argument for which the typing doesn't accept the types up to its
 ///   own.
 pub fn validate_math<T: Typing>(
@@ -92,7 +92,7 @@ pub fn validate_math<T: Typing>(
     arg3: Option<Handle<ExpressionTag>>,
 ) -> Result<ShaderStages, ExpressionError>
     requires { IsReadySomewhere (surroundings context) (form.Math fun arg arg1 arg2 arg3) }
-    ensures { result ≡ math_rule (record { accepts = T.accepts_types typing.now; least_arguments = T.least_arguments typing.now }) (surroundings context.entry) fun arg arg1 arg2 arg3 }
+    ensures { result ≡ math_rule (math_typing (T.accepts_types typing.now) (T.least_arguments typing.now)) (surroundings context.entry) fun arg arg1 arg2 arg3 }
 {
     check_capability(context.capabilities, fun)?;
     let first = context.type_of(arg);

@@ -16,7 +16,7 @@ use naga_ir::ir::Module;
 use naga_ir::tags::ExpressionTag;
 use naga_ir::types::{ArraySize, Scalar, TypeInner};
 
-/// Whether a value can be loaded through a form.
+/// Whether a value can be loaded through a value of type `inner`.
 fn can_load(context: FunctionContext<'_>, inner: &TypeInner) -> bool
     requires sound { AreSound (surroundings context) }
     requires exist { ReferencesExist (global_lists context.«module».now) inner.now }
@@ -47,7 +47,7 @@ fn can_load(context: FunctionContext<'_>, inner: &TypeInner) -> bool
 ///
 /// # Errors
 ///
-/// `InvalidPointerType` if the operand is no value pointer, and no pointer to data of a fixed size.
+/// `InvalidPointerType` if the operand is neither a value pointer nor a pointer to data of a fixed size.
 pub fn validate_load(
     context: FunctionContext<'_>,
     pointer: Handle<ExpressionTag>,
@@ -62,7 +62,7 @@ pub fn validate_load(
     Ok(every_stage())
 }
 
-/// Whether a form is that of runtime-sized arrays.
+/// Whether a type is a runtime-sized array.
 fn is_dynamic_array(inner: &TypeInner) -> bool
     ensures { result ≡ rule.is_dynamic_array (Some inner.now) }
 {
@@ -88,7 +88,7 @@ fn is_dynamic_array(inner: &TypeInner) -> bool
 ///
 /// # Errors
 ///
-/// `InvalidArrayType` if the operand is no pointer to such an array.
+/// `InvalidArrayType` if the operand is not a pointer to such an array.
 pub fn validate_array_length(
     context: FunctionContext<'_>,
     array: Handle<ExpressionTag>,
@@ -134,7 +134,7 @@ fn target_scalar(inner: &TypeInner, module: &Module) -> Option<Scalar>
 ///
 /// # Errors
 ///
-/// `InvalidPointerType` if the operand is no pointer to a scalar, a vector or a matrix. A value pointer is one.
+/// `InvalidPointerType` if the operand is not a pointer to a scalar, a vector or a matrix. A value pointer is one.
 pub fn validate_cooperative_load(
     context: FunctionContext<'_>,
     pointer: Handle<ExpressionTag>,

@@ -1,4 +1,4 @@
-//! The rules of what is asked of ray queries.
+//! The rules of reading from ray queries.
 
 ghost use Rattle.std.specs.Prelude.{◌≡◌, ◌<◌, Some, length};
 ghost use Rattle.naga_exprs.specs.RayQueries as rule;
@@ -14,8 +14,7 @@ use naga_ir::ir::Module;
 use naga_ir::tags::ExpressionTag;
 use naga_ir::types::{AddressSpace, TypeInner};
 
-/// Whether a type is that of ray queries, and of such that give the vertices of a hit if these are asked
-/// for.
+/// Whether a type is a ray query, which gives the vertices of a hit if these are wanted.
 fn is_ray_query(inner: &TypeInner, vertices: bool) -> bool
     ensures { result ≡ rule.is_ray_query vertices (Some inner.now) }
 {
@@ -52,7 +51,7 @@ fn points_to_ray_query(inner: &TypeInner, module: &Module, vertices: bool) -> bo
 ///
 /// # Errors
 ///
-/// `InvalidRayQueryType` if the operand is no pointer to a ray query of the function.
+/// `InvalidRayQueryType` if the operand is not a pointer to a ray query of the function.
 pub fn validate_ray_query_get_intersection(
     context: FunctionContext<'_>,
     query: Handle<ExpressionTag>,
@@ -72,7 +71,7 @@ pub fn validate_ray_query_get_intersection(
 ///
 /// # Errors
 ///
-/// `InvalidRayQueryType` if the operand is no pointer to a ray query of the function that gives vertices.
+/// `InvalidRayQueryType` if the operand is not a pointer to a ray query of the function that gives vertices.
 pub fn validate_ray_query_vertex_positions(
     context: FunctionContext<'_>,
     query: Handle<ExpressionTag>,

@@ -78,7 +78,7 @@ pub fn validate_composition(
 ///
 /// # Errors
 ///
-/// `InvalidSplatType` if the operand is no scalar.
+/// `InvalidSplatType` if the operand is not a scalar.
 pub fn validate_splat(
     context: FunctionContext<'_>,
     value: Handle<ExpressionTag>,

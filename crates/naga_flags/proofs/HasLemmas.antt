@@ -35,7 +35,7 @@ second_of_both a b = ap (bit_and b) (and_comm a b) ∙ first_of_both b a ∙ and
 of_both : (a b flags : ℕ) → Has a flags → Has b flags → Has (bit_and a b) flags
 of_both a b flags p q = and_assoc flags a b ∙ ap (bit_and a) q ∙ p
 
--- the flags of an intersection are those of both sets
+-- an intersection has the flags that both sets have
 pub has-bit_and : (a b flags : ℕ) → has (bit_and a b) flags ≡ (has a flags && has b flags)
 has-bit_and a b flags =
     same_from_decides (has (bit_and a b) flags) (has a flags && has b flags) (decides (bit_and a b) flags)

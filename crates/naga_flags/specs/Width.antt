@@ -9,7 +9,7 @@ use Rattle.naga_flags.specs.declared.width.ImmediateError.TheVariants.{InvalidSc
 use Rattle.naga_flags.specs.declared.width.WidthError.{WidthError}
 use Rattle.naga_flags.specs.declared.width.WidthError.TheVariants.{Invalid, MissingCapability, Abstract}
 
--- the width of truth values, in bytes
+-- the width of bools, in bytes
 abbrev pub bool_width : ℕ
 bool_width = 1
 
@@ -54,7 +54,7 @@ width_error s = elim s.kind [
   | AbstractFloat ↦ Abstract
 ]
 
--- immediates may hold each scalar but those of 16 bits
+-- immediates may hold every scalar except those of 16 bits
 abbrev pub immediates_of : Scalar → Result (Unit {0}) ImmediateError
 immediates_of s = if s.width == width_16 then Err (InvalidScalar s) else Ok tt
 

@@ -34,7 +34,7 @@ pub enum ImplementedEnableExtension {
 
 impl Capabilities {
     /// The extension that a single capability stands for, by naga's `Capabilities::extension`. Other
-    /// capabilities, and sets that are no single capability, stand for none.
+    /// capabilities, and sets that are not a single capability, stand for none.
     pub fn extension(&self) -> Option<ImplementedEnableExtension>
         ensures { result ≡ extension_of self.now.0 }
     {

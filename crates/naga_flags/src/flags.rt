@@ -305,7 +305,7 @@ bitflag_items! {
         const TASK = 0x10;
         /// Shaders that generate rays.
         const RAY_GENERATION = 0x20;
-        /// Shaders that judge a hit of a ray.
+        /// Shaders that accept or ignore a hit of a ray.
         const ANY_HIT = 0x40;
         /// Shaders for the closest hit of a ray.
         const CLOSEST_HIT = 0x80;

@@ -24,7 +24,7 @@ pub enum WidthError {
         /// The name of the capability's constant.
         flag: StaticText,
     },
-    /// Abstract scalars are types of constant expressions alone (WGSL "Abstract Numeric Types").
+    /// Only constant expressions have abstract scalars (WGSL "Abstract Numeric Types").
     #[error("Abstract types may only appear in constant expressions")]
     Abstract,
 }
@@ -51,7 +51,7 @@ impl fmt::Display for ImmediateError {
 pub type ImmediateCompatibility = Result<(), ImmediateError>;
 
 /// Checks that scalars of this kind and width are allowed under `capabilities`, and returns whether
-/// immediates may hold them. The rule is that of naga's `Validator::check_width`.
+/// immediates may hold them. The rule is naga's `Validator::check_width`.
 ///
 /// # Errors
 ///

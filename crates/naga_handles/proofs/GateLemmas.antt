@@ -1,4 +1,4 @@
--- How many expressions types ask for, and which type asks for an expression first.
+-- How many expressions the sizes of types need, and which type needs an expression first.
 use Rattle.std.proofs.Common.{◌≡◌, ℕ, zero, suc, ◌+◌, ◌<◌, ◌≤◌, max, Bool, true, false, cond, ◌⊎◌, inl, inr, length, Option, Some, None, arith, refl, ap, ◌∙◌, add-one}
 use Rattle.std.proofs.lemmas.Bool.Decides.{nat_tests}
 use Rattle.std.proofs.lemmas.Bool.{cases_lt}
@@ -91,7 +91,7 @@ module _ (g : GlobalLists) where
       by_place rest (inl h) = let k = rest (omega arith) in omega arith
       by_place rest (inr h) = let e : u ≡ suc t = omega arith in rw e (omega arith)
 
-  -- the types before a bound ask for no more than a number
+  -- the types before a bound need at most a number of expressions
   pub top_le : (t e : ℕ) → ((u : ℕ) → u < t → reach (size_initialiser g u) ≤ e) → top_before g t ≤ e
   unfolding top_before
   top_le zero e h = omega arith

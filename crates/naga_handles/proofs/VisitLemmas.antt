@@ -47,7 +47,7 @@ module _ (m : Module) where
   unfolding Seen NamesBefore
   seen_later t v e l s x at = ((s x at).0, λ u names. let b = (s x at).1 u names in omega (arith, l, b))
 
-  -- an expression that a size asks for and that names a type too late is a fault
+  -- an expression that a size needs and that names a type too late is a fault
   pub late_gate : (t n e : ℕ) (x : Expression) (f : InvalidHandleError) → size_initialiser (global_lists m) t ≡ Some n → e ≤ n → slice_get m.global_expressions e ≡ Some x
       → ((u : ℕ) × (named_type x ≡ Some u) × (t ≤ u) × (f ≡ forward (to.Type_ t) (to.Type_ u))) → IsOrderFault m f
   late_gate t n e x f begins l at late = subst (IsOrderFault m) (sym late.3) (not_gated t n e late.0 begins l (x, at, late.1) late.2)
@@ -78,7 +78,7 @@ module _ (m : Module) where
             let same : x ≡ y = same_Some x y (sym at ∙ ap (slice_get m.types) place ∙ there) in
             subst (λ (j : ℕ). TypeOk m j y.inner) place (subst (λ (z : «Type»). TypeOk m t z.inner) same stands)
 
-    -- a type that asks for no expression was visited
+    -- a type whose size needs no expression was visited
     pub reached_unsized : (now : ℕ) → now ≡ reads + 1 → size_initialiser (global_lists m) t ≡ None → Reached m (t + 1) c now
     reached_unsized now counted none = record {
       inside = r.inside;
@@ -96,7 +96,7 @@ module _ (m : Module) where
             let place : k ≡ t = omega (arith, h, b) in
             let nothing = ap (size_initialiser (global_lists m)) place ∙ none in absurd (cc)
 
-    -- one that asks for expressions was visited with them
+    -- a type whose size needs expressions was visited with them
     pub reached_sized : (d last now : ℕ) → size_initialiser (global_lists m) t ≡ Some last → SeenUpTo m t c d last → d ≤ largest_u32 → now ≡ t + 1 + d → Reached m (t + 1) d now
     reached_sized d last now sized up few counted = record {
       inside = up.inside;
@@ -123,7 +123,7 @@ module _ (m : Module) where
             let within : e < d = omega (arith, l, same, up.reach) in
             subst (λ (j : ℕ). NamesBefore j y) place (seen_names t e y (seen_now e within (cases_lt e c)) there)
 
-  -- no size asks for an expression past all that sizes ask for
+  -- no size needs an expression past all that sizes need
   pub ungated : (e : ℕ) → top_before (global_lists m) (length m.types) ≤ e → (t n : ℕ) → size_initialiser (global_lists m) t ≡ Some n → e ≤ n → ⊥
   ungated e low t n begins high =
       let there = size_within (global_lists m) t n begins in

@@ -1,4 +1,4 @@
--- To read first, after those of naga_ir:
+-- To read first, after the definitions of naga_ir:
 -- Faults.IsHandleFault, IsFault: what may be wrong with the handles of a module, by the error that says so
 -- Faults.NeedsMemory: when the pass may request memory
 -- Order.CanBeOrdered: when types and global expressions can be visited

@@ -118,12 +118,12 @@ pub enum ValidationFault {
     /// A handle or range isn't right.
     #[error("{0}")]
     Invalid(InvalidHandleError),
-    /// A comment documents a member of a type that is no struct, or has no such member.
+    /// A comment documents a member of a type that is not a struct, or has no such member.
     #[error("Type {handle:?} '{name}' has no member that a comment is on")]
     MissingMember {
         /// The type.
         handle: Handle<TypeTag>,
-        /// The name of the type; of a type without one `Unknown` if it is no struct, else `members
+        /// The name of the type; of a type without one `Unknown` if it is not a struct, else `members
         /// length incorrect`.
         name: Text,
     },

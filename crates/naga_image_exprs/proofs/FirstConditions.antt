@@ -12,12 +12,12 @@ abbrev pub ArePassed : {E : Type 0} → List (Option E) → Type 0
 ArePassed [] = Unit {0}
 ArePassed (o ∷ os) = IsPassed o × ArePassed os
 
--- a condition whose check is passed leaves the judgement to those after it
+-- a condition whose check is passed leaves the result to the conditions after it
 after : {A E : Type 0} (o : Option E) (rest : List (Option E)) (a : A) → IsPassed o → first_error_or (o ∷ rest) a ≡ first_error_or rest a
 after None rest a h = refl
 after (Some x) rest a h = cc h
 
--- the first condition whose check refuses is the judgement
+-- the first condition whose check returns an error gives the result
 pub broken_at : {A E : Type 0} (os : List (Option E)) (n : ℕ) (a : A) (e : E) → ArePassed (take n os) → Err e ≡ ok_unless (get_or os n None) (tt {0}) → first_error_or os a ≡ Err e
 broken_at [] n a e passed h = cc h
 broken_at (None ∷ os) zero a e passed h = cc h

@@ -56,11 +56,11 @@ module _ (s : ExpressionSurroundings) (sound : AreSound s) where
       All-contains (Exists (module_counts s.«module»)) (other_references s.«module») (to.Type_ x.ty) sound.handles.exist.others
       (Contains-append_left variables _ (to.Type_ x.ty) (within_all global_variable_references s.«module».global_variables v x (to.Type_ x.ty) at (0, omega arith, refl)))
 
-  -- and so does that of an argument
+  -- and so does the type of an argument
   pub argument_type_exists : (i : ℕ) (a : FunctionArgument) → slice_get s.function.arguments i ≡ Some a → a.ty < length s.«module».types
   argument_type_exists i a at = all_at (λ (a : FunctionArgument). a.ty < length s.«module».types) s.function.arguments i a sound.in_function.arguments at
 
-  -- and that of the bindings of a binding array
+  -- and the type of the bindings of a binding array
   pub binding_type_exists : (t : ℕ) (x : «Type») (base : ℕ) (size : ArraySize) → slice_get s.«module».types t ≡ Some x → x.inner ≡ BindingArray base size → base < length s.«module».types
   binding_type_exists t x base size at is =
       let g = global_lists s.«module» in

@@ -16,7 +16,7 @@ use Rattle.naga_info.specs.declared.expression_error.ExpressionError.{Expression
 use Rattle.naga_info.specs.declared.expression_error.ExpressionError.TheVariants.{InvalidSampleClampCoordinateToEdge, OutOfMemory}
 use Rattle.naga_types.specs.Checks.{ok_unless, first_error_or}
 
--- a load from an image is judged by its conditions
+-- a load from an image has the result of its checks
 pub load_result : (s : ExpressionSurroundings) (image coordinate : ℕ) (array_index sample level : Option ℕ) (found : ImageType) (result : Result ShaderStages ExpressionError)
     → Ok found ≡ image_at s image → first_error_or (load_checks s found coordinate array_index sample level) every_stage ≡ result → image_load_rule s image coordinate array_index sample level ≡ result
 load_result s image coordinate array_index sample level found result is h =
@@ -26,7 +26,7 @@ load_result s image coordinate array_index sample level found result is h =
 same_error : (checked : Result (Unit {0}) ExpressionError) (e f : ExpressionError) → checked ≡ Err e → checked ≡ Err f → e ≡ f
 same_error checked e f p q = cc (p, q)
 
--- the text that a refusal to clamp carries is that of the check, if it is passed
+-- the text that an error of clamping holds is the text of the check, if it is passed
 pub text_passed : (image : ImageType) (sample : Sample) → IsClampResult image sample (Ok tt) → (text : String Global) × IsPassed (clamp_error text image sample)
 text_passed image sample (inl h) = h
 text_passed image sample (inr h) = cc (h.0)
@@ -41,7 +41,7 @@ module _ (s : ExpressionSurroundings) (sample : Sample) where
   unfound_result text error result unfound is = (image_sample_rule s text sample, (text, refl), inl (is ∙ ap (judge text) unfound))
 
   module _ (image : ImageType) (comparison : Bool) (found : Ok (image, comparison) ≡ sampled s sample.image sample.sampler) (result : Result ShaderStages ExpressionError) where
-    -- a sample of an image is judged by its conditions, with some text
+    -- a sample of an image has the result of its checks, with some text
     pub sample_result : (text : String Global) → first_error_or (sample_checks s text sample image comparison) (level_stages sample.level) ≡ result → IsImageSampleResult s sample result
     sample_result text h = (image_sample_rule s text sample, (text, refl), inl (sym (ap (judge text) (sym found) ∙ h)))
 

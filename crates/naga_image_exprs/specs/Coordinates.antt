@@ -1,4 +1,4 @@
--- What the rules of images ask of coordinates, and of the indexes of layers, samples and levels.
+-- What the rules of images require of coordinates, and of the indexes of array layers, samples and levels.
 use Rattle.std.specs.Prelude.{◌&&◌, ◌==◌, ℕ, Bool as Boolean, [], ◌∷◌, Option, Some, None, is_some}
 use Rattle.std.specs.Bool.{beq}
 use Rattle.naga_flags.specs.Width.{width_32}
@@ -22,19 +22,19 @@ coordinate_count D2 = 2
 coordinate_count D3 = 3
 coordinate_count Cube = 3
 
--- a form is that of so many scalars of a kind: of one, or of a vector
+-- `inner` is `count` scalars of a kind: a scalar if `count` is 1, or a vector
 abbrev pub is_of_kind : ℕ → ScalarKind → TypeInner → Boolean
 is_of_kind count kind inner = is_of count (λ scalar. of_kind.ghosts.eq scalar.kind kind) inner
 
--- a form is that of the coordinates of samples of an image of this dimension: floating-point numbers
+-- `inner` can be the coordinates of samples of an image of dimension `dim`: floating-point numbers
 abbrev pub are_coordinates : ImageDimension → TypeInner → Boolean
 are_coordinates dim inner = is_of_kind (coordinate_count dim) Float inner
 
--- a form is that of one integer of 32 bits
+-- `inner` is one integer of 32 bits
 abbrev pub is_index : TypeInner → Boolean
 is_index inner = is_scalar_that (λ scalar. is_integer scalar.kind && scalar.width == width_32) inner
 
--- the refusal of an operand, unless its form is so, or there is none
+-- the error of an operand, unless its type satisfies `is`, or there is none
 abbrev pub unless_operand : ExpressionSurroundings → (TypeInner → Boolean) → Option ℕ → (ℕ → ExpressionError) → Option ExpressionError
 unless_operand s is None error = None
 unless_operand s is (Some e) error = require (is (form_at s e)) (error e)
@@ -43,6 +43,6 @@ unless_operand s is (Some e) error = require (is (form_at s e)) (error e)
 abbrev pub layer_presence_error : Boolean → Boolean → Option ExpressionError
 layer_presence_error arrayed has_index = require (beq arrayed has_index) refusal.InvalidImageArrayIndex
 
--- the refusal of a layer, unless it is chosen of an image that has several, and its index is of a form that is so
+-- the error of an array layer, unless it is chosen of an arrayed image, and the type of its index satisfies `is`
 abbrev pub layer_error : ExpressionSurroundings → (TypeInner → Boolean) → Boolean → Option ℕ → Option ExpressionError
 layer_error s is arrayed array_index = first (layer_presence_error arrayed (is_some array_index) ∷ unless_operand s is array_index refusal.InvalidImageArrayIndexType ∷ [])

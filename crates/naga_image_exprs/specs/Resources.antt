@@ -75,7 +75,7 @@ variable_type s v = option_map (λ (x : GlobalVariable). x.ty) (slice_get s.«mo
 abbrev pub argument_type : ExpressionSurroundings → ℕ → Option ℕ
 argument_type s i = option_map (λ (x : FunctionArgument). x.ty) (slice_get s.function.arguments i)
 
--- the type of the bindings of a binding array; other forms have none
+-- the type of the bindings of a binding array; other types have none
 abbrev pub binding_of : TypeInner → Option ℕ
 binding_of (BindingArray base size) = Some base
 binding_of (Scalar scalar) = None
@@ -122,7 +122,7 @@ type_of_source s elsewhere = Err refusal.ExpectedGlobalVariable
 abbrev pub resource_type : ExpressionSurroundings → ℕ → Result ℕ ExpressionError
 resource_type s e = type_of_source s (source_in (slice_get s.function.expressions e))
 
--- what a form is as that of an image, if it is one
+-- dimension, `arrayed` and class of a type, if it is an image
 abbrev pub image_of : TypeInner → Option ImageType
 image_of (Image dim arrayed class) = Some (record { dim = dim; arrayed = arrayed; class = class })
 image_of (Scalar scalar) = None
@@ -139,7 +139,7 @@ image_of (AccelerationStructure vertex_return) = None
 image_of (RayQuery vertex_return) = None
 image_of (BindingArray base size) = None
 
--- what a type is as that of an image
+-- the same of a type of the module
 abbrev pub image_type : ExpressionSurroundings → ℕ → Result ImageType ExpressionError
 image_type s ty = ok_or (option_and_then image_of (inner_in s.«module».types (Handle ty))) (refusal.ExpectedImageType ty)
 
@@ -147,7 +147,7 @@ image_type s ty = ok_or (option_and_then image_of (inner_in s.«module».types (
 abbrev pub image_at : ExpressionSurroundings → ℕ → Result ImageType ExpressionError
 image_at s image = and_then (resource_type s image) (image_type s)
 
--- whether a form is that of a sampler that compares, if it is that of a sampler
+-- whether a sampler compares, if a type is a sampler
 abbrev pub sampler_of : TypeInner → Option Boolean
 sampler_of (Sampler comparison) = Some comparison
 sampler_of (Scalar scalar) = None

@@ -26,7 +26,7 @@ use Rattle.naga_info.specs.Words.{is_integer_scalar}
 use Rattle.naga_info.specs.declared.expression_error.ExpressionError.{ExpressionError}
 use Rattle.naga_info.specs.declared.expression_error.ExpressionError.TheVariants as refusal
 use Rattle.naga_types.specs.Checks.{first, first_error_or, require}
-use Rattle.naga_types.specs.TypeRule.{is_external, is_flat, is_float, is_integer}
+use Rattle.naga_types.specs.TypeRule.{is_external, is_2d, is_float, is_integer}
 use Rattle.naga_typing.specs.Kinds.{is_const}
 
 -- the expression that a sample is
@@ -52,7 +52,7 @@ can_sample External gathers = true
 abbrev pub class_error : ImageClass → Option SwizzleComponent → Option ExpressionError
 class_error class gather = require (can_sample class (is_some gather)) (refusal.InvalidImageClass class)
 
--- a class is that of depths
+-- a class is `Depth`
 abbrev pub is_depth : ImageClass → Boolean
 is_depth (Depth multi) = true
 is_depth (Sampled kind multi) = false
@@ -78,12 +78,12 @@ sample_offset_error s dim (Some e) =
     [])
 
 -- a level is chosen by derivatives, or is the first
-abbrev pub is_plain : SampleLevel → Boolean
-is_plain Auto = true
-is_plain Zero = true
-is_plain (Exact e) = false
-is_plain (Bias e) = false
-is_plain (Gradient x y) = false
+abbrev pub is_auto_or_zero : SampleLevel → Boolean
+is_auto_or_zero Auto = true
+is_auto_or_zero Zero = true
+is_auto_or_zero (Exact e) = false
+is_auto_or_zero (Bias e) = false
+is_auto_or_zero (Gradient x y) = false
 
 -- the refusal of a reference, unless it is a floating-point number, and the level is not given by an operand
 abbrev pub depth_reference_error : ExpressionSurroundings → Option ℕ → SampleLevel → Option ExpressionError
@@ -91,7 +91,7 @@ depth_reference_error s None level = None
 depth_reference_error s (Some e) level =
     first
     (require (is_of_kind 1 Float (form_at s e)) (refusal.InvalidDepthReference e) ∷
-    require (is_plain level) refusal.InvalidDepthSampleLevel ∷
+    require (is_auto_or_zero level) refusal.InvalidDepthSampleLevel ∷
     [])
 
 -- texels of an image of this dimension can be gathered
@@ -126,20 +126,20 @@ gather_error image (Some component) level =
     require (is_first_level level) refusal.InvalidGatherLevel ∷
     [])
 
--- a class is that of floating-point numbers, not multisampled
+-- a class is one of floating-point numbers, not multisampled
 abbrev pub is_filtered : ImageClass → Boolean
 is_filtered (Sampled kind multi) = is_float kind && not multi
 is_filtered (Depth multi) = false
 is_filtered (Storage format access) = false
 is_filtered External = false
 
--- coordinates can be clamped in an image of two dimensions, of floating-point numbers or from outside, at the first level, and with nothing beside them: no gather, layer, offset or reference
+-- coordinates can be clamped in a 2D image of floating-point numbers or an external texture, at the first level, and without a gather, an array layer, an offset or a reference
 abbrev pub can_clamp : ImageType → Sample → Boolean
 can_clamp image sample =
-    (is_filtered image.class || is_external image.class) && (is_flat image.dim && (is_first_level sample.level
+    (is_filtered image.class || is_external image.class) && (is_2d image.dim && (is_first_level sample.level
     && (not (is_some sample.gather) && (not (is_some sample.array_index) && (not (is_some sample.offset) && not (is_some sample.depth_ref))))))
 
--- the refusal to clamp, which carries a text, unless that is not asked for, or can be done
+-- the error of clamping, which holds a text, unless clamping is not wanted, or can be done
 abbrev pub clamp_error : String Global → ImageType → Sample → Option ExpressionError
 clamp_error text image sample = require (not sample.clamp_to_edge || can_clamp image sample) (refusal.InvalidSampleClampCoordinateToEdge text)
 
@@ -147,7 +147,7 @@ clamp_error text image sample = require (not sample.clamp_to_edge || can_clamp i
 abbrev pub external_error : ImageClass → Boolean → Option ExpressionError
 external_error class clamp_to_edge = require (not (is_external class) || clamp_to_edge) (refusal.InvalidImageClass class)
 
--- values of a form number the levels of an image of a class: integers those of depths, and floating-point numbers all others
+-- values of type `inner` number the levels of an image of a class: integers for depths, and floating-point numbers for all others
 abbrev pub numbers_levels : ImageClass → TypeInner → Boolean
 numbers_levels (Depth multi) inner = is_integer_scalar inner
 numbers_levels (Sampled kind multi) inner = is_of_kind 1 Float inner
@@ -159,11 +159,11 @@ abbrev pub exact_level_error : ExpressionSurroundings → ImageClass → ℕ →
 exact_level_error s class e = require (numbers_levels class (form_at s e)) (refusal.InvalidSampleLevelExactType e)
 
 -- an image has one dimension
-abbrev pub is_line : ImageDimension → Boolean
-is_line D1 = true
-is_line D2 = false
-is_line D3 = false
-is_line Cube = false
+abbrev pub is_1d : ImageDimension → Boolean
+is_1d D1 = true
+is_1d D2 = false
+is_1d D3 = false
+is_1d Cube = false
 
 -- the refusal of the bias of a level, unless it is a floating-point number, and the image one of such, of more than one dimension
 abbrev pub bias_error : ExpressionSurroundings → ImageType → ℕ → Option ExpressionError
@@ -171,7 +171,7 @@ bias_error s image e =
     first
     (require (is_of_kind 1 Float (form_at s e)) (refusal.InvalidSampleLevelBiasType e) ∷
     require (is_filtered image.class) (refusal.InvalidImageClass image.class) ∷
-    require (not (is_line image.dim)) (refusal.InvalidSampleLevelBiasDimension image.dim) ∷
+    require (not (is_1d image.dim)) (refusal.InvalidSampleLevelBiasDimension image.dim) ∷
     [])
 
 -- the refusal of a derivative, unless it is like coordinates
@@ -186,7 +186,7 @@ level_error s image (Exact e) = exact_level_error s image.class e
 level_error s image (Bias e) = bias_error s image e
 level_error s image (Gradient x y) = first (gradient_error s image.dim x ∷ gradient_error s image.dim y ∷ [])
 
--- the stages that may sample at a level: fragments alone have derivatives of their own
+-- the stages that may sample at a level: only fragments have derivatives of their own
 abbrev pub level_stages : SampleLevel → ShaderStages
 level_stages Auto = fragment_stage
 level_stages Zero = every_stage
@@ -214,10 +214,10 @@ abbrev pub image_sample_rule : ExpressionSurroundings → String Global → Samp
 image_sample_rule s text sample =
     and_then (sampled s sample.image sample.sampler) (λ found. first_error_or (sample_checks s text sample found.0 found.1) (level_stages sample.level))
 
--- what is meant by the rule of a sample, whose refusal to clamp carries some text
+-- the rule of a sample, whose refusal to clamp carries some text
 abbrev pub IsImageSampleRule : ExpressionSurroundings → Sample → Result ShaderStages ExpressionError → Type 0
-IsImageSampleRule s sample meant = (text : String Global) × (meant ≡ image_sample_rule s text sample)
+IsImageSampleRule s sample rule = (text : String Global) × (rule ≡ image_sample_rule s text sample)
 
--- a call returns what is meant by the rule of a sample, out of memory aside
+-- a call returns the rule of a sample, out of memory aside
 abbrev pub IsImageSampleResult : ExpressionSurroundings → Sample → Result ShaderStages ExpressionError → Type 0
-IsImageSampleResult s sample result = (meant : Result ShaderStages ExpressionError) × IsImageSampleRule s sample meant × IsRuleResult meant result
+IsImageSampleResult s sample result = (rule : Result ShaderStages ExpressionError) × IsImageSampleRule s sample rule × IsRuleResult rule result

@@ -1,3 +1,3 @@
--- What private functions alone ask of one another, and promise.
+-- What only private functions require of one another, and promise.
 pub mod Clamps
 pub mod KnownResources

@@ -1,4 +1,4 @@
-//! What the rules of images ask of coordinates, and of the indexes of layers, samples and levels.
+//! What the rules of images require of coordinates, and of the indexes of array layers, samples and levels.
 
 ghost use Rattle.std.specs.Prelude.{◌≡◌, ◌<◌, IfSome, length};
 ghost use Rattle.naga_image_exprs.specs.Coordinates as rule;
@@ -24,7 +24,7 @@ pub(crate) fn coordinate_count(dim: ImageDimension) -> u8
     }
 }
 
-/// Whether a type is that of so many scalars of a kind: of one, or of a vector.
+/// Whether a type is `count` scalars of a kind: a scalar if `count` is 1, or a vector.
 pub(crate) fn is_of_kind(inner: &TypeInner, count: u8, kind: ScalarKind) -> bool
     ensures { result ≡ rule.is_of_kind count kind inner.now }
 {
@@ -34,14 +34,14 @@ pub(crate) fn is_of_kind(inner: &TypeInner, count: u8, kind: ScalarKind) -> bool
     }
 }
 
-/// Whether a type is that of the coordinates of samples of an image of this dimension.
+/// Whether a type can be the coordinates of samples of an image of this dimension.
 pub(crate) fn are_coordinates(inner: &TypeInner, dim: ImageDimension) -> bool
     ensures { result ≡ rule.are_coordinates dim inner.now }
 {
     is_of_kind(inner, coordinate_count(dim), ScalarKind::Float)
 }
 
-/// Whether a type is that of integers of 32 bits.
+/// Whether a type is an integer of 32 bits.
 pub(crate) fn is_index(inner: &TypeInner) -> bool
     ensures { result ≡ rule.is_index inner.now }
 {

@@ -1,4 +1,4 @@
-//! The rules of expressions of functions that read images or ask about them.
+//! The rules of expressions of functions that read images or query them.
 #![tactic(auto)]
 
 pub mod clamp;

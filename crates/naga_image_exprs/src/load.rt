@@ -18,7 +18,7 @@ use naga_ir::tags::ExpressionTag;
 use naga_ir::types::{ImageClass, ImageDimension};
 use naga_types::type_methods::image_storage_coordinates;
 
-/// Checks that coordinates are those of an image of this dimension, in texels.
+/// Checks that coordinates, in texels, fit an image of this dimension.
 fn check_coordinate(
     context: FunctionContext<'_>,
     dim: ImageDimension,
@@ -84,20 +84,20 @@ fn check_level(
 ///
 /// # Errors
 ///
-/// - `ExpectedGlobalVariable` if what is loaded from is no variable of the module, no argument, and no
-///   element of such a variable. `ExpectedBindingArrayType` if it is an element of a variable that is no
+/// - `ExpectedGlobalVariable` if what is loaded from is not a variable of the module, an argument, or an
+///   element of such a variable. `ExpectedBindingArrayType` if it is an element of a variable that is not
 ///   binding array.
-/// - `ExpectedImageType` if it is no image.
+/// - `ExpectedImageType` if it is not an image.
 /// - `InvalidImageCoordinateType` if the coordinates are not as many integers as the image has dimensions.
 ///   Nothing is loaded from cubes.
 /// - `InvalidImageArrayIndex` if the image has layers and none is chosen, or the other way round.
-///   `InvalidImageArrayIndexType` if the index of the layer is no integer of 32 bits.
+///   `InvalidImageArrayIndexType` if the index of the array layer is not an integer of 32 bits.
 /// - `InvalidImageSampleSelector` if a sample is chosen of an image that isn't multisampled, and
 ///   `MissingImageSampleSelector` if none is chosen of one that is. `InvalidImageOtherIndexType` if the
-///   index of the sample is no integer of 32 bits.
+///   index of the sample is not an integer of 32 bits.
 /// - `InvalidImageLevelSelector` if a level is chosen of an image that can't have several, and
 ///   `MissingImageLevelSelector` if none is chosen of one that can. `InvalidImageArrayIndexType` if the
-///   number of the level is no integer.
+///   number of the level is not an integer.
 pub fn validate_image_load(
     context: FunctionContext<'_>,
     image: Handle<ExpressionTag>,

@@ -16,7 +16,7 @@ use naga_ir::expression::ImageQuery;
 use naga_ir::handle::Handle;
 use naga_ir::tags::ExpressionTag;
 
-/// Checks that the size of a level is only asked of an image that may have several, and by an integer of 32
+/// Checks that the size of a level is only queried of an image that may have several, and by an integer of 32
 /// bits.
 fn check_level(
     context: FunctionContext<'_>,
@@ -36,7 +36,7 @@ fn check_level(
     Ok(())
 }
 
-/// Checks that an image has the property that is asked for.
+/// Checks that an image has the property that is queried.
 fn check_query(
     context: FunctionContext<'_>,
     image: ImageType,
@@ -64,12 +64,12 @@ fn check_query(
 ///
 /// # Errors
 ///
-/// - `ExpectedGlobalVariable` if what is asked about is no variable of the module, no argument, and no
-///   element of such a variable. `ExpectedBindingArrayType` if it is an element of a variable that is no
+/// - `ExpectedGlobalVariable` if what is queried is not a variable of the module, an argument, or an
+///   element of such a variable. `ExpectedBindingArrayType` if it is an element of a variable that is not
 ///   binding array.
-/// - `ExpectedImageType` if it is no image.
-/// - `InvalidImageOtherIndexType` if the level of which the size is asked is no integer of 32 bits.
-/// - `InvalidImageClass` if levels are asked for of an image that can't have several, layers of one that
+/// - `ExpectedImageType` if it is not an image.
+/// - `InvalidImageOtherIndexType` if the level whose size is queried is not an integer of 32 bits.
+/// - `InvalidImageClass` if levels are queried of an image that can't have several, layers of one that
 ///   isn't arrayed, or samples of one that isn't multisampled.
 pub fn validate_image_query(
     context: FunctionContext<'_>,

@@ -72,7 +72,7 @@ fn element_type(
 ///
 /// # Errors
 ///
-/// - `ExpectedBindingArrayType` if an element is taken of a variable that is no binding array.
+/// - `ExpectedBindingArrayType` if an element is taken of a variable that is not a binding array.
 /// - `ExpectedGlobalVariable` if the expression is none of these.
 pub(crate) fn global_var_ty(
     context: FunctionContext<'_>,
@@ -95,7 +95,7 @@ pub(crate) fn global_var_ty(
     }
 }
 
-/// What a type of the module is as that of an image.
+/// Dimension, `arrayed` and class of a type of the module, if it is an image.
 ///
 /// # Errors
 ///

@@ -22,7 +22,7 @@ use naga_ir::tags::ExpressionTag;
 use naga_ir::types::{ImageClass, ImageDimension, ScalarKind, TypeInner};
 use std::alloc::Global;
 
-/// A sample of an image: the fields of `Expression::ImageSample`. Handles are those of operands.
+/// A sample of an image: the fields of `Expression::ImageSample`. Handles are operands.
 #[derive(Clone, Copy, Debug)]
 pub struct Sample {
     pub image: Handle<ExpressionTag>,
@@ -115,7 +115,7 @@ fn check_comparison(
     Ok(())
 }
 
-/// Checks that coordinates are those of an image of this dimension.
+/// Checks that coordinates fit an image of this dimension.
 fn check_coordinate(
     context: FunctionContext<'_>,
     dim: ImageDimension,
@@ -222,7 +222,7 @@ fn check_external(class: ImageClass, clamp_to_edge: bool) -> Result<(), Expressi
     Ok(())
 }
 
-/// Whether levels of an image of a class are numbered by values of a type: those of depths by integers, and
+/// Whether levels of an image of a class are numbered by values of a type: levels of depths by integers, and
 /// others by floating-point numbers.
 fn numbers_levels(class: ImageClass, inner: &TypeInner) -> bool
     ensures { result ≡ rule.numbers_levels class inner.now }
@@ -310,7 +310,7 @@ fn check_level(
     }
 }
 
-/// The stages that may sample at a level: those of fragments alone have the derivatives that choose one.
+/// The stages that may sample at a level: only fragments have the derivatives that choose one.
 fn level_stages(level: SampleLevel) -> ShaderStages
     ensures { result ≡ rule.level_stages level }
 {
@@ -326,21 +326,21 @@ fn level_stages(level: SampleLevel) -> ShaderStages
 ///
 /// # Errors
 ///
-/// - `ExpectedGlobalVariable` if the image or the sampler is no variable of the module, no argument, and no
-///   element of such a variable. `ExpectedBindingArrayType` if it is an element of a variable that is no
+/// - `ExpectedGlobalVariable` if the image or the sampler is not a variable of the module, an argument, or an
+///   element of such a variable. `ExpectedBindingArrayType` if it is an element of a variable that is not
 ///   binding array.
 /// - `ExpectedSamplerType`, `ExpectedImageType` if it is something else.
 /// - `InvalidImageArrayIndex` if the image has layers and none is chosen, or the other way round.
-///   `InvalidImageArrayIndexType` if the index of the layer is no integer.
+///   `InvalidImageArrayIndexType` if the index of the array layer is not an integer.
 /// - `InvalidImageClass` if the image can't be sampled: it is multisampled, or a storage image, or holds
-///   integers, which can only be gathered, or truth values.
+///   integers, which can only be gathered, or bools.
 /// - `ComparisonSamplingMismatch` if there is a reference and the sampler doesn't compare, or there is none
 ///   and it does, or it compares and the image holds no depths.
 /// - `InvalidImageCoordinateType` if the coordinates are not as many floating-point numbers as the image
 ///   has dimensions, three in a cube.
 /// - `InvalidSampleOffsetExprType` if the offset is not known when the shader is compiled.
 ///   `InvalidSampleOffset` if it is not as many signed integers.
-/// - `InvalidDepthReference` if the reference is no floating-point number. `InvalidDepthSampleLevel` if
+/// - `InvalidDepthReference` if the reference is not a floating-point number. `InvalidDepthSampleLevel` if
 ///   depths are compared at another level than `Auto` or `Zero`.
 /// - `InvalidGatherDimension` if the image has one or three dimensions, and texels are gathered.
 ///   `InvalidGatherComponent` if another component of depths is gathered than the first.
@@ -349,9 +349,9 @@ fn level_stages(level: SampleLevel) -> ShaderStages
 ///   floating-point numbers nor one from outside, has not two dimensions, or texels are gathered, a layer
 ///   or an offset is given, the level is not `Zero` or depths are compared. It names the first such.
 /// - `InvalidImageClass` if coordinates in an image from outside are not clamped.
-/// - `InvalidSampleLevelExactType` if the number of the level is no integer of a depth image, and no
+/// - `InvalidSampleLevelExactType` if the number of the level is not an integer for a depth image, or not
 ///   floating-point number of another.
-/// - `InvalidSampleLevelBiasType` if the bias is no floating-point number. `InvalidImageClass` if the image
+/// - `InvalidSampleLevelBiasType` if the bias is not a floating-point number. `InvalidImageClass` if the image
 ///   with a bias is one of depths or from outside. `InvalidSampleLevelBiasDimension` if it has one dimension.
 /// - `InvalidSampleLevelGradientType` if a derivative is not as many floating-point numbers as the
 ///   coordinates.

@@ -85,7 +85,7 @@ in_mask lo hi k h = (
     none : bit_at (2 ^ hi - 2 ^ lo) k ≡ 0 → ⊥
     none e = zero_not_one (sym e ∙ h)
 
--- a slot is among those of a range exactly if it shares a byte with it
+-- a slot is among the slots of a range exactly if it shares a byte with the range
 pub in_range : (first size k : ℕ) → 0 < size → (bit_at (2 ^ min 64 ((first + size - 1) / 4 + 1) - 2 ^ min 64 (first / 4)) k ≡ 1) ↔ ((k < 64) × SharesByte first size k)
 in_range first size k some = (there, back)
   where
@@ -100,7 +100,7 @@ in_range first size k some = (there, back)
     back : (k < 64) × SharesByte first size k → bit_at (2 ^ min 64 ((first + size - 1) / 4 + 1) - 2 ^ min 64 (first / 4)) k ≡ 1
     back (within, (byte, a, b, c, d)) = bit_at_mask_inside _ _ k (omega arith) (omega arith)
 
--- the slots before a later slot are no fewer
+-- at least as many slots precede a later slot
 pub before_grows : (i j : ℕ) → i ≤ j → 2 ^ i - 1 ≤ 2 ^ j - 1
 before_grows i j h = let grows : 2 ^ i ≤ 2 ^ j = pow-le-pow_right (omega arith) h in omega arith
 

@@ -17,11 +17,11 @@ use Rattle.naga_typing.proofs.LeafLemmas.{all_of, leaf-by_part, leaf-form, leaf-
 use Rattle.naga_typing.specs.Layout.{size_of}
 use Rattle.naga_typing.specs.Leaves.{Elements, IsInside, IsLeafAlignment, LeafBytes, Part, elements, inner_at, is_leaf, leaf_at, moved, one_each, part_at, itself as inside_itself, member as inside_member}
 
--- a form is no array
+-- a type is not an array
 abbrev IsNoArray : TypeInner → Type 0
 IsNoArray inner = (base : ℕ) (size : ArraySize) (stride : ℕ) → inner ≡ Array base size stride → ⊥
 
--- what has a part and is no array is a struct
+-- a type that has a part and is not an array is a struct
 pub record IsStructOf (inner : TypeInner) : Type 0 where
   pub members : List StructMember
   pub span : ℕ
@@ -32,7 +32,7 @@ struct_by_part el (Struct members span) i part other is = record { members = mem
 struct_by_part el (Array base size stride) i part other is = absurd (other base size stride refl)
 struct_by_part el _ i part other is = absurd (none-some part is)
 
--- a leaf is no struct
+-- a leaf is not a struct
 leaf_is_plain : (inner : TypeInner) → is_leaf inner ≡ true → IsNoStruct inner
 leaf_is_plain (Struct members span) is = absurd cc
 leaf_is_plain _ is = tt
@@ -127,7 +127,7 @@ module _ (g : GlobalLists) (whole : ℕ) (aligned : (u : ℕ) → IsInside g who
           let p = part_of_leaf (elements g n) h.path whole at inner h.leaf inside_itself is h.is_its in
           record { part = p.part; first = p.first; is_part = p.has; shares = subst (λ size. SharesByte p.first size k) (sym p.size_is) (subst (λ first. SharesByte first h.leaf.size k) (sym p.first_is) h.shares) }
 
-  -- a set of the slots that it uses has those of its leaves
+  -- a set of the slots that a value uses has the slots of its leaves
   pub slots_of_leaves : (n at : ℕ) (inner : TypeInner) (slots : ImmediateSlots) → inner_at g whole ≡ Some inner → IsSetOf (UsesSlot g inner at) slots → HasSlotsOfLeaves g n whole at slots
   slots_of_leaves n at inner slots is exactly = record { exactly = leaves; all = all }
     where

@@ -48,7 +48,7 @@ module _ (g : GlobalLists) where
       let same : members′ ≡ members = cc in
       record { m = m; inner = inner; is_member = subst (λ ms. Contains ms m) same is_member; is_its = is_its; has = has }
 
-  -- what is no struct is its own only part
+  -- a value that is not a struct is its own only part
   part_of_other : (whole : TypeInner) (at : ℕ) (part : TypeInner) (first : ℕ) → IsNoStruct whole → HasPart g whole at part first → (part ≡ whole) × (first ≡ at)
   part_of_other _ _ _ _ plain (itself inner at other) = (refl, refl)
   part_of_other _ _ _ _ plain (in_member members span at m inner part first is_member is_its has) = absurd plain
@@ -65,7 +65,7 @@ module _ (g : GlobalLists) where
       past_all : (first size : ℕ) → at ≤ first → SharesByte first size k → ⊥
       past_all first size from (byte, a, b, c, d) = omega arith
 
-  -- what is no struct uses the slots of its bytes
+  -- a value that is not a struct uses the slots of its bytes
   pub used_by_other : (inner : TypeInner) (at k : ℕ) → IsNoStruct inner → UsesSlot g inner at k ↔ SharesByte at (size_of g inner) k
   used_by_other inner at k plain = (there, back)
     where
@@ -157,7 +157,7 @@ module _ (g : GlobalLists) where
             (λ p. inr (p.0, record { inner = Struct members span; is_its = is_struct; uses = (used_by_struct members span at k).1 (subst (λ n. UsedBefore members at n k) (sym end) p.1) })) (h.only k has);
       }
 
-  -- what is no struct is added at once
+  -- a value that is not a struct is added at once
   pub other_added : (t : ℕ) (inner : TypeInner) (at : ℕ) (old slots new : ImmediateSlots) → inner_at g t ≡ Some inner → IsNoStruct inner → IsSetOf (SharesByte at (size_of g inner)) slots
       → new ≡ record { 0 = bit_or old.0 slots.0 } → AddsSlotsOf g t at old new
   other_added t inner at old slots new is_its plain exactly e =
@@ -167,7 +167,7 @@ module _ (g : GlobalLists) where
         only = λ k has. ⊎_elim (λ had. inl had) (λ found. let p = (exactly k).0 found in inr (p.0, record { inner = inner; is_its = is_its; uses = (used_by_other inner at k plain).1 p.1 })) ((in_both old.0 slots.0 k).0 has);
       }
 
--- what has no members is no struct
+-- a value without members is not a struct
 pub plain : (inner : TypeInner) → ((members : List StructMember) (span : ℕ) → inner ≡ Struct members span → ⊥) → IsNoStruct inner
 plain (Struct members span) h = h members span refl
 plain _ h = tt
@@ -179,7 +179,7 @@ module _ (g : GlobalLists) (ok : GlobalReferencesOk g) (t : ℕ) (x : «Type») 
       let all : All (λ (m : StructMember). m.ty < t) members = members_are (λ p. p < t) x.inner members span (λ p h. parts_come_before g ok t x p at h) is in
       subst (λ (m : StructMember). m.ty < t) (sym e) (all i m within)
 
--- the form of a type that exists
+-- the `TypeInner` of a type that exists
 pub inner_is : (g : GlobalLists) (t : ℕ) (x : «Type») → slice_get g.types t ≡ Some x → inner_at g t ≡ Some x.inner
 inner_is g t x at = ap (option_map (λ (x : «Type»). x.inner)) at
 

@@ -77,7 +77,7 @@ module _ (slots : ImmediateSlots) where
     pub from : run.first ≤ k
     pub to : k < run.end
 
-  -- it is one of those of the set
+  -- it is one of the runs of the set
   pub record IsInRunOf (k : ℕ) : Type 0 where
     pub run : Run
     pub is_its : Contains (runs slots) run
@@ -108,7 +108,7 @@ module _ (slots : ImmediateSlots) where
         is_in = record { from = before; to = ⊎_elim (λ under. under) (λ past. absurd (true≢false (sym (r.all (end_of_run slots r.first) its.later past) ∙ not-true (has_slot slots (end_of_run slots r.first)) (its.passes (omega arith))))) (cases_lt k (end_of_run slots r.first)) };
       }
 
-  -- what is true of the runs of a set: they are within the slots that there are, and have slots of the set alone
+  -- what is true of the runs of a set: they are within the slots that there are, and have only slots of the set
   pub record IsRunOf (run : Run) : Type 0 where
     pub first_within : run.first < slot_count
     pub end_within : run.end ≤ slot_count

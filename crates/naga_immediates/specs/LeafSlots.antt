@@ -18,11 +18,11 @@ pub record SharesLeaf (g : GlobalLists) (n t at k : ℕ) : Type 0 where
   pub is_its : leaf_at g (elements g n) t path ≡ Some leaf
   pub shares : SharesByte (at + leaf.first) leaf.size k
 
--- the leaves of such a value have no bytes but those of slots
+-- the bytes of the leaves of such a value are all bytes of slots
 abbrev pub LeavesHaveSlots : GlobalLists → (n t at : ℕ) → Type 0
 LeavesHaveSlots g n t at = (path : List ℕ) (leaf : LeafBytes) → leaf_at g (elements g n) t path ≡ Some leaf → at + end_of leaf ≤ byte_count
 
--- a set of exactly the slots that a type uses from byte `at` on has exactly those of its leaves; if these have slots alone, it has all that they have
+-- `slots`, which are exactly the slots that a type uses from byte `at` on, are exactly the slots of its leaves; if all bytes of these are bytes of slots, no leaf has a slot besides
 pub record HasSlotsOfLeaves (g : GlobalLists) (n t at : ℕ) (slots : ImmediateSlots) : Type 0 where
   pub exactly : IsSetOf (SharesLeaf g n t at) slots
   pub all : LeavesHaveSlots g n t at → (k : ℕ) → HasSlot slots k ↔ SharesLeaf g n t at k

@@ -31,7 +31,7 @@ slot_count = 64
 abbrev pub slot_size : ℕ
 slot_size = 4
 
--- how many bytes all slots have: those of immediate data
+-- how many bytes all slots have: the size of immediate data
 abbrev pub byte_count : ℕ
 byte_count = 256
 
@@ -47,7 +47,7 @@ SharesByte first size k = (byte : ℕ) × (first ≤ byte) × (byte < first + si
 abbrev pub IsSetOf : (ℕ → Type 0) → ImmediateSlots → Type 0
 IsSetOf P slots = (k : ℕ) → HasSlot slots k ↔ ((k < slot_count) × P k)
 
--- a part of a value that is no struct, reached through members of structs alone: its form and its first byte, if the value begins at byte `at`
+-- a part of a value that is not a struct, reached only through members of structs: its `TypeInner` and its first byte, if the value begins at byte `at`
 pub data HasPart (g : GlobalLists) : TypeInner → ℕ → TypeInner → ℕ → Type 0 where
   itself : (inner : TypeInner) (at : ℕ) → IsNoStruct inner → HasPart g inner at inner at
   in_member : (members : List StructMember) (span at : ℕ) (m : StructMember) (inner part : TypeInner) (first : ℕ) → Contains members m → inner_at g m.ty ≡ Some inner → HasPart g inner (at + m.offset) part first → HasPart g (Struct members span) at part first
@@ -59,7 +59,7 @@ pub record UsesSlot (g : GlobalLists) (inner : TypeInner) (at k : ℕ) : Type 0 
   pub is_part : HasPart g inner at part first
   pub shares : SharesByte first (size_of g part) k
 
--- a pointer accesses this member of a variable of a form by the member's index
+-- `pointer` accesses member `m` of a variable of type `whole` by the member's index
 pub record AccessesMember (xs : List Expression) (whole : TypeInner) (pointer : ℕ) (m : StructMember) : Type 0 where
   pub base : ℕ
   pub index : ℕ
@@ -79,7 +79,7 @@ AccessesNone xs whole pointer = (m : StructMember) → ¬ (AccessesMember xs who
 abbrev pub BaseExists : List Expression → ℕ → Type 0
 BaseExists xs pointer = (base index : ℕ) → slice_get xs pointer ≡ Some (AccessIndex base index) → base < length xs
 
--- what a pointer into a variable of a form reaches, as far as slots distinguish it: a value of a form, and its first byte
+-- what `pointer` into a variable of type `whole` reaches, as far as slots distinguish it: a value of a type, and its first byte
 pub data Touches (g : GlobalLists) (xs : List Expression) (whole : TypeInner) (pointer : ℕ) : TypeInner → ℕ → Type 0 where
   member : (m : StructMember) (inner : TypeInner) → AccessesMember xs whole pointer m → inner_at g m.ty ≡ Some inner → Touches g xs whole pointer inner m.offset
   all : AccessesNone xs whole pointer → Touches g xs whole pointer whole 0
@@ -89,7 +89,7 @@ abbrev pub IsTyped : GlobalLists → Option Variable → Type 0
 IsTyped g None = ⊥
 IsTyped g (Some v) = v.ty < length g.types
 
--- the form of a variable
+-- the type of a variable
 abbrev pub form_of_variable : GlobalLists → Option Variable → Option TypeInner
 form_of_variable g variable = option_and_then (λ (v : Variable). inner_at g v.ty) variable
 

@@ -60,8 +60,8 @@ impl ImmediateSlots {
         self.0
     }
 
-    /// The slots of which `size_bytes` bytes from `offset` on have a byte. If there are no bytes, that
-    /// is none. Bytes from 256 on are in no slot; sums are whole numbers.
+    /// The slots that share a byte with the `size_bytes` bytes from `offset` on, none if there are no
+    /// bytes. Bytes from 256 on are in no slot; sums are not limited to 32 bits.
     pub fn from_range(offset: u32, size_bytes: u32) -> ImmediateSlots
         ensures { IsSetOf (SharesByte offset size_bytes) result }
     {
@@ -73,7 +73,7 @@ impl ImmediateSlots {
         ImmediateSlots(below(last / SLOT_SIZE + 1) - below(first / SLOT_SIZE))
     }
 
-    /// The slots that a value of the form `ty` uses if it begins at byte `offset`: those of which a
+    /// The slots that a value of type `ty` uses if it begins at byte `offset`: those of which a
     /// part of it has a byte. A struct has the parts of its members, at their offsets, and what is
     /// between them is used by none; any other value is one part, of as many bytes as its size. Bytes
     /// from 256 on are in no slot.
@@ -124,7 +124,7 @@ impl ImmediateSlots {
         ImmediateSlots(self.0 & !other.0)
     }
 
-    /// The size of the immediate data of a module, in bytes: that of the type of the first global
+    /// The size of the immediate data of a module, in bytes: the size of the type of the first global
     /// variable in the address space `Immediate`, or 0 if there is none.
     pub fn size_for_module(module: &Module) -> u32
         requires handles { HandlesAccepted «module».now }
@@ -141,10 +141,10 @@ impl ImmediateSlots {
     }
 
     /// The slots that may be used through a pointer to the global variable `global` of immediate data,
-    /// or to a part of it: those of a member if `pointer` accesses the member by its index in the
+    /// or to a part of it: the slots of a member if `pointer` accesses the member by its index in the
     /// variable itself, and else all slots of the variable.
     ///
-    /// The cost is that of `from_type` for the type of the member or the variable.
+    /// The cost is the cost of `from_type` for the type of the member or the variable.
     pub fn for_pointer(
         pointer: Handle<ExpressionTag>,
         global: Handle<GlobalVariableTag>,
@@ -246,7 +246,7 @@ fn place_of(ty: Handle<TypeTag>, byte: u8) -> usize
     NOTES_A_BYTE * usize::from(byte) + ty.index() % NOTES_A_BYTE
 }
 
-/// The slots of a value that is no struct.
+/// The slots of a value that is not a struct.
 fn slots_of_part(inner: &TypeInner, offset: u32, gctx: GlobalCtx<'_>) -> ImmediateSlots
     requires exist { ReferencesExist (lists_of gctx) inner.now }
     requires references { GlobalReferencesOk (lists_of gctx) }
@@ -255,7 +255,7 @@ fn slots_of_part(inner: &TypeInner, offset: u32, gctx: GlobalCtx<'_>) -> Immedia
     ImmediateSlots::from_range(offset, try_size(inner, gctx).unwrap_or(u32::MAX))
 }
 
-/// The member that a pointer accesses by its index in a global variable, whose form is `whole`.
+/// The member that a pointer accesses by its index in a global variable, whose type is `whole`.
 fn accessed_member<'a>(
     pointer: Handle<ExpressionTag>,
     expressions: &Arena<Expression, ExpressionTag>,

@@ -1,4 +1,4 @@
--- What the form of the type of an operand refers to exists.
+-- What the type of an operand refers to exists.
 use Rattle.std.proofs.Common.{◌≡◌, ℕ, Option, Some, None, option_map, refl, slice_get, subst}
 use Rattle.naga_ir.specs.Handles.{GlobalReferencesOk}
 use Rattle.naga_ir.specs.ItemReferences.{GlobalLists}
@@ -15,7 +15,7 @@ module _ (g : GlobalLists) (ok : GlobalReferencesOk g) where
   of_found t None at inner e = cc e
   of_found t (Some x) at inner e = let same : x.inner ≡ inner = cc e in subst (ReferencesExist g) same (references_exist g ok t x at)
 
-  -- what a form refers to exists if its resolution does
+  -- what a type refers to exists if its resolution does
   pub form_exists : (r : TypeResolution) (inner : TypeInner) → ResolutionExists g r → inner_in g.types r ≡ Some inner → ReferencesExist g inner
   form_exists (Handle t) inner there e = of_found t (slice_get g.types t) refl inner e
   form_exists (Value x) inner there e = let same : x ≡ inner = cc e in subst (ReferencesExist g) same there

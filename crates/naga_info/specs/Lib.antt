@@ -1,10 +1,10 @@
 -- To read first:
 -- ModuleInfo.ModuleInfoLists: what is known of an accepted module, a list for each kind of item
--- ModuleInfo.ModuleInfoWithRoom: the same beside the room that takes no more memory
+-- ModuleInfo.ModuleInfoWithRoom: the same with the room that takes no more memory
 -- FunctionTypes.function_resolves, AreFunctionTypes: the type of an expression of a function, and of all of them
 -- FunctionTypes.AreTypesBefore, IsUntyped: the types of the expressions before a place; why the one there has none
--- Surroundings.ExpressionSurroundings: what an expression of a function is judged by, beside its form
--- Surroundings.IsReady, AreSound, IsReadySomewhere: what has to be known of an expression that is judged
+-- Surroundings.ExpressionSurroundings: what the validation of an expression of a function depends on, besides the expression
+-- Surroundings.IsReady, AreSound, IsReadySomewhere: what has to be known of an expression that is validated
 -- Results.IsRuleResult: what a call returns, out of memory aside
 -- Stages.every_stage: the stages that may use most expressions
 pub mod FunctionTypes

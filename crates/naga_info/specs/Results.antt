@@ -1,11 +1,12 @@
 -- What a call returns for an expression, out of memory aside.
-use Rattle.std.specs.Prelude.{◌≡◌, ◌⊎◌, ⊤, Result, Ok, Err}
+use Rattle.std.specs.Prelude.{◌⊎◌, ⊤, Result, Ok, Err}
+use Rattle.naga_arena.specs.Results.{IsResultOf}
 use Rattle.naga_flags.specs.declared.flags.ShaderStages.{ShaderStages}
 use Rattle.naga_ir.specs.TypeWords.{IsStruct}
 use Rattle.naga_info.specs.declared.expression_error.ExpressionError.{ExpressionError}
 use Rattle.naga_info.specs.declared.expression_error.ExpressionError.TheVariants.{InvalidBinaryOperandTypes, InvalidSampleClampCoordinateToEdge, OutOfMemory, SelectConditionNotABool, SelectValuesTypeMismatch, ShiftAmountTooLarge}
 
--- memory is requested for a refusal: it copies a struct, or carries a text
+-- a result needs memory: it is an error that holds a copy of a struct, or a text
 abbrev pub NeedsMemory : Result ShaderStages ExpressionError → Type 0
 NeedsMemory (Ok stages) = ⊥
 NeedsMemory (Err (InvalidBinaryOperandTypes op lhs_expr lhs_type rhs_expr rhs_type)) = IsStruct lhs_type ⊎ IsStruct rhs_type
@@ -15,6 +16,6 @@ NeedsMemory (Err (ShiftAmountTooLarge lhs_type rhs_expr)) = IsStruct lhs_type
 NeedsMemory (Err (InvalidSampleClampCoordinateToEdge text)) = ⊤
 NeedsMemory (Err _) = ⊥
 
--- a call returns what is meant, or `OutOfMemory` if that is a refusal for which memory is requested
+-- a call returns what `rule` says, or `OutOfMemory` if that needs memory
 abbrev pub IsRuleResult : Result ShaderStages ExpressionError → Result ShaderStages ExpressionError → Type 0
-IsRuleResult meant result = (result ≡ meant) ⊎ ((result ≡ Err OutOfMemory) × NeedsMemory meant)
+IsRuleResult rule result = IsResultOf NeedsMemory OutOfMemory rule result

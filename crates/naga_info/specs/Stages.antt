@@ -6,11 +6,11 @@ use Rattle.naga_flags.specs.declared.flags.ShaderStages.{ShaderStages}
 abbrev pub every_stage : ShaderStages
 every_stage = record { 0 = all_stages }
 
--- fragments alone have derivatives
+-- only fragments have derivatives
 abbrev pub fragment_stage : ShaderStages
 fragment_stage = record { 0 = fragment }
 
--- compute shaders alone have cooperative matrices
+-- only compute shaders have cooperative matrices
 abbrev pub compute_stage : ShaderStages
 compute_stage = record { 0 = COMPUTE }
 

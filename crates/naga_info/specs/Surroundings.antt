@@ -1,4 +1,4 @@
--- What an expression of a function is judged by, beside its form.
+-- What the validation of an expression of a function depends on, besides the expression.
 use Rattle.std.specs.Prelude.{◌≡◌, ◌<◌, ◌≤◌, ℕ, Bool as Boolean, false, List, Option, Some, None, All, length, slice_get}
 use Rattle.naga_flags.specs.declared.flags.ShaderStages.{ShaderStages}
 use Rattle.naga_flags.specs.declared.flags.TypeFlags.{TypeFlags}
@@ -17,7 +17,7 @@ use Rattle.naga_typing.specs.Resolutions.{ResolutionExists, operand}
 use Rattle.naga_typing.specs.declared.expression_kind.ExpressionKind.{ExpressionKind}
 use Rattle.naga_typing.specs.declared.typifier.TypeResolution.{TypeResolution}
 
--- what an expression is judged by: the capabilities, whether overrides must have their values, the stages that may use subgroup operations, the module, the function, the types of its expressions, what is known of the module, and the kinds of the function's expressions
+-- what it depends on: the capabilities, whether overrides must have their values, the stages that may use subgroup operations, the module, the function, the types of its expressions, what is known of the module, and the kinds of the function's expressions
 pub record ExpressionSurroundings : Type 0 where
   pub capabilities : ℕ
   pub resolved : Boolean
@@ -41,12 +41,12 @@ surroundings c = record {
   kinds = c.kinds.now;
 }
 
--- the form that is there; every operand that is judged has one, and what is said of the others doesn't matter
+-- the type that is there; every operand of a validated expression has one, so that `Sampler` is never read
 abbrev pub form_in : Option TypeInner → TypeInner
 form_in (Some inner) = inner
 form_in None = Sampler false
 
--- the form of the type of an operand
+-- the type of an operand
 abbrev pub form_at : ExpressionSurroundings → ℕ → TypeInner
 form_at s e = form_in (operand s.«module».types s.types e)
 
@@ -59,7 +59,7 @@ bits_in None = 0
 abbrev pub flags_at : ExpressionSurroundings → ℕ → ℕ
 flags_at s t = bits_in (slice_get s.infos.type_flags t)
 
--- the handles of the module are right, and so are those of the function and of the types of its expressions; and it is known what each type may be used for
+-- the handles of the module are right, and so are the handles of the function's arguments and expressions and of their types; and it is known what each type may be used for
 pub record AreSound (s : ExpressionSurroundings) : Type 0 where
   pub handles : HandlesAccepted s.«module»
   pub in_function : ExpressionReferencesOk s.«module» s.function
@@ -74,7 +74,7 @@ ArgumentsExist s root = (e i : ℕ) → e < root → slice_get s.function.expres
 abbrev pub ResultIsKnown : ExpressionSurroundings → Expression → Type 0
 ResultIsKnown s x = (f : ℕ) → x ≡ form.CallResult f → f < length s.infos.functions
 
--- an expression can be judged at a place: all that it refers to exists, its operands precede it, and their types and kinds are known
+-- expression `x` can be validated at place `root`: all that it refers to exists, its operands precede it, and their types and kinds are known
 pub record IsReady (s : ExpressionSurroundings) (root : ℕ) (x : Expression) : Type 0 where
   pub sound : AreSound s
   pub references : All (Exists (function_counts s.«module» s.function)) (expression_references x)
@@ -84,6 +84,6 @@ pub record IsReady (s : ExpressionSurroundings) (root : ℕ) (x : Expression) : 
   pub arguments : ArgumentsExist s root
   pub called : ResultIsKnown s x
 
--- an expression can be judged at some place
+-- expression `x` can be validated at some place
 abbrev pub IsReadySomewhere : ExpressionSurroundings → Expression → Type 0
 IsReadySomewhere s x = (root : ℕ) × IsReady s root x

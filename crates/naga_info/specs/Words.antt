@@ -1,4 +1,4 @@
--- What the rules of several forms ask of operands.
+-- What the rules of several variants require of operands.
 use Rattle.std.specs.Prelude.{◌||◌, ◌&&◌, ◌==◌, ℕ, Bool as Boolean, true, false, Option, Some, None}
 use Rattle.naga_ir.specs.Sizes.{components}
 use Rattle.naga_ir.specs.TypeWords.{vector_size_and_scalar}
@@ -15,7 +15,7 @@ abbrev pub has_scalar : (ScalarType → Boolean) → Option (Option VectorSize �
 has_scalar is (Some found) = is found.1
 has_scalar is None = false
 
--- a form is a scalar that is so, or a vector of such
+-- `inner` is a scalar that satisfies `is`, or a vector of such
 abbrev pub consists_of : (ScalarType → Boolean) → TypeInner → Boolean
 consists_of is inner = has_scalar is (vector_size_and_scalar inner)
 
@@ -29,15 +29,15 @@ abbrev pub has_components : ℕ → (ScalarType → Boolean) → Option (Option 
 has_components count is (Some found) = component_count found.0 == count && is found.1
 has_components count is None = false
 
--- a form is that of so many scalars that are so: of one, or of a vector
+-- `inner` is `count` scalars that satisfy `is`: a scalar if `count` is 1, or a vector
 abbrev pub is_of : ℕ → (ScalarType → Boolean) → TypeInner → Boolean
 is_of count is inner = has_components count is (vector_size_and_scalar inner)
 
--- a form is a scalar that is so
+-- `inner` is a scalar that satisfies `is`
 abbrev pub is_scalar_that : (ScalarType → Boolean) → TypeInner → Boolean
 is_scalar_that is inner = is_of 1 is inner
 
--- a form is that of one integer, of any width
+-- `inner` is one integer, of any width
 abbrev pub is_integer_scalar : TypeInner → Boolean
 is_integer_scalar inner = is_scalar_that (λ scalar. is_integer scalar.kind) inner
 
@@ -54,6 +54,6 @@ is_bool AbstractFloat = false
 abbrev pub is_number : ScalarKind → Boolean
 is_number kind = is_integer kind || is_float kind
 
--- two forms are equal
+-- two types are equal
 abbrev pub are_equal : TypeInner → TypeInner → Boolean
 are_equal x y = of_inner.ghosts.eq x y

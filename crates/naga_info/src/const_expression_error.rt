@@ -38,7 +38,7 @@ pub enum ConstExpressionError {
     /// A value can't be composed of its components.
     #[error("{0}")]
     Compose(ComposeError),
-    /// The operand of a splat, which this names, is no scalar.
+    /// The operand of a splat, which this names, is not a scalar.
     #[error("Splatting {0:?} can't be done")]
     InvalidSplatType(Handle<ExpressionTag>),
     /// It has no type.

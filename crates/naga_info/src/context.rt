@@ -1,4 +1,4 @@
-//! What expressions are judged by.
+//! What the validation of expressions depends on.
 
 ghost use Rattle.std.specs.Prelude.{◌≡◌, ◌<◌, length};
 ghost use Rattle.naga_ir.specs.ItemReferences.{global_lists};
@@ -15,7 +15,7 @@ use naga_ir::tags::{ExpressionTag, TypeTag};
 use naga_ir::types::TypeInner;
 use naga_typing::expression_kind::ExpressionKindTracker;
 
-/// What expressions are judged by, beside the module and what is known of it.
+/// What the validation of expressions depends on, besides the module and what is known of it.
 #[derive_where(Clone, Copy)]
 pub struct ExprContext<'a, T> {
     /// What shaders may use.
@@ -28,7 +28,7 @@ pub struct ExprContext<'a, T> {
     pub typing: &'a T,
 }
 
-/// What an expression of a function is judged by, beside its form and the typing.
+/// What the validation of an expression of a function depends on, besides the expression and the typing.
 #[derive(Clone, Copy)]
 pub struct FunctionContext<'a> {
     /// What shaders may use.
@@ -43,12 +43,12 @@ pub struct FunctionContext<'a> {
     pub info: &'a FunctionInfo,
     /// What is known of the module.
     pub mod_info: &'a ModuleInfo,
-    /// When the values of the function's expressions are known, at least those of the operands.
+    /// When the values of the function's expressions are known, at least of the operands.
     pub kinds: &'a ExpressionKindTracker,
 }
 
 impl<'a> FunctionContext<'a> {
-    /// The form of the type of an operand: naga's `ExpressionTypeResolver`.
+    /// The type of an operand: naga's `ExpressionTypeResolver`.
     pub fn type_of(self, operand: Handle<ExpressionTag>) -> &'a TypeInner
         requires sound { AreSound (surroundings self) }
         requires known { operand < length self.info.now.types }

@@ -16,8 +16,8 @@ use std::error::Error;
 use std::fmt;
 use std::fmt::Display;
 
-/// Why an expression of a function is refused: naga's `ExpressionError`. A handle of an expression is
-/// that of the operand at fault, and one of a type that of the type at fault, unless the variant says
+/// Why an expression of a function is refused: naga's `ExpressionError`. A handle of an expression
+/// names the operand at fault, and a handle of a type the type at fault, unless the variant says
 /// otherwise.
 #[derive(Debug, PartialEq, Drop)]
 pub enum ExpressionError {
@@ -25,7 +25,7 @@ pub enum ExpressionError {
     NotInScope,
     /// The base of an access has no parts.
     InvalidBaseType(Handle<ExpressionTag>),
-    /// The index of an access is no integer, or a constant of another width than 16 or 32 bits.
+    /// The index of an access is not an integer, or is a constant of another width than 16 or 32 bits.
     InvalidIndexType(Handle<ExpressionTag>),
     /// A base, which this names, is accessed at a constant index below 0.
     NegativeIndex(Handle<ExpressionTag>),
@@ -33,16 +33,16 @@ pub enum ExpressionError {
     IndexOutOfBounds(Handle<ExpressionTag>, u32),
     /// The function has no argument of this index.
     FunctionArgumentDoesntExist(u32),
-    /// A value is loaded through something that is no pointer to data of a fixed size, or a cooperative
-    /// matrix through no pointer to scalars or vectors.
+    /// A value is loaded through something that is neither a pointer to data of a fixed size nor a value
+    /// pointer, or a cooperative matrix through something that is not a pointer to scalars or vectors.
     InvalidPointerType(Handle<ExpressionTag>),
-    /// The length is asked of something that is no pointer to a runtime-sized array.
+    /// The length is taken of something that is not a pointer to a runtime-sized array.
     InvalidArrayType(Handle<ExpressionTag>),
-    /// A hit is asked of something that is no pointer to a ray query of the function.
+    /// A hit is read from something that is not a pointer to a ray query of the function.
     InvalidRayQueryType(Handle<ExpressionTag>),
-    /// The operand of a splat is no scalar.
+    /// The operand of a splat is not a scalar.
     InvalidSplatType(Handle<ExpressionTag>),
-    /// The operand of a swizzle is no vector.
+    /// The operand of a swizzle is not a vector.
     InvalidVectorType(Handle<ExpressionTag>),
     /// A vector of this size has no such component.
     InvalidSwizzleComponent(SwizzleComponent, VectorSize),
@@ -71,25 +71,25 @@ pub enum ExpressionError {
         accept: TypeInner,
         reject: TypeInner,
     },
-    /// The condition of a selection is neither a truth value nor a vector of as many as the values have
+    /// The condition of a selection is neither a bool nor a vector of as many as the values have
     /// components; or the values are neither scalars nor vectors.
     SelectConditionNotABool {
         /// The type of the condition.
         actual: TypeInner,
     },
-    /// The argument of `All` or `Any` is no vector of truth values.
+    /// The argument of `All` or `Any` is not a vector of bools.
     InvalidBooleanVector(Handle<ExpressionTag>),
-    /// The argument of `IsNan` or `IsInf` is no floating-point number or vector of such.
+    /// The argument of `IsNan` or `IsInf` is neither a floating-point number nor a vector of such.
     InvalidFloatArgument(Handle<ExpressionTag>),
-    /// An expression has no type. The rules of single forms never return it, since the types of operands are
+    /// An expression has no type. The rules of single variants never return it, since the types of operands are
     /// resolved before; the validation of a whole function does.
     Type_(ResolveError),
-    /// An image or a sampler is no variable of the module, no argument, and no element of such a
+    /// An image or a sampler is neither a variable of the module nor an argument nor an element of such a
     /// variable.
     ExpectedGlobalVariable,
     /// Never returned: `ExpectedGlobalVariable` is.
     ExpectedGlobalOrArgument,
-    /// An element is taken of a variable that is no binding array.
+    /// An element is taken of a variable that is not a binding array.
     ExpectedBindingArrayType(Handle<TypeTag>),
     /// Something else stands in place of an image.
     ExpectedImageType(Handle<TypeTag>),
@@ -101,7 +101,7 @@ pub enum ExpressionError {
     InvalidImageFormat(StorageFormat),
     /// Never returned: image atomics are not checked here.
     InvalidImageStorageAccess(StorageAccess),
-    /// A derivative is taken of something that is no floating-point number of at least 32 bits, nor a
+    /// A derivative is taken of something that is not a floating-point number of at least 32 bits, nor a
     /// vector of such.
     InvalidDerivative,
     /// An image of layers has no index of one, or another image has.
@@ -114,12 +114,12 @@ pub enum ExpressionError {
     InvalidImageLevelSelector,
     /// No level is chosen of an image with levels.
     MissingImageLevelSelector,
-    /// The index of a layer is no integer, or that of a load no integer of 32 bits; or the level of a load
-    /// is no integer.
+    /// The index of an array layer is not an integer, for a load not an integer of 32 bits; or the level of a load
+    /// is not an integer.
     InvalidImageArrayIndexType(Handle<ExpressionTag>),
-    /// The index of a sample or a level is no integer of 32 bits.
+    /// The index of a sample or a level is not an integer of 32 bits.
     InvalidImageOtherIndexType(Handle<ExpressionTag>),
-    /// The coordinates are not those of an image of this dimension.
+    /// The coordinates don't fit an image of this dimension.
     InvalidImageCoordinateType(ImageDimension, Handle<ExpressionTag>),
     /// A reference is given to a sampler that doesn't compare, or none to one that does; or a sampler
     /// compares, and the image holds no depths.
@@ -133,9 +133,9 @@ pub enum ExpressionError {
     },
     /// The offset of a sample is not known when the shader is compiled.
     InvalidSampleOffsetExprType,
-    /// The offset is not that of an image of this dimension.
+    /// The offset doesn't fit an image of this dimension.
     InvalidSampleOffset(ImageDimension, Handle<ExpressionTag>),
-    /// What depths are compared with is no floating-point number.
+    /// What depths are compared with is not a floating-point number.
     InvalidDepthReference(Handle<ExpressionTag>),
     /// Depths are compared at another level than `Auto` or `Zero`.
     InvalidDepthSampleLevel,
@@ -145,17 +145,17 @@ pub enum ExpressionError {
     InvalidGatherComponent(SwizzleComponent),
     /// Texels can't be gathered of an image of this dimension.
     InvalidGatherDimension(ImageDimension),
-    /// The number of a level is no integer of a depth image, or no floating-point number of another.
+    /// The number of a level is not an integer for a depth image, or not a floating-point number for another.
     InvalidSampleLevelExactType(Handle<ExpressionTag>),
-    /// The bias of a level is no floating-point number.
+    /// The bias of a level is not a floating-point number.
     InvalidSampleLevelBiasType(Handle<ExpressionTag>),
     /// Images of this dimension have no bias.
     InvalidSampleLevelBiasDimension(ImageDimension),
-    /// A derivative is not that of the coordinates of an image of this dimension.
+    /// A derivative doesn't fit the coordinates of an image of this dimension.
     InvalidSampleLevelGradientType(ImageDimension, Handle<ExpressionTag>),
     /// Coordinates can't be clamped to the edges together with this.
     InvalidSampleClampCoordinateToEdge(String),
-    /// The operand of a conversion is no scalar, vector or matrix, or there are no such scalars to convert
+    /// The operand of a conversion is neither a scalar nor a vector nor a matrix, or there are no such scalars to convert
     /// to.
     InvalidCastArgument,
     /// A math function has too few arguments, or a gap between them.
@@ -169,9 +169,9 @@ pub enum ExpressionError {
     MissingCapabilities(Capabilities),
     /// A literal is refused.
     Literal(LiteralError),
-    /// Never returned: the typing judges the arguments of math functions.
+    /// Never returned: the typing checks the arguments of math functions.
     UnsupportedWidth(MathFunction, ScalarKind, u8),
-    /// An operand of a cooperative multiplication is no cooperative matrix of its role.
+    /// An operand of a cooperative multiplication is not a cooperative matrix of its role.
     InvalidCooperativeOperand(Handle<ExpressionTag>),
     /// An integer is shifted by a constant of at least as many bits as it has, or that has such a component.
     ShiftAmountTooLarge {

@@ -39,13 +39,13 @@ pub struct UntypedExpression {
 /// The types of all expressions of a function, in order, each by those before it.
 ///
 /// An argument has its declared type, and a local variable is a pointer to its type; all else the typing
-/// resolves. The info allows every stage: no rule of an expression has been asked. It takes memory for
+/// resolves. The info allows every stage: no rule of an expression has been checked. It takes memory for
 /// the info, and what the typing takes; the time is linear in the number of expressions.
 ///
 /// # Errors
 ///
-/// The first expression without a type, with the types of those before it, by which their rules can be
-/// asked. Its error is
+/// The first expression without a type, with the types of the expressions before it, by which their rules can be
+/// checked. Its error is
 ///
 /// - `NotResolvable` if it names an argument that the function hasn't;
 /// - what the typing returns;

@@ -1,4 +1,4 @@
-//! What validation learns of a module, what expressions are judged by, and why they are refused.
+//! What validation learns of a module, what the validation of expressions depends on, and why they are refused.
 #![tactic(auto)]
 
 pub mod const_expression_error;

@@ -14,8 +14,8 @@ use std::alloc::{AllocError, Global};
 use std::marker::Model;
 use std::ops::Index;
 
-/// What is known of an accepted function or entry point: naga's `FunctionInfo`, as far as expressions
-/// are judged by it.
+/// What is known of an accepted function or entry point: naga's `FunctionInfo`, as far as the validation of
+/// expressions depends on it.
 #[derive(Debug, Drop)]
 pub struct FunctionInfo {
     /// The pipeline stages that may use it.
@@ -73,7 +73,7 @@ impl Clone for FunctionInfo {
 }
 
 /// What is known of an accepted module: naga's `ModuleInfo`. Contracts see a list for each kind of item, in
-/// the order of the module's, beside the room for types and global expressions that takes no more memory.
+/// the order of the module's, with the room for types and global expressions that takes no more memory.
 #[derive(Debug, Drop)]
 pub struct ModuleInfo {
     type_flags: HandleVec<TypeFlags, TypeTag>,

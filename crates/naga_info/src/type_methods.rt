@@ -1,4 +1,4 @@
-//! What the rules of several forms ask of the types of operands.
+//! What the rules of several variants require of the types of operands.
 
 ghost use Rattle.std.specs.Prelude.{◌≡◌};
 ghost use Rattle.naga_info.specs.Words as words;
@@ -39,7 +39,7 @@ pub fn is_number(kind: ScalarKind) -> bool
     }
 }
 
-/// Whether a type is that of one integer, of any width.
+/// Whether a type is one integer, of any width.
 pub fn is_integer_scalar(inner: &TypeInner) -> bool
     ensures { result ≡ words.is_integer_scalar inner.now }
 {

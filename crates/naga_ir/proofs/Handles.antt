@@ -26,7 +26,7 @@ exists_globally m (to.Function f) h = tt
 exists_globally m (to.DiagnosticFilterNode d) h = tt
 exists_globally m (to.Emit range) h = tt
 
--- if the handles of a module are right, so are those of its global lists
+-- if the handles of a module are right, the handles of its global lists are
 pub global_references_ok : (m : Module) → HandlesAccepted m → GlobalReferencesOk (global_lists m)
 global_references_ok m h = record {
   exist = λ k d within. exists_globally m _ (h.exist.globals k d within);
@@ -40,7 +40,7 @@ variable_types m f all k d within =
     All-contains (Exists (function_counts m f)) (flat_map local_variable_references f.local_variables) (to.Type_ v.ty) all
     (within_all local_variable_references f.local_variables k v (to.Type_ v.ty) (slice_get-get_or f.local_variables k d within) (0, omega arith, refl))
 
--- and those of each of its functions and entry points
+-- and so are the handles of each of its functions and entry points
 pub function_references_ok : (m : Module) (f : Function) → Contains (all_functions m) f → HandlesAccepted m → FunctionReferencesOk m f
 function_references_ok m f among h =
     let In = Exists (function_counts m f) in

@@ -19,7 +19,7 @@ use Rattle.naga_ir.proofs.SameType.{type_same}
 use Rattle.naga_ir.specs.Distinct.{AllDistinct}
 
 module _ {K : Type 0} {eq : K → K → Bool} (laws : IsEquivalence eq) where
-  -- the index of an item is that of the first item equal to it
+  -- the index of an item is the index of the first item equal to it
   pub place_is : (ks : List K) (i : ℕ) (k : K) → IsDistinct eq ks → slice_get ks i ≡ Some k → position_or_len (eq k) ks ≡ i
   place_is ks i k unique at =
       let here : get_or ks i k ≡ k = get_or_from_slice_get ks i k k at in

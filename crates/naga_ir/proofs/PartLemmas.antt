@@ -1,4 +1,4 @@
--- The types that a form names, of the forms that name some.
+-- The types that a type names, for the variants that name some.
 use Rattle.std.proofs.Common.{◌≡◌, ◌<◌, ℕ, List, All, Contains, length, map, get_or, refl, subst, sym, arith}
 use Rattle.std.proofs.lemmas.List.{get_or-map, length-map}
 use Rattle.naga_ir.specs.Parts.{parts}

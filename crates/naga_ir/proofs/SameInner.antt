@@ -1,4 +1,4 @@
--- `==` of two forms of types decides equality of the values that contracts see.
+-- `==` of two `TypeInner` decides equality of the values that contracts see.
 use mathlib.Core.HLevel.{is_prop→PathP}
 use Rattle.std.proofs.Math.Bridge.{le_prop}
 use Rattle.std.proofs.Common.{rules, ◌<◌, ◌≡◌, ℕ, List, Bool, true, refl, subst, ap}
@@ -146,6 +146,6 @@ inner_same (RayQuery v) (RayQuery w) h = search rules
 inner_same (BindingArray base size) (BindingArray base' size') h = binding_array base base' size size' h
 inner_same _ _ h = cc
 
--- `==` of two forms decides whether they are equal
+-- `==` of two `TypeInner` decides whether they are equal
 pub inner_decides : (a b : TypeInner) → Decides (ghosts.eq a b) (a ≡ b)
 inner_decides a b = (inner_same a b, λ e. subst (λ (x : TypeInner). ghosts.eq a x ≡ true) e (inner_laws.laws-law.refl a))

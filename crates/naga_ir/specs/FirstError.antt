@@ -14,7 +14,7 @@ pub record IsFirstErrorOf {A E : Type 0} (checks : A → Result (Unit {0}) E →
   pub accepted_before : AcceptsAll checks before
   pub refused : checks item (Err error)
 
--- all items are accepted, or the error is that of the first that is refused
+-- all items are accepted, or `error` is the error of the first that is refused
 pub record ChecksEach {A E : Type 0} (checks : A → Result (Unit {0}) E → Type 0) (items : List A) (result : Result (Unit {0}) E) : Type 0 where
   pub accepted : OnOk result (AcceptsAll checks items)
   pub refused : IfErr result (IsFirstErrorOf checks items)

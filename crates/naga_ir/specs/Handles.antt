@@ -31,7 +31,7 @@ pub record Counts : Type 0 where
   pub functions : ℕ
   pub diagnostic_filters : ℕ
 
--- those of a module, whose global expressions see no local variable
+-- the counts of a module, whose global expressions see no local variable
 abbrev pub module_counts : Module → Counts
 module_counts m = record {
   types = length m.types;
@@ -44,7 +44,7 @@ module_counts m = record {
   diagnostic_filters = length m.diagnostic_filters;
 }
 
--- those of a function, which sees its own expressions and variables
+-- the counts of a function, which sees its own expressions and variables
 abbrev pub function_counts : Module → Function → Counts
 function_counts m f = record (module_counts m) { expressions = length f.expressions; local_variables = length f.local_variables }
 
@@ -124,7 +124,7 @@ abbrev pub sized_by : List Override → Option «Type» → Option ℕ
 sized_by overrides None = None
 sized_by overrides (Some x) = initialiser_at overrides (size_override x.inner)
 
--- that of the type of an index
+-- the size initialiser of the type of an index
 unfoldable pub size_initialiser : GlobalLists → ℕ → Option ℕ
 size_initialiser g t = sized_by g.overrides (slice_get g.types t)
 
@@ -142,7 +142,7 @@ pub record HandlesAccepted (m : Module) : Type 0 where
   pub back : ReferencesPrecede (OrderedInModule m)
   pub gates : SizesResolveFirst (global_lists m)
 
--- what is referred to is no local variable, and exists if it is a type, constant, override or global expression
+-- what is referred to is not a local variable, and exists if it is a type, constant, override or global expression
 abbrev pub ExistsGlobally : GlobalLists → Reference → Type 0
 ExistsGlobally g (to.Type_ t) = t < length g.types
 ExistsGlobally g (to.Constant c) = c < length g.constants

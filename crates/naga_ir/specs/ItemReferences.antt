@@ -27,7 +27,7 @@ use Rattle.naga_ir.specs.declared.reference.Reference.TheVariants as to
 abbrev pub type_references : TypeInner → List Reference
 type_references inner = map to.Type_ (parts inner) ++ map to.Override (option_to_list (size_override inner))
 
--- beside its operands an expression refers to the type that it names and to the item that it names
+-- an expression refers to its operands, and also to the type and the item that it names
 abbrev pub named_references : Expression → List Reference
 named_references x = map to.Type_ (option_to_list (named_type x)) ++ option_to_list (named_item x)
 
@@ -112,7 +112,7 @@ pub record GlobalLists : Type 0 where
   pub overrides : List Override
   pub expressions : List Expression
 
--- those of a module
+-- the references of a module
 abbrev pub global_lists : Module → GlobalLists
 global_lists m = record { types = m.types; constants = m.constants; overrides = m.overrides; expressions = m.global_expressions }
 
@@ -137,6 +137,6 @@ other_references m =
 abbrev pub filter_references : Module → List Reference
 filter_references m = flat_map (λ (n : DiagnosticFilterNode). map to.DiagnosticFilterNode (option_to_list n.parent)) m.diagnostic_filters
 
--- the functions of a module, and those of its entry points
+-- the functions of a module, and of its entry points
 abbrev pub all_functions : Module → List Function
 all_functions m = m.functions ++ map (λ (p : EntryPoint). p.function) m.entry_points

@@ -5,7 +5,7 @@ use Rattle.naga_ir.specs.ItemReferences.{GlobalLists}
 use Rattle.naga_ir.specs.declared.reference.Reference.{Reference}
 use Rattle.naga_ir.specs.declared.reference.Reference.TheVariants as to
 
--- how many expressions a size asks for
+-- how many expressions a size needs
 abbrev pub reach : Option ℕ → ℕ
 reach None = 0
 reach (Some n) = n + 1
@@ -24,15 +24,15 @@ least p (suc n) = if p 0 then 0 else suc (least (λ t. p (suc t)) n)
 abbrev pub asks_for : GlobalLists → ℕ → ℕ → Bool
 asks_for g e t = nat_lt e (reach (size_initialiser g t))
 
--- the first type that asks for e, or the number of types
+-- the first type whose size needs expression `e`, or the number of types
 unfoldable pub gate : GlobalLists → ℕ → ℕ
 gate g e = least (asks_for g e) (length g.types)
 
--- a type comes after the types before it, and after all expressions that they and it ask for
+-- a type comes after the types before it, and after all expressions that their sizes and its own need
 abbrev pub rank_of_type : GlobalLists → ℕ → ℕ
 rank_of_type g t = t + top_before g (t + 1)
 
--- an expression comes after the expressions before it, and after all types before the first that asks for it
+-- an expression comes after the expressions before it, and after all types before the first whose size needs it
 abbrev pub rank_of_expression : GlobalLists → ℕ → ℕ
 rank_of_expression g e = e + gate g e
 

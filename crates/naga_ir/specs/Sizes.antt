@@ -7,7 +7,7 @@ use Rattle.naga_ir.specs.declared.types.CooperativeSize.TheVariants.{Eight, Sixt
 use Rattle.naga_ir.specs.declared.types.VectorSize.{VectorSize}
 use Rattle.naga_ir.specs.declared.types.VectorSize.TheVariants.{Bi, Tri, Quad}
 
--- a kind is one of numbers, unless it is that of truth values
+-- `kind` is a kind of numbers, that is not `Bool`
 abbrev pub is_numeric : ScalarKind → Boolean
 is_numeric Sint = true
 is_numeric Uint = true

@@ -1,4 +1,4 @@
--- What can be read off a type alone.
+-- What can be read off a type by itself.
 use Rattle.std.specs.Prelude.{ℕ, Bool as Boolean, false, not, Option, Some, None, ⊤}
 use Rattle.naga_ir.specs.declared.types.Scalar.{Scalar as ScalarType}
 use Rattle.naga_ir.specs.declared.types.ImageClass.{ImageClass}
@@ -24,7 +24,7 @@ scalar_of (AccelerationStructure vertex_return) = None
 scalar_of (RayQuery vertex_return) = None
 scalar_of (BindingArray base size) = None
 
--- the scalar of a scalar or a vector, beside the number of components of a vector; other types have none
+-- the scalar of a scalar or a vector, and the number of components of a vector; other types have none
 abbrev pub vector_size_and_scalar : TypeInner → Option (Option VectorSize × ScalarType)
 vector_size_and_scalar (Scalar scalar) = Some (None, scalar)
 vector_size_and_scalar (Vector size scalar) = Some (Some size, scalar)
@@ -41,7 +41,7 @@ vector_size_and_scalar (AccelerationStructure vertex_return) = None
 vector_size_and_scalar (RayQuery vertex_return) = None
 vector_size_and_scalar (BindingArray base size) = None
 
--- a form is a struct
+-- `inner` is a struct
 abbrev pub IsStruct : TypeInner → Type 0
 IsStruct (Scalar scalar) = ⊥
 IsStruct (Vector size scalar) = ⊥
@@ -58,7 +58,7 @@ IsStruct (AccelerationStructure vertex_return) = ⊥
 IsStruct (RayQuery vertex_return) = ⊥
 IsStruct (BindingArray base size) = ⊥
 
--- a form is no struct
+-- `inner` is not a struct
 abbrev pub IsNoStruct : TypeInner → Type 0
 IsNoStruct (Scalar scalar) = ⊤
 IsNoStruct (Vector size scalar) = ⊤

@@ -1,3 +1,3 @@
--- What private functions alone promise one another.
+-- What only private functions promise one another.
 pub mod OperandForms
 pub mod StatementParts

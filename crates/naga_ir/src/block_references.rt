@@ -153,7 +153,7 @@ fn arguments(statement: &Statement) -> &[Handle<ExpressionTag>]
     }
 }
 
-/// The expressions that a statement names beside the arguments of a call, which are five at most.
+/// The expressions that a statement names, besides the arguments of a call: five at most.
 type Operands = [Option<Handle<ExpressionTag>>; 5];
 
 /// The expressions that a statement names, in order: of a call, those after the arguments.

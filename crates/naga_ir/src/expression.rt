@@ -126,7 +126,7 @@ pub enum BinaryOperator {
     ShiftRight,
 }
 
-/// A query of a truth value or number.
+/// A query of a bool or number.
 #[derive(Clone, Copy, Debug, PartialEq, Eq)]
 pub enum RelationalFunction {
     All,
@@ -200,7 +200,7 @@ pub enum MathFunction {
 
 /// A value that is computed from the values of preceding expressions.
 ///
-/// An expression is no instruction: a function's statements say when it is evaluated.
+/// An expression is not an instruction: a function's statements say when it is evaluated.
 #[derive(Debug, Drop)]
 pub enum Expression {
     /// A literal.
@@ -363,7 +363,7 @@ pub enum Expression {
     /// A cooperative matrix from memory.
     CooperativeLoad {
         pointer: Handle<ExpressionTag>,
-        /// From the start of a column or row to that of the next, in elements.
+        /// From the start of a column or row to the start of the next, in elements.
         stride: Handle<ExpressionTag>,
     },
     /// `a * b + c` of cooperative matrices.

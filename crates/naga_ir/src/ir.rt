@@ -1,4 +1,4 @@
-//! A shader module and what it holds beside types, expressions and statements.
+//! A shader module and what it holds besides types, expressions and statements.
 
 ghost use Rattle.std.specs.Prelude.{◌≡◌, [], None};
 ghost use Rattle.naga_ir.specs.OnlyTypes.{HasNoComments, HasNoSpecialTypes, HasOnlyTypes};
@@ -175,7 +175,7 @@ impl SpecialTypes {
     }
 }
 
-/// Comments of the source that document items, each beside what it is about.
+/// Comments of the source that document items, each with what it is about.
 #[derive(Debug, Drop)]
 pub struct DocComments {
     /// Of the module itself.

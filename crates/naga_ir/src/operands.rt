@@ -157,7 +157,7 @@ impl Expression {
         }
     }
 
-    /// The operands in the fields of a form that reads no image. There are four at most.
+    /// The operands in the fields of a variant that reads no image. There are four at most.
     #[tactic(auto, unfolding(crate::specs::References::operands))]
     fn plain_operands(&self) -> [Option<Handle<ExpressionTag>>; 4]
         ensures { ReadsNoImage self.now → present result ++ listed self.now ≡ spec.operands self.now }

@@ -53,7 +53,7 @@ fn pending(size: ArraySize) -> Option<Handle<OverrideTag>>
 }
 
 impl TypeInner {
-    /// The types that this one is made of: that of a pointer's target, of an array's elements, or of
+    /// The types that this one is made of: the type of a pointer's target, of an array's elements, or of
     /// each member of a struct.
     #[tactic(auto, unfolding(crate::specs::Parts::parts))]
     pub fn parts(&self) -> Parts<'_>

@@ -1,4 +1,4 @@
-//! Statements, and the blocks that they form and contain.
+//! Statements, and the blocks that they make up and contain.
 
 ghost use Rattle.std.specs.Prelude.{◌≡◌, [], ◌∷◌, ◌++◌, OnErr, OnOk};
 
@@ -223,10 +223,10 @@ pub enum Statement {
     },
     /// A step of a ray tracing pipeline.
     RayPipelineFunction(RayPipelineFunction),
-    /// Asks all invocations of the subgroup for a truth value.
+    /// Collects a bool from all invocations of the subgroup.
     SubgroupBallot {
         result: Handle<ExpressionTag>,
-        /// What is asked; without it, each says that it takes part.
+        /// The bool; without it, each invocation takes part with true.
         predicate: Option<Handle<ExpressionTag>>,
     },
     /// Takes values of other invocations of the subgroup.
@@ -235,7 +235,7 @@ pub enum Statement {
         argument: Handle<ExpressionTag>,
         result: Handle<ExpressionTag>,
     },
-    /// Makes one value of those of the subgroup.
+    /// Makes one value of the values of the subgroup.
     SubgroupCollectiveOperation {
         op: SubgroupOperation,
         argument: Handle<ExpressionTag>,
@@ -246,7 +246,7 @@ pub enum Statement {
         /// The matrix.
         target: Handle<ExpressionTag>,
         pointer: Handle<ExpressionTag>,
-        /// From the start of a column or row to that of the next, in elements.
+        /// From the start of a column or row to the start of the next, in elements.
         stride: Handle<ExpressionTag>,
     },
 }

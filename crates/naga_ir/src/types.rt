@@ -28,14 +28,14 @@ pub enum ScalarKind {
     Float,
     /// Boolean values.
     Bool,
-    /// WGSL's abstract integers, of constant expressions alone.
+    /// WGSL's abstract integers, which only constant expressions have.
     AbstractInt,
-    /// WGSL's abstract floating-point numbers, of constant expressions alone.
+    /// WGSL's abstract floating-point numbers, which only constant expressions have.
     AbstractFloat,
 }
 
 impl ScalarKind {
-    /// Whether the values are numbers: those of every kind but `Bool`.
+    /// Whether the values are numbers: of every kind but `Bool`.
     pub fn is_numeric(self) -> bool
         ensures { result ≡ is_numeric self }
     {
@@ -344,10 +344,10 @@ pub enum AddressSpace {
     IncomingRayPayload,
 }
 
-/// The form of a type.
+/// What a type is made of.
 #[derive(Clone, Debug, PartialEq, Eq, Hash, Drop)]
 pub enum TypeInner {
-    /// A number or a truth value.
+    /// A number or a bool.
     Scalar(Scalar),
     /// Scalars of one type, by their components.
     Vector {
@@ -400,7 +400,7 @@ pub enum TypeInner {
         base: Handle<TypeTag>,
         /// The number of elements.
         size: ArraySize,
-        /// From the start of an element to that of the next, in bytes.
+        /// From the start of an element to the start of the next, in bytes.
         stride: u32,
     },
     /// Members, each with a type and an offset.
@@ -444,7 +444,7 @@ pub enum TypeInner {
 }
 
 impl TypeInner {
-    /// An equal form, in memory of its own. Only a struct takes any.
+    /// An equal `TypeInner`, in memory of its own. Only a struct takes any.
     ///
     /// # Errors
     ///
@@ -479,7 +479,7 @@ impl TypeInner {
         }
     }
 
-    /// The scalar of a scalar or a vector, beside the number of components of a vector. Other types have
+    /// The scalar of a scalar or a vector, and the number of components of a vector. Other types have
     /// none.
     pub fn vector_size_and_scalar(&self) -> Option<(Option<VectorSize>, Scalar)>
         ensures { result ≡ vector_size_and_scalar self.now }
@@ -526,11 +526,11 @@ impl TypeInner {
     }
 }
 
-/// A type of a module. Two types are equal if their names and their forms are.
+/// A type of a module. Two types are equal if their names and their `inner` are.
 #[derive(Clone, Debug, PartialEq, Eq, Hash, Drop)]
 pub struct Type {
     pub name: Option<Text>,
-    /// The form.
+    /// What it is made of.
     pub inner: TypeInner,
 }
 

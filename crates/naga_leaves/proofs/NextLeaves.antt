@@ -51,7 +51,7 @@ start_begun a e = ap (λ (b : Bool). if b then place_start a.place else []) e
 left_begun : (a : Leaves) → a.is_begun ≡ true → fuel a ≡ place_left a.place
 left_begun a e = ap (λ (b : Bool). if b then place_left a.place else suc (place_left a.place)) e
 
--- what is so of the type of one cursor is so of that of another that goes over the same
+-- what holds of the type of one cursor holds of the type of another that goes over the same
 over : (P : GlobalLists → ℕ → ℕ → Type 0) (a b : Leaves) → IsOverSame a b → P (lists_under b) b.length b.place.ty → P (lists_under a) a.length a.place.ty
 over P a b same h =
     subst (λ g. P g a.length a.place.ty) same.lists

@@ -30,7 +30,7 @@ among_members inner members span i m e at =
     member_of members i m all at =
         subst (λ (n : StructMember). Contains (parts inner) n.ty) (get_or_from_slice_get members i m m at) (all i m (slice_get_within members i m at))
 
--- a part is one of the types that the form names
+-- a part is one of the types that `inner` names
 pub part_is_named : (elements_of : Elements) (inner : TypeInner) (i : ℕ) (part : Part) → part_at elements_of inner i ≡ Some part → Contains (parts inner) part.ty
 part_is_named elements_of (Array base size stride) i part h =
     let element : Part = record { ty = base; first = i * stride } in

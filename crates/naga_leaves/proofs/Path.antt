@@ -34,7 +34,7 @@ begins_at_none g inner leaf h =
     sym (ap (λ (l : LeafBytes). l.first) (cond_some (is_leaf inner) all leaf h).1)
 
 module _ (g : GlobalLists) (elements_of : Elements) where
-  -- the leaf of a form to which no index leads, or an index and a path
+  -- the leaf of a type to which no index leads, or an index and a path
   pub leaf_of_nothing : (t : ℕ) (x : «Type») → slice_get g.types t ≡ Some x → leaf_at g elements_of t [] ≡ whole_leaf g x.inner
   unfolding leaf_at
   leaf_of_nothing t x at = ap (λ (o : Option «Type»). option_and_then (whole_leaf g) (option_map (λ (ty : «Type»). ty.inner) o)) at
@@ -50,13 +50,13 @@ module _ (g : GlobalLists) (elements_of : Elements) where
   none_in_no_part t i path x at none =
       leaf_of_part t i path x at ∙ ap (option_and_then (λ part. option_map (moved part.first) (leaf_at g elements_of part.ty path))) none
 
-  -- if there is, the leaf is that of the part
+  -- if there is, the leaf is the leaf of the part
   pub leaf_in_part : (t i : ℕ) (path : List ℕ) (x : «Type») (part : Part) → slice_get g.types t ≡ Some x → part_at elements_of x.inner i ≡ Some part
       → leaf_at g elements_of t (i ∷ path) ≡ option_map (moved part.first) (leaf_at g elements_of part.ty path)
   leaf_in_part t i path x part at is =
       leaf_of_part t i path x at ∙ ap (option_and_then (λ part. option_map (moved part.first) (leaf_at g elements_of part.ty path))) is
 
-  -- from a type the first indexes of a path lead to a part that begins at a byte: the leaf is that of the part at the rest of the path
+  -- from a type the first indexes of a path lead to a part that begins at a byte: the leaf is the leaf of the part at the rest of the path
   pub record Following (whole ty : ℕ) (path : List ℕ) (first : ℕ) (rest : List ℕ) : Type 0 where
     pub exists : ty < length g.types
     pub leaf : leaf_at g elements_of whole path ≡ option_map (moved first) (leaf_at g elements_of ty rest)

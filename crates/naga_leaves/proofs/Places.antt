@@ -106,7 +106,7 @@ module _ (g : GlobalLists) (elements_of : Elements) where
       by None at h = absurd (none-some child h)
       by (Some x) at h = (part_comes_before g ok elements_of t x i child at h, slice_get_within g.types t x at)
 
-  -- the leaf at an index and a path is that of the part at the path
+  -- the leaf at an index and a path is the leaf of the part at the path
   pub leaf_at_part : (t i : ℕ) (rest : List ℕ) (child : spec.Part) → part_of_type g elements_of t i ≡ Some child
       → leaf_at g elements_of t (i ∷ rest) ≡ option_map (moved child.first) (leaf_at g elements_of child.ty rest)
   unfolding leaf_at

@@ -30,7 +30,7 @@ module _ (g : GlobalLists) (elements_of : Elements) (t : ℕ) where
   abbrev LeafAt : List ℕ → Option LeafBytes
   LeafAt = leaf_at g elements_of t
 
-  -- if there is no leaf at a path, the leaves from it are those from its extensions on
+  -- if there is no leaf at a path, the leaves from it on are the leaves from its extensions on
   pub past_none : (b : List ℕ) → leaf_at g elements_of t b ≡ None → HasSameFrom g elements_of t b (b ++ 0 ∷ [])
   past_none b none = record {
     into = λ q l h. record { has = h.has; after = to_extension b q h.after (λ e. none-some l (sym (ap (leaf_at g elements_of t) e ∙ none) ∙ h.has.there)) };
@@ -225,7 +225,7 @@ module _ (g : GlobalLists) (ok : GlobalReferencesOk g) (elements_of : Elements) 
       leaf_now = ap (λ t. leaf_at g elements_of t now.path.items) (sym entered.ty)
           ∙ (ap (leaf_at g elements_of now.ty) (sym (append-nil now.path.items)) ∙ leaf_in_place g elements_of now.ty now.outer.items now.path.items now.part entered_place.leads [])
 
-      -- at a part that is no leaf no leaf is passed
+      -- at a part that is not a leaf no leaf is passed
       pub entered_same : option_map (moved now.part.first) (leaf_at g elements_of now.part.ty []) ≡ None → HasSameFrom g elements_of before.ty (place_start before) (place_start now)
       entered_same none =
           subst (λ b. HasSameFrom g elements_of before.ty b (place_start now)) (sym starts_before)

@@ -1,4 +1,4 @@
--- To read first, after those of naga_typing:
+-- To read first, after the definitions of naga_typing:
 -- Leaf.bytes_of: a leaf of the code as one of the definition
 -- LeavesFrom.HasLeaf: a type has a leaf at a path of indexes of 32 bits, and it begins at a byte of 64 bits
 -- Cursor.YieldsAll: a cursor has still to come to all leaves of a type

@@ -37,7 +37,7 @@ weight (suc t) = (suc (suc (suc largest_u32))) * weight t
 abbrev pub part_left : ℕ → ℕ → ℕ
 part_left t next = (suc (suc largest_u32) - next) * weight t
 
--- the steps that are left in the parts around, each from the index after that of the path
+-- the steps that are left in the parts around, each from the index after the index of the path
 unfoldable pub outer_left : List Part → List ℕ → ℕ
 outer_left [] path = 0
 outer_left (part ∷ outer) [] = 0
@@ -63,7 +63,7 @@ pub record IsUnmoved (before now : Place) : Type 0 where
   pub outer : now.outer.items ≡ before.outer.items
   pub path : now.path.items ≡ before.path.items
 
--- a place went back to the part around its part, to the index after that of its path
+-- a place went back to the part around its part, to the index after the index of its path
 pub record IsLeft (before now : Place) (index : ℕ) : Type 0 where
   pub ty : now.ty ≡ before.ty
   pub next : now.next ≡ index + 1

@@ -26,7 +26,7 @@ use std::alloc::Global;
 enum Step {
     /// A leaf.
     Leaf(Leaf),
-    /// A part that is no leaf, or what follows a part.
+    /// A part that is not a leaf, or what follows a part.
     Other,
     /// The end of the whole value.
     End,
@@ -130,7 +130,7 @@ impl Place {
 
 /// The leaves of a type, one after another, in the lexicographic order of their paths.
 ///
-/// It requests memory for a path alone, as deep as arrays and structs are nested, and visits an
+/// It requests memory only for a path, as deep as arrays and structs are nested, and visits an
 /// element when it comes to it: an array may have 4294967295.
 #[derive(Drop)]
 pub struct Leaves<'a> {

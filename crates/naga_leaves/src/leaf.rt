@@ -99,7 +99,7 @@ pub(crate) fn part_at(
     }
 }
 
-/// The alignment of a leaf, in bytes, or `None` if the form is no leaf.
+/// The alignment of a leaf, in bytes, or `None` if `inner` is not a leaf.
 fn leaf_alignment(inner: &TypeInner) -> Option<u32>
     ensures { result ≡ (if is_leaf inner.now then Some (alignment_of [] inner.now) else None) }
 {
@@ -125,7 +125,7 @@ fn leaf_alignment(inner: &TypeInner) -> Option<u32>
     }
 }
 
-/// All bytes of a value that is a leaf, or `None` if its form is no leaf.
+/// All bytes of a value that is a leaf, or `None` if `inner` is not a leaf.
 pub(crate) fn whole_leaf(inner: &TypeInner, gctx: GlobalCtx<'_>) -> Option<Leaf>
     requires exist { ReferencesExist (lists_of gctx) inner.now }
     requires references { GlobalReferencesOk (lists_of gctx) }
@@ -146,7 +146,7 @@ pub(crate) fn whole_leaf(inner: &TypeInner, gctx: GlobalCtx<'_>) -> Option<Leaf>
 /// It is `None` if there is no such leaf, or if the leaf would begin past the byte `u64::MAX`, which
 /// no leaf of an accepted type does unless a stride is less than the size of its elements. An array
 /// that an override sizes has as many elements as the initialiser of the override says, and none if
-/// that is no index constant above 0.
+/// that is not an index constant above 0.
 ///
 /// The cost is linear in the length of the path, and no memory is requested.
 pub fn leaf_at(module: &Module, ty: Handle<TypeTag>, path: &[u32], length: u32) -> Option<Leaf>

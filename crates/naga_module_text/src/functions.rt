@@ -49,7 +49,7 @@ pub fn part_of(word: &[u8]) -> Option<Part> {
     chosen(&parts, word)
 }
 
-/// What an entry point has beside its function.
+/// What an entry point has besides its function.
 #[derive(Drop)]
 struct EntryParts {
     name: Text,
@@ -207,7 +207,7 @@ impl OpenFunction {
         Ok(())
     }
 
-    /// What an entry point has beside its function, if this is one.
+    /// What an entry point has besides its function, if this is one.
     fn entry_parts(&mut self) -> Result<&mut EntryParts, Unread> {
         known(self.entry.as_mut())
     }

@@ -20,11 +20,11 @@ none_held : (found : Option Forbidden) (forbidden : Forbidden) → found ≡ Non
 none_held found forbidden none some = cc (none, some)
 
 module _ (s : ExpressionSurroundings) (op : BinaryOperator) (left right : ℕ) (x y : TypeInner) (on_left : x ≡ form_at s left) (on_right : y ≡ form_at s right) (result : Result ShaderStages ExpressionError) where
-  -- whether the operands fit, said of their forms
+  -- whether the operands fit, by their types
   fit : (fits : Bool) → operands_fit op x y ≡ fits → operands_fit op (form_at s left) (form_at s right) ≡ fits
   fit fits h = subst₂ (λ a b. operands_fit op a b ≡ fits) on_left on_right h
 
-  -- what is forbidden, said of the form on the left
+  -- what is forbidden, by the type on the left
   found : (forbidden : Option Forbidden) → forbidden_on_right op x ≡ forbidden → forbidden_on_right op (form_at s left) ≡ forbidden
   found forbidden h = subst (λ a. forbidden_on_right op a ≡ forbidden) on_left h
 

@@ -36,14 +36,14 @@ module _ (s : ExpressionSurroundings) where
   composition_owns_none ty components _ n (literal_value v _ _) e = cc e
   composition_owns_none ty components _ _ (zero_value t _) e = cc e
 
-  -- the integers of a splat are those of what is splatted
+  -- the integers of a splat are the integers of what is splatted
   from_splat : (p : Place) (size : VectorSize) (value : ℕ) (n : ℤ) → ContainsInteger s p n → expression_at s p ≡ Some (form.Splat size value) → ContainsInteger s (operand_place p value) n
   from_splat p size value n (itself _ x _ at own) is = let same : x ≡ form.Splat size value = cc (sym at ∙ is) in absurd (splat_owns_none size value x n own same)
   from_splat p size value n (splatted _ k v _ at h) is = let same : v ≡ value = cc (sym at ∙ is) in subst (λ v. ContainsInteger s (operand_place p v) n) same h
   from_splat p size value n (component _ ty components c _ at within h) is = cc (sym at ∙ is)
   from_splat p size value n (initialiser _ c d _ at names h) is = cc (sym at ∙ is)
 
-  -- the integers of a constant are those of its initialiser
+  -- the integers of a constant are the integers of its initialiser
   from_constant : (p : Place) (c : ℕ) (d : Constant) (n : ℤ) → ContainsInteger s p n → expression_at s p ≡ Some (form.Constant c) → slice_get s.«module».constants c ≡ Some d → ContainsInteger s (InModule d.init) n
   from_constant p c d n (itself _ x _ at own) is names = let same : x ≡ form.Constant c = cc (sym at ∙ is) in absurd (constant_owns_none c x n own same)
   from_constant p c d n (splatted _ k v _ at h) is names = cc (sym at ∙ is)
@@ -53,7 +53,7 @@ module _ (s : ExpressionSurroundings) where
       let one : e ≡ d = cc (sym named ∙ (ap (slice_get s.«module».constants) same ∙ names)) in
       subst (λ (d : Constant). ContainsInteger s (InModule d.init) n) one h
 
-  -- an integer of a composition is that of a component
+  -- an integer of a composition is an integer of a component
   pub from_composition : (p : Place) (ty : ℕ) (components : List ℕ) (n : ℤ) → ContainsInteger s p n → expression_at s p ≡ Some (form.Compose ty components) → (c : ℕ) × Contains components c × ContainsInteger s (operand_place p c) n
   from_composition p ty components n (itself _ x _ at own) is = let same : x ≡ form.Compose ty components = cc (sym at ∙ is) in absurd (composition_owns_none ty components x n own same)
   from_composition p ty components n (splatted _ k v _ at h) is = cc (sym at ∙ is)

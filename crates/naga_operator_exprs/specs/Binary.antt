@@ -26,7 +26,7 @@ use Rattle.naga_types.specs.Checks.{when}
 use Rattle.naga_types.specs.TypeMethods.{is_sized}
 use Rattle.naga_types.specs.TypeRule.{is_integer}
 
--- a kind is that of unsigned integers
+-- `kind` is `Uint`
 abbrev pub is_unsigned : ScalarKind → Boolean
 is_unsigned Uint = true
 is_unsigned Sint = false
@@ -35,11 +35,11 @@ is_unsigned Bool = false
 is_unsigned AbstractInt = false
 is_unsigned AbstractFloat = false
 
--- two forms are equal, and each is a scalar whose kind is so, or a vector of such
+-- two types are equal, and each is a scalar whose kind satisfies `is`, or a vector of such
 abbrev pub are_both : (ScalarKind → Boolean) → TypeInner → TypeInner → Boolean
 are_both is x y = consists_of (λ scalar. is scalar.kind) x && are_equal x y
 
--- a form is that of matrices, of either kind
+-- `inner` is a matrix, cooperative or not
 abbrev pub is_any_matrix : TypeInner → Boolean
 is_any_matrix (Matrix columns rows scalar) = true
 is_any_matrix (CooperativeMatrix columns rows scalar role) = true
@@ -56,7 +56,7 @@ is_any_matrix (AccelerationStructure vertex_return) = false
 is_any_matrix (RayQuery vertex_return) = false
 is_any_matrix (BindingArray base size) = false
 
--- two forms are added: equal ones, of numbers, vectors of numbers, or matrices
+-- values of two types are added: equal types, of numbers, vectors of numbers, or matrices
 abbrev pub can_add : TypeInner → TypeInner → Boolean
 can_add x y = are_both is_number x y || is_any_matrix x && are_equal x y
 
@@ -103,7 +103,7 @@ abbrev pub forbidden_shift : Option (Option VectorSize × ScalarType) → Option
 forbidden_shift (Some x) = when (is_integer x.1.kind) (Some (AtLeast (bits_per_byte * x.1.width)))
 forbidden_shift None = None
 
--- what a constant must not be on the right of an operator, by the form on the left
+-- what a constant must not be on the right of an operator, by the type on the left
 abbrev pub forbidden_on_right : BinaryOperator → TypeInner → Option Forbidden
 forbidden_on_right ShiftLeft x = forbidden_shift (vector_size_and_scalar x)
 forbidden_on_right ShiftRight x = forbidden_shift (vector_size_and_scalar x)
@@ -124,7 +124,7 @@ forbidden_on_right InclusiveOr x = None
 forbidden_on_right LogicalAnd x = None
 forbidden_on_right LogicalOr x = None
 
--- the refusal of a constant on the right, by the form on the left
+-- the error of a constant on the right, by the type on the left
 abbrev pub refusal_of : Forbidden → TypeInner → ℕ → ExpressionError
 refusal_of (AtLeast bound) x right = ShiftAmountTooLarge x right
 refusal_of Zero x right = DivideByZero
@@ -133,13 +133,13 @@ refusal_of Zero x right = DivideByZero
 abbrev pub RightIsForbidden : ExpressionSurroundings → BinaryOperator → ℕ → ℕ → Forbidden → Type 0
 RightIsForbidden s op left right forbidden = (forbidden_on_right op (form_at s left) ≡ Some forbidden) × ContainsForbidden s forbidden (InFunction right)
 
--- what is meant by the rule of an operator: the operands don't fit; or they do, and a constant on the right is forbidden; or they do, and none is
+-- the rule of an operator: the operands don't fit; or they do, and a constant on the right is forbidden; or they do, and none is
 pub data IsBinaryRule (s : ExpressionSurroundings) (op : BinaryOperator) (left right : ℕ) : Result ShaderStages ExpressionError → Type 0 where
   wrong_operands : operands_fit op (form_at s left) (form_at s right) ≡ false → IsBinaryRule s op left right (Err (InvalidBinaryOperandTypes op left (form_at s left) right (form_at s right)))
   forbidden_constant : (forbidden : Forbidden) → operands_fit op (form_at s left) (form_at s right) ≡ true → RightIsForbidden s op left right forbidden
       → IsBinaryRule s op left right (Err (refusal_of forbidden (form_at s left) right))
   accepted : operands_fit op (form_at s left) (form_at s right) ≡ true → ((forbidden : Forbidden) → RightIsForbidden s op left right forbidden → ⊥) → IsBinaryRule s op left right (Ok every_stage)
 
--- a call returns what is meant by the rule of an operator, out of memory aside
+-- a call returns the rule of an operator, out of memory aside
 abbrev pub IsBinaryResult : ExpressionSurroundings → BinaryOperator → ℕ → ℕ → Result ShaderStages ExpressionError → Type 0
-IsBinaryResult s op left right result = (meant : Result ShaderStages ExpressionError) × IsBinaryRule s op left right meant × IsRuleResult meant result
+IsBinaryResult s op left right result = (rule : Result ShaderStages ExpressionError) × IsBinaryRule s op left right rule × IsRuleResult rule result

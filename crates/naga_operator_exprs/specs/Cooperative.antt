@@ -12,7 +12,7 @@ use Rattle.naga_info.specs.declared.expression_error.ExpressionError.{Expression
 use Rattle.naga_info.specs.declared.expression_error.ExpressionError.TheVariants.{InvalidCooperativeOperand}
 use Rattle.naga_types.specs.Checks.{first_error_or, require}
 
--- a form is a cooperative matrix of a role
+-- `inner` is a cooperative matrix of role `wanted`
 abbrev pub has_role : CooperativeRole → TypeInner → Boolean
 has_role wanted (CooperativeMatrix columns rows scalar role) = of_role.ghosts.eq role wanted
 has_role wanted (Scalar scalar) = false

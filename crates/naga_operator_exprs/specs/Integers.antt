@@ -1,4 +1,4 @@
--- The whole numbers in a constant expression.
+-- The integers in a constant expression.
 use Rattle.std.specs.Prelude.{◌≡◌, ◌==◌, leb, ℕ, ℤ, pos, negsuc, Bool as Boolean, true, false, Option, Some, None, Contains, List, slice_get}
 use Rattle.naga_ir.specs.declared.expression.Expression.{Expression}
 use Rattle.naga_ir.specs.declared.expression.Expression.TheVariants as form

@@ -22,7 +22,7 @@ use Rattle.naga_info.specs.declared.expression_error.ExpressionError.TheVariants
 use Rattle.naga_types.specs.Checks.{ok_unless, first_error_or, require}
 use Rattle.naga_types.specs.TypeRule.{is_float, is_integer}
 
--- a kind is that of signed integers
+-- `kind` is `Sint`
 abbrev pub is_signed : ScalarKind → Boolean
 is_signed Sint = true
 is_signed Uint = false
@@ -41,13 +41,13 @@ takes BitwiseNot kind = is_integer kind
 abbrev pub unary_rule : ExpressionSurroundings → UnaryOperator → ℕ → Result ShaderStages ExpressionError
 unary_rule s op e = ok_unless (require (consists_of (λ scalar. takes op scalar.kind) (form_at s e)) (refusal.InvalidUnaryOperandType op e)) every_stage
 
--- one truth value chooses between values of any size, and several between vectors of as many components
+-- one bool chooses between values of any size, and several between vectors of as many components
 abbrev pub chooses_size : Option VectorSize → Option VectorSize → Boolean
 chooses_size None size = true
 chooses_size (Some n) (Some m) = of_size.ghosts.eq n m
 chooses_size (Some n) None = false
 
--- a condition chooses between values of a form, scalars or vectors: it is a truth value, or a vector of as many as these have components
+-- a condition chooses between values, scalars or vectors: it is a bool, or a vector of as many bools as these have components
 abbrev pub chooses : Option (Option VectorSize × ScalarType) → Option (Option VectorSize × ScalarType) → Boolean
 chooses (Some condition) (Some value) = is_bool condition.1.kind && chooses_size condition.0 value.0
 chooses (Some condition) None = false
@@ -68,12 +68,12 @@ select_rule s condition accept reject = first_error_or (select_checks (form_at s
 abbrev pub derivative_rule : ExpressionSurroundings → ℕ → Result ShaderStages ExpressionError
 derivative_rule s e = ok_unless (require (consists_of (λ scalar. is_float scalar.kind && leb width_32 scalar.width) (form_at s e)) refusal.InvalidDerivative) fragment_stage
 
--- a form is a vector of truth values
+-- a type is a vector of bools
 abbrev pub is_vector_of_bools : Option (Option VectorSize × ScalarType) → Boolean
 is_vector_of_bools (Some found) = is_some found.0 && is_bool found.1.kind
 is_vector_of_bools None = false
 
--- the refusal of an argument, unless that of a query of truth values is a vector of such, and that of a query of numbers a floating-point number or a vector of such
+-- the error of an argument, unless it is a vector of bools for `All` and `Any`, and a floating-point number or a vector of such for `IsNan` and `IsInf`
 abbrev pub relational_argument_error : RelationalFunction → ℕ → TypeInner → Option ExpressionError
 relational_argument_error All e inner = require (is_vector_of_bools (vector_size_and_scalar inner)) (refusal.InvalidBooleanVector e)
 relational_argument_error Any e inner = require (is_vector_of_bools (vector_size_and_scalar inner)) (refusal.InvalidBooleanVector e)
@@ -84,7 +84,7 @@ relational_argument_error IsInf e inner = require (consists_of (λ scalar. is_fl
 abbrev pub relational_rule : ExpressionSurroundings → RelationalFunction → ℕ → Result ShaderStages ExpressionError
 relational_rule s fun argument = ok_unless (relational_argument_error fun argument (form_at s argument)) every_stage
 
--- the scalar that a conversion converts: that of a scalar, a vector or a matrix
+-- the scalar that a conversion converts: the scalar of a scalar, a vector or a matrix
 abbrev pub cast_scalar : TypeInner → Option ScalarType
 cast_scalar (Scalar scalar) = Some scalar
 cast_scalar (Vector size scalar) = Some scalar

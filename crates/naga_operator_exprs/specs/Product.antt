@@ -11,7 +11,7 @@ use Rattle.naga_types.specs.Composing.{is_vector_of}
 use Rattle.naga_types.specs.Checks.{when}
 use Rattle.naga_types.specs.TypeRule.{is_float}
 
--- the columns of a left factor: those of a matrix, and the components of a vector of floating-point numbers, which is one row
+-- the columns of a left factor: the columns of a matrix, and the components of a vector of floating-point numbers, which is one row
 abbrev pub columns_of_left : TypeInner → Option ℕ
 columns_of_left (Matrix columns rows scalar) = Some (components columns)
 columns_of_left (Vector size scalar) = when (is_float scalar.kind) (Some (components size))
@@ -28,7 +28,7 @@ columns_of_left (AccelerationStructure vertex_return) = None
 columns_of_left (RayQuery vertex_return) = None
 columns_of_left (BindingArray base size) = None
 
--- the rows of a right factor: those of a matrix, and the components of a vector of floating-point numbers, which is one column
+-- the rows of a right factor: the rows of a matrix, and the components of a vector of floating-point numbers, which is one column
 abbrev pub rows_of_right : TypeInner → Option ℕ
 rows_of_right (Matrix columns rows scalar) = Some (components rows)
 rows_of_right (Vector size scalar) = when (is_float scalar.kind) (Some (components size))
@@ -51,7 +51,7 @@ agree (Some m) (Some n) = m == n
 agree (Some m) None = false
 agree None _ = false
 
--- a form is that of matrices
+-- `inner` is a matrix
 abbrev pub is_matrix : TypeInner → Boolean
 is_matrix (Matrix columns rows scalar) = true
 is_matrix (Scalar scalar) = false
@@ -129,10 +129,10 @@ are_numbers_of_one_width (Some x) (Some y) = is_number x.kind && x.width == y.wi
 are_numbers_of_one_width (Some x) None = false
 are_numbers_of_one_width None _ = false
 
--- two forms multiply, widths aside: by dimensions, by components, or as one of them is a scalar that multiplies the other
+-- values of two types multiply, widths aside: by dimensions, by components, or as one of them is a scalar that multiplies the other
 abbrev pub forms_multiply : TypeInner → TypeInner → Boolean
 forms_multiply x y = multiply_by_dimensions x y || multiply_by_components x y || scales x y || scales y x
 
--- two types multiply: their scalars have one width, those of the first are numbers, and their forms multiply
+-- values of two types multiply: their scalars have one width, the scalars of the first are numbers, and the types multiply, widths aside
 abbrev pub can_multiply : TypeInner → TypeInner → Boolean
 can_multiply x y = are_numbers_of_one_width (scalar_of x) (scalar_of y) && forms_multiply x y

@@ -1,2 +1,2 @@
--- What private functions alone promise one another.
+-- What only private functions promise one another.
 pub mod Places

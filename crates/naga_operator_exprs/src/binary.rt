@@ -41,7 +41,7 @@ fn consists_of_integers(inner: &TypeInner) -> bool
     }
 }
 
-/// Whether a type is a truth value, or a vector of such.
+/// Whether a type is a bool, or a vector of such.
 fn consists_of_bools(inner: &TypeInner) -> bool
     ensures { result ≡ consists_of (λ scalar. is_bool scalar.kind) inner.now }
 {
@@ -51,7 +51,7 @@ fn consists_of_bools(inner: &TypeInner) -> bool
     }
 }
 
-/// Whether a type is that of matrices, of either kind.
+/// Whether a type is a matrix, cooperative or not.
 fn is_any_matrix(inner: &TypeInner) -> bool
     ensures { result ≡ rule.is_any_matrix inner.now }
 {
@@ -72,7 +72,7 @@ fn is_any_matrix(inner: &TypeInner) -> bool
     }
 }
 
-/// Whether values of the left type are shifted by those of the right one.
+/// Whether values of the left type are shifted by values of the right one.
 fn can_shift(left: &TypeInner, right: &TypeInner) -> bool
     ensures { result ≡ rule.can_shift (vector_size_and_scalar left.now) (vector_size_and_scalar right.now) }
 {

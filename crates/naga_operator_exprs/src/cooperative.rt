@@ -11,7 +11,7 @@ use naga_ir::handle::Handle;
 use naga_ir::tags::ExpressionTag;
 use naga_ir::types::{CooperativeRole, TypeInner};
 
-/// Whether a type is that of cooperative matrices of a role.
+/// Whether a type is a cooperative matrix of a role.
 fn has_role(inner: &TypeInner, wanted: CooperativeRole) -> bool
     ensures { result ≡ rule.has_role wanted inner.now }
 {
@@ -38,7 +38,7 @@ fn has_role(inner: &TypeInner, wanted: CooperativeRole) -> bool
 ///
 /// # Errors
 ///
-/// `InvalidCooperativeOperand` of the first operand that is no cooperative matrix of its role.
+/// `InvalidCooperativeOperand` of the first operand that is not a cooperative matrix of its role.
 pub fn validate_cooperative_multiply_add(
     context: FunctionContext<'_>,
     a: Handle<ExpressionTag>,

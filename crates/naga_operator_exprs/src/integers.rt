@@ -1,4 +1,4 @@
-//! The whole numbers in constant expressions.
+//! The integers in constant expressions.
 
 ghost use Rattle.std.specs.Prelude.{◌≡◌, ◌↔◌, ◌<◌, IfNone, IfSome, IsTrue, length, pos};
 ghost use Rattle.naga_ir.specs.References.{named_type};
@@ -232,9 +232,9 @@ fn is_forbidden_itself(
 
 /// Whether a forbidden number is in the constant expression at a place.
 ///
-/// The cost is that of the expression written out in full. Expressions that have their integers from one
+/// The cost is the size of the expression written out in full. Expressions that have their integers from one
 /// other are followed in a loop; a composition of several components is a recursion. If compositions are
-/// accepted, it is no deeper than a vector has components.
+/// accepted, the recursion is at most as deep as a vector has components.
 pub(crate) fn has_forbidden<'a>(
     context: FunctionContext<'a>,
     forbidden: Forbidden,

@@ -47,7 +47,7 @@ pub fn validate_unary(
     }
 }
 
-/// Whether truth values of this size choose between values of that size.
+/// Whether bools of the first size choose between values of the second size.
 fn chooses_size(condition: Option<VectorSize>, value: Option<VectorSize>) -> bool
     ensures { result ≡ rule.chooses_size condition value }
 {
@@ -58,7 +58,7 @@ fn chooses_size(condition: Option<VectorSize>, value: Option<VectorSize>) -> boo
     }
 }
 
-/// Whether a condition of one form chooses between values of another.
+/// Whether a condition of one type chooses between values of another.
 fn chooses(
     condition: Option<(Option<VectorSize>, Scalar)>,
     value: Option<(Option<VectorSize>, Scalar)>,
@@ -78,7 +78,7 @@ fn chooses(
 /// # Errors
 ///
 /// - `SelectValuesTypeMismatch` if the two values have different types.
-/// - `SelectConditionNotABool` if the condition is neither a truth value nor a vector of as many truth
+/// - `SelectConditionNotABool` if the condition is neither a bool nor a vector of as many
 ///   values as the values have components, or if the values are neither scalars nor vectors.
 /// - `OutOfMemory` if memory was refused for a struct in one of these.
 pub fn validate_select(
@@ -111,11 +111,11 @@ pub fn validate_select(
     Ok(every_stage())
 }
 
-/// The stages that may use a derivative (WGSL "Derivative Built-in Functions"): those of fragments.
+/// The stages that may use a derivative (WGSL "Derivative Built-in Functions"): fragments.
 ///
 /// # Errors
 ///
-/// `InvalidDerivative` if the operand is no floating-point number of at least 32 bits, nor a vector of
+/// `InvalidDerivative` if the operand is neither a floating-point number of at least 32 bits nor a vector of
 /// such.
 pub fn validate_derivative(
     context: FunctionContext<'_>,
@@ -160,8 +160,8 @@ fn check_argument(
 ///
 /// # Errors
 ///
-/// - `InvalidBooleanVector` if the argument of `All` or `Any` is no vector of truth values.
-/// - `InvalidFloatArgument` if that of `IsNan` or `IsInf` is no floating-point number, nor a vector of
+/// - `InvalidBooleanVector` if the argument of `All` or `Any` is not a vector of bools.
+/// - `InvalidFloatArgument` if the argument of `IsNan` or `IsInf` is neither a floating-point number nor a vector of
 ///   such.
 pub fn validate_relational(
     context: FunctionContext<'_>,
@@ -203,7 +203,7 @@ fn cast_scalar(inner: &TypeInner) -> Option<Scalar>
 ///
 /// # Errors
 ///
-/// `InvalidCastArgument` if the operand is of another form, or the width of the new scalar is refused.
+/// `InvalidCastArgument` if the operand is of another type, or the width of the new scalar is refused.
 pub fn validate_as(
     context: FunctionContext<'_>,
     expr: Handle<ExpressionTag>,

@@ -11,7 +11,7 @@ ghost use Rattle.naga_operator_exprs.specs.Product as rule;
 use naga_info::type_methods::is_number;
 use naga_ir::types::{Scalar, ScalarKind, TypeInner, VectorSize};
 
-/// Whether a scalar on the left and a form on the right multiply, widths aside.
+/// Whether a scalar on the left and a value of a type on the right multiply, widths aside.
 fn scalar_times(scalar: Scalar, right: &TypeInner) -> bool
     ensures { result ≡ rule.forms_multiply (form.Scalar scalar) right.now }
 {
@@ -33,7 +33,7 @@ fn scalar_times(scalar: Scalar, right: &TypeInner) -> bool
     }
 }
 
-/// Whether a vector on the left and a form on the right multiply, widths aside.
+/// Whether a vector on the left and a value of a type on the right multiply, widths aside.
 fn vector_times(size: VectorSize, scalar: Scalar, right: &TypeInner) -> bool
     ensures { result ≡ rule.forms_multiply (form.Vector size scalar) right.now }
 {
@@ -58,7 +58,7 @@ fn vector_times(size: VectorSize, scalar: Scalar, right: &TypeInner) -> bool
     }
 }
 
-/// Whether a matrix on the left and a form on the right multiply, widths aside.
+/// Whether a matrix on the left and a value of a type on the right multiply, widths aside.
 fn matrix_times(columns: VectorSize, right: &TypeInner) -> bool
     ensures { (rows : VectorSize) (scalar : Scalar) → result ≡ rule.forms_multiply (form.Matrix columns rows scalar) right.now }
 {
@@ -83,7 +83,7 @@ fn matrix_times(columns: VectorSize, right: &TypeInner) -> bool
     }
 }
 
-/// Whether a cooperative matrix on the left and a form on the right multiply, widths aside.
+/// Whether a cooperative matrix on the left and a value of a type on the right multiply, widths aside.
 fn cooperative_matrix_times(scalar: Scalar, right: &TypeInner) -> bool
     ensures { (columns rows : CooperativeSize) (role : CooperativeRole) → result ≡ rule.forms_multiply (form.CooperativeMatrix columns rows scalar role) right.now }
 {
@@ -105,7 +105,7 @@ fn cooperative_matrix_times(scalar: Scalar, right: &TypeInner) -> bool
     }
 }
 
-/// Whether values of two forms multiply, widths aside.
+/// Whether values of two types multiply, widths aside.
 fn forms_multiply(left: &TypeInner, right: &TypeInner) -> bool
     ensures { result ≡ rule.forms_multiply left.now right.now }
 {
@@ -127,7 +127,7 @@ fn forms_multiply(left: &TypeInner, right: &TypeInner) -> bool
     }
 }
 
-/// Whether values of two forms multiply (WGSL "Arithmetic Expressions"). The rule is that of naga's
+/// Whether values of two types multiply (WGSL "Arithmetic Expressions"). The rule is naga's
 /// `Validator::validate_expression`, which lists the pairs.
 pub(crate) fn can_multiply(left: &TypeInner, right: &TypeInner) -> bool
     ensures { result ≡ rule.can_multiply left.now right.now }

@@ -21,20 +21,6 @@ use Rattle.naga_typing.proofs.Iteration.{accepts_all, next_item}
 use Rattle.naga_typing.specs.declared.expression_kind.ExpressionKind.{ExpressionKind}
 use Rattle.naga_typing.specs.declared.typifier.TypeResolution.{TypeResolution}
 use Rattle.naga_valid.specs.Functions.{IsFunctionReady}
-use Rattle.naga_valid.specs.State.{State}
-
--- what an expression is validated with, under a validator's settings
-abbrev pub surroundings_under : {T : Type 0} → State T → Boolean → Module → Function → ModuleInfoLists → List TypeResolution → List ExpressionKind → ExpressionSurroundings
-surroundings_under state resolved m f lists types kinds = record {
-  capabilities = state.capabilities.0;
-  resolved = resolved;
-  subgroup_stages = state.subgroup_stages;
-  «module» = m;
-  function = f;
-  types = types;
-  infos = lists;
-  kinds = kinds;
-}
 
 module _ (s : ExpressionSurroundings) (place : ℕ) (known : CanValidateIn s.«module» s.function s.infos) (before : IsKnownBefore (global_lists s.«module») s.kinds s.types place) where
   abbrev Here : Reference → Type 0

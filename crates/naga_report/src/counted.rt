@@ -11,7 +11,7 @@ use std::io::{Read, Write};
 /// A reader or a writer, and the number of its calls that failed.
 ///
 /// Both fields are private: code that borrows one can neither make up a failure nor hide one, since the
-/// number changes in the calls below alone, by one for each that fails.
+/// number changes only in the calls below, by one for each that fails.
 #[derive(Debug, Drop)]
 pub struct Counted<S> {
     inner: S,

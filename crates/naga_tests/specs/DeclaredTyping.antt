@@ -1,4 +1,4 @@
--- A typing that supports only the forms whose types the laws give.
+-- A typing that supports only the variants whose types the laws give.
 use Rattle.std.specs.Prelude.{◌≡◌, List, Ok, Err}
 use Rattle.naga_ir.specs.ItemReferences.{global_lists}
 use Rattle.naga_ir.specs.declared.expression.Expression.{Expression}

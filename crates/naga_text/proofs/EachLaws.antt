@@ -21,7 +21,7 @@ module _ {A : Type 0} (reader : List ℕ → Option A) where
   each_again part again [] (a ∷ values) h = absurd h
   each_again part again (w ∷ ws) (a ∷ values) h = rw (again w a h.0, each_again part again ws values h.1) refl
 
-  -- the values so far, before those of the words that are left
+  -- the values so far, before the values of the words that are left
   abbrev pub after : List A → List (List ℕ) → Option (List A)
   after before ws = option_map (λ values. before ++ values) (read_each reader ws)
 

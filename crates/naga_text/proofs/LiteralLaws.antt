@@ -28,7 +28,7 @@ made make (Some v) P l h each = subst P (same_Some (make v) l h) (each v refl)
 of_value : {V : Type 0} (ty : List ℕ) (make : V → Literal) (reader : List ℕ → Option V) → ((w : List ℕ) (v : V) → reader w ≡ Some v → Matches (literal_form (make v)) (ty ∷ w ∷ [])) → HasForm ty (λ w. option_map make (reader w))
 of_value ty make reader filled w l h = made make (reader w) (λ l. Matches (literal_form l) (ty ∷ w ∷ [])) l h (filled w)
 
--- a number up to 1 is that of its truth value
+-- a number up to 1 is the number of its bool
 bit_of : (n : ℕ) → n ≤ 1 → n ≡ cond (n == 1) 1 0
 bit_of zero h = refl
 bit_of (suc zero) h = refl

@@ -76,7 +76,7 @@ so_far_more : (c : ContentsSoFar) (said : List Line) (line : Line) → c.«modul
 so_far_more c said line m f p r =
     so_far_is c (said ++ line ∷ []) (m ∙ module_more said line) (f ∙ first_more flags_in said line) (p ∙ first_more capabilities_in said line) (r ∙ first_more resolved_in said line)
 
--- what lines give of a kind, with what one line more gives, is no more than may be
+-- what lines give of a kind, with what one line more gives, is at most what may be
 abbrev FitsWith : {A : Type 0} → ℕ → (Line → Option A) → List Line → Line → Type 0
 FitsWith most pick said line = length (with_option (filter_map pick said) (pick line)) ≤ most
 
@@ -234,7 +234,7 @@ comment_added old ty member new h = λ said c e. (
       (flags_said old said e) (capabilities_said old said e) (resolved_said old said e),
 )
 
--- an arena that is asked for the handle of a type says by it whether the type was added
+-- an arena that gives the handle of a type tells by it whether the type was added
 pub type_inserted : (old new : List «Type») (t : «Type») (handle count : ℕ) → count ≡ length old → count < largest_u32
     → ((k : ℕ) → slice_get old k ≡ Some t → handle ≡ k)
     → (¬ (Contains old t) → handle ≡ length old)

@@ -30,7 +30,7 @@ forms_unique (x ∷ xs) [] b h k = absurd h
 forms_unique (x ∷ xs) (a ∷ as') [] h k = absurd k
 forms_unique (x ∷ xs) (a ∷ as') (b ∷ bs) h k = ap (λ l. l ∷ as') (form_unique x a b h.0 k.0) ∙ ap (λ l. b ∷ l) (forms_unique xs as' bs h.1 k.1)
 
--- forms of more lines are those of the first, one of the next, and more
+-- forms of more lines are the forms of the first, one of the next, and more
 forms_split : (xs : List (List (List ℕ))) (w : List (List ℕ)) (ys : List (List (List ℕ))) (a b : List Line_) → AllZip IsForm xs a → AllZip IsForm (xs ++ w ∷ [] ++ ys) b
     → (line : Line_) × (after : List Line_) × IsForm w line × (b ≡ a ++ line ∷ [] ++ after)
 forms_split [] w ys [] [] h k = absurd k
@@ -42,7 +42,7 @@ forms_split (x ∷ xs) w ys (a ∷ as') (b ∷ bs) h k =
     let p = forms_split xs w ys as' bs h.1 k.1 in
     (p.0, p.1, p.2, ap (λ l. l ∷ bs) (form_unique x b a k.0 h.0) ∙ ap (λ l. a ∷ l) p.3)
 
--- the forms of one line more are those of the lines, and its form
+-- the forms of one line more are the forms of the lines, and its form
 forms_push : (xs : List (List (List ℕ))) (w : List (List ℕ)) (a : List Line_) (line : Line_) → AllZip IsForm xs a → IsForm w line → AllZip IsForm (xs ++ w ∷ []) (a ++ line ∷ [])
 forms_push [] w [] line h k = (k, tt)
 forms_push [] w (a ∷ as') line h k = absurd h

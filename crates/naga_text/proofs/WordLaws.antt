@@ -24,7 +24,7 @@ use Rattle.naga_text.specs.Forms.{array_size_part, handle, number, optional, poi
 use Rattle.naga_text.specs.WordForms.{◌>>=◌, array_size_of, bounded_size_of, cooperative_size_at, cooperative_size_of, count_at, count_of, optional_of, pointed_size_at, pointed_size_of, size_at, size_of}
 use Rattle.naga_text.proofs.TableLaws.{by_number, by_test, passed_by}
 
--- a size has its own number alone, and each size's number is that of it
+-- a size has only its own number, and the number of each size is the number of that size
 size_at_found : (n : ℕ) (size : VectorSize) → size_at n ≡ Some size → n ≡ components size
 size_at_found n size h =
     let P = λ (size : VectorSize). n ≡ components size in
@@ -62,7 +62,7 @@ pointed_size_found w size h = option_and_then_some pointed_size_at (number_up_to
 pub pointed_size_again : (w : List ℕ) (size : Option VectorSize) → number_up_to 4 w ≡ Some (pointed_components size) → pointed_size_of w ≡ Some size
 pointed_size_again w size h = ap (λ n. n >>= pointed_size_at) h ∙ pointed_size_at_again size
 
--- and that of a cooperative matrix
+-- and so has the size of a cooperative matrix
 cooperative_size_at_found : (n : ℕ) (size : CooperativeSize) → cooperative_size_at n ≡ Some size → n ≡ cooperative_components size
 cooperative_size_at_found n size h =
     let P = λ (size : CooperativeSize). n ≡ cooperative_components size in
@@ -79,7 +79,7 @@ cooperative_size_found w size h = option_and_then_some cooperative_size_at (numb
 pub cooperative_size_again : (w : List ℕ) (size : CooperativeSize) → number_up_to 16 w ≡ Some (cooperative_components size) → cooperative_size_of w ≡ Some size
 cooperative_size_again w size h = ap (λ n. n >>= cooperative_size_at) h ∙ cooperative_size_at_again size
 
--- a count has its own number alone, and its number is that of it
+-- a count has only its own number, and the number of each count is the number of that count
 count_at_found : (n : ℕ) (count : NonZeroU32) → count_at n ≡ Some count → n ≡ non_zero_u32_get count
 count_at_found zero count h = cc
 count_at_found (suc n) count h = ap non_zero_u32_get (same_Some _ count h)
@@ -96,7 +96,7 @@ pub counted : (count : Option NonZeroU32) (n : ℕ) → MatchOption count (n ≡
 counted None n h = sym (ap count_at h)
 counted (Some count) n h = sym (ap count_at (sym h) ∙ count_at_again count)
 
--- a word that writes a number is digits, and the number is no greater than its limit
+-- a word that writes a number is digits, and the number is at most its limit
 digits_of : (most : ℕ) (w : List ℕ) (n : ℕ) → number_up_to most w ≡ Some n → (all_ascii_digits w ≡ true) × (n ≤ most)
 digits_of most w n h =
     by_test (nat_lt 0 (length w) && nat_le (length w) most_digits && all_ascii_digits w && nat_le (value_after 0 w) most) (Some (value_after 0 w)) None n h
@@ -110,7 +110,7 @@ digits_of most w n h =
 pub within : (most : ℕ) (w : List ℕ) (n : ℕ) → number_up_to most w ≡ Some n → n ≤ most
 within most w n h = (digits_of most w n h).1
 
--- a word that begins with this byte, which is no digit, writes no number
+-- a word that begins with this byte, which is not a digit, writes no number
 no_digit : (most byte : ℕ) (cs : List ℕ) (n : ℕ) → is_ascii_digit byte ≡ false → number_up_to most (byte ∷ cs) ≡ Some n → ⊥
 no_digit most byte cs n none h = true≢false (sym (and_parts (is_ascii_digit byte) (all_ascii_digits cs) (digits_of most (byte ∷ cs) n h).0).0 ∙ none)
 

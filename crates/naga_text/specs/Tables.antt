@@ -15,7 +15,7 @@ use Rattle.naga_ir.specs.declared.types.ImageDimension.TheVariants.{D1, D2, D3, 
 use Rattle.naga_ir.specs.declared.types.ScalarKind.{ScalarKind}
 use Rattle.naga_ir.specs.declared.types.ScalarKind.TheVariants.{Sint, Uint, Float, Bool, AbstractInt, AbstractFloat}
 
--- the value beside a word in a table, if it is there: that of the first row with the word
+-- the value of a word in a table, if the word is there: the value of the first row with the word
 abbrev pub chosen : {A : Type 0} → List (List ℕ × A) → List ℕ → Option A
 chosen [] w = None
 chosen (row ∷ table) w = if bytes_eq w row.0 then Some row.1 else chosen table w
@@ -31,7 +31,7 @@ kinds =
     (codes "afloat", AbstractFloat) ∷
     []
 
--- the truth values
+-- the bools
 abbrev pub truths : List (List ℕ × Boolean)
 truths = (codes "0", false) ∷ (codes "1", true) ∷ []
 
@@ -39,7 +39,7 @@ truths = (codes "0", false) ∷ (codes "1", true) ∷ []
 abbrev pub roles : List (List ℕ × CooperativeRole)
 roles = (codes "A", role.A) ∷ (codes "B", role.B) ∷ (codes "C", role.C) ∷ []
 
--- the address spaces; that of storage can be read and written
+-- the address spaces; the storage space can be read and written
 abbrev pub spaces : List (List ℕ × AddressSpace)
 spaces =
     (codes "function", space.Function) ∷

@@ -168,7 +168,7 @@ pub record IsText (lines : List (List ℕ)) (contents : Contents) : Type 0 where
 abbrev pub IsReadable : List (List ℕ) → Type 0
 IsReadable lines = (contents : Contents) × IsText lines contents
 
--- n is the least number of first lines that alone are no readable text
+-- `n` is the least number of first lines that by themselves are not a readable text
 pub record IsFirstUnreadable (lines : List (List ℕ)) (n : ℕ) : Type 0 where
   pub unreadable : ¬ (IsReadable (take n lines))
   pub readable_before : (k : ℕ) → k < n → IsReadable (take k lines)

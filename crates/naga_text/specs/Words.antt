@@ -21,7 +21,7 @@ largest_i32 = 2 ^ 31 - 1
 abbrev pub largest_i64 : ℕ
 largest_i64 = 2 ^ 63 - 1
 
--- the number that digits write when they follow those of n
+-- the number that digits write when they follow the digits of `n`
 abbrev pub value_after : ℕ → List ℕ → ℕ
 value_after n [] = n
 value_after n (c ∷ cs) = value_after (n * 10 + (c - digit_zero)) cs

@@ -21,7 +21,7 @@ pub fn equals(word: &[u8], other: &[u8]) -> bool
     word == other
 }
 
-/// The value beside a word in a table, if it is there.
+/// The value of a word in a table, if the word is there.
 pub fn chosen<T: Copy>(table: &[(&str, T)], word: &[u8]) -> Option<T>
     ensures { result ≡ chosen (map (λ row. (row.0.now, row.1)) table.now) word.now }
 {
@@ -50,7 +50,7 @@ pub fn kind(word: &[u8]) -> Option<ScalarKind>
     )
 }
 
-/// A truth value: `0` or `1`.
+/// A bool: `0` or `1`.
 pub fn truth(word: &[u8]) -> Option<bool>
     ensures { result ≡ chosen truths word.now }
 {

@@ -1,4 +1,4 @@
--- What is said of all types inside data that hosts may share, form by form.
+-- What holds of all types inside data that hosts may share, variant by variant.
 use Rattle.std.proofs.Common.{◌≡◌, ◌+◌, ◌%◌, ◌≤◌, ℕ, suc, true, false, List, Contains, Some, Ok, slice_get, sym, subst, ap, ◌∙◌}
 use Rattle.std.proofs.lemmas.Option.{same_Some}
 use Rattle.naga_flags.specs.Bits.{SIZED}
@@ -31,7 +31,7 @@ module _ (g : GlobalLists) where
   of-leaf_alignment P t a is holds b other = subst P (leaf-alignment_once g t a b is other) holds
 
   module _ (t : ℕ) where
-    -- a leaf is no struct
+    -- a leaf is not a struct
     pub leaf-no_struct : {P : Type 0} (inner : TypeInner) (members : List StructMember) (span : ℕ) → inner_at g t ≡ Some inner → is_leaf inner ≡ true → inner_at g t ≡ Some (Struct members span) → P
     leaf-no_struct inner members span at one is = absurd (impossible (ap is_leaf (same_Some inner (Struct members span) (sym at ∙ is))))
       where

@@ -1,4 +1,4 @@
--- Types that are judged by the infos of those before them.
+-- Types that keep their rule by the infos of the types before them.
 use Rattle.std.proofs.Common.{◌≡◌, ◌<◌, ◌≤◌, ⊎_elim, ℕ, Bool, true, List, [], ◌∷◌, ◌++◌, Some, Ok, Contains, length, slice_get, take, refl, sym, ap, subst, ◌∙◌, arith, length-append}
 use Rattle.std.specs.Option.{option_map, unwrap_or}
 use Rattle.std.proofs.lemmas.Bool.{and_parts, cases_lt}
@@ -37,7 +37,7 @@ use Rattle.naga_typing.specs.Layout.{AreLayouts, alignment_at, alignment_in, ali
 use Rattle.naga_typing.specs.Leaves.{inner_at, size_at_index}
 use Rattle.naga_typing.specs.declared.layouter.TypeLayout.{TypeLayout}
 
--- a type is judged by infos that are, of the types before it, these
+-- type `t` keeps its rule by infos that agree with `infos` on the types before it, and its own info is the rule's
 pub record IsAcceptedType (g : GlobalLists) (capabilities : Capabilities) (resolved : Bool) (layouts : List TypeLayout) (infos : List TypeInfo) (t : ℕ) : Type 0 where
   pub ty : «Type»
   pub at : slice_get g.types t ≡ Some ty
@@ -56,7 +56,7 @@ pub record CheckedTypes : Type 0 where
   pub laid_out : AreLayouts lists layouts
   pub each_accepted : (t : ℕ) → t < length infos → IsAcceptedType lists capabilities resolved layouts infos t
 
--- types are judged that the rule accepts in their order
+-- types that the rule accepts in their order keep their rule
 pub accepted_in_order : (g : GlobalLists) (capabilities : Capabilities) (resolved : Bool) (layouts : List TypeLayout) (count : ℕ) (infos : List TypeInfo)
     → FollowInOrder (types_rule g capabilities resolved layouts) (take count g.types) infos → (t : ℕ) → t < length infos → IsAcceptedType g capabilities resolved layouts infos t
 accepted_in_order g capabilities resolved layouts count infos follow t within =
@@ -72,7 +72,7 @@ accepted_in_order g capabilities resolved layouts count infos follow t within =
       by_rule = split.2 ∙ ap (λ o. Ok (info_in o)) (sym found.1);
     }
 
--- a type is still judged when there are more infos
+-- a type still keeps its rule when there are more infos
 accepted_still : (g : GlobalLists) (capabilities : Capabilities) (resolved : Bool) (layouts : List TypeLayout) (infos more : List TypeInfo) (t : ℕ) → t < length infos
     → IsAcceptedType g capabilities resolved layouts infos t → IsAcceptedType g capabilities resolved layouts (infos ++ more) t
 accepted_still g capabilities resolved layouts infos more t within j = record {
@@ -83,7 +83,7 @@ accepted_still g capabilities resolved layouts infos more t within j = record {
   by_rule = j.by_rule ∙ ap (λ o. Ok (info_in o)) (sym (get_stays infos more t within));
 }
 
--- the next type is judged too, by all infos, if its own info is that of the rule
+-- the next type keeps its rule too, by all infos, if its own info is the rule's
 pub accepted_with_next : (g : GlobalLists) (capabilities : Capabilities) (resolved : Bool) (layouts : List TypeLayout) (infos : List TypeInfo) (t : ℕ) (x : «Type») (info : TypeInfo) → t ≤ length infos
     → FollowInOrder (types_rule g capabilities resolved layouts) (take t g.types) (take t infos) → slice_get g.types t ≡ Some x
     → type_rule (surroundings_by g capabilities resolved layouts infos) t x.inner ≡ Ok info → (p : ℕ) → p < length (take t infos ++ info ∷ []) → IsAcceptedType g capabilities resolved layouts (take t infos ++ info ∷ []) p
@@ -104,7 +104,7 @@ accepted_with_next g capabilities resolved layouts infos t x info within follow 
     subst (IsAcceptedType g capabilities resolved layouts (take t infos ++ info ∷ [])) last next)
     (cases_lt p (length (take t infos)))
 
--- all types of a module are judged whose types are accepted
+-- all types of a module whose types are accepted keep their rule
 abbrev pub accepted_types : (m : Module) (capabilities : Capabilities) (resolved : Bool) (layouts : List TypeLayout) (infos : List TypeInfo) → AreTypesAccepted m capabilities resolved layouts infos → CheckedTypes
 accepted_types m capabilities resolved layouts infos accepted =
     let all : take (length m.types) m.types ≡ m.types = take_all (length m.types) m.types (omega arith) in
@@ -129,20 +129,20 @@ module _ (w : CheckedTypes) where
   abbrev pub alignment_of_type : ℕ → ℕ
   alignment_of_type t = alignment_at w.layouts t
 
-  -- the type is judged
+  -- the type keeps its rule
   abbrev pub Judged : ℕ → Type 0
   Judged t = IsAcceptedType w.lists w.capabilities w.resolved w.layouts w.infos t
 
   module _ (t : ℕ) (j : Judged t) where
-    -- what it is judged by
+    -- what its rule depends on
     abbrev pub known : Surroundings
     known = surroundings_by w.lists w.capabilities w.resolved w.layouts j.known
 
-    -- the infos that it is judged by are those of the types before it
+    -- the infos that its rule depends on are the infos of the types before it
     pub known_is : (p : ℕ) → p < t → info_at known p ≡ info_of p
     known_is p earlier = ap info_in (j.before p earlier)
 
-    -- the form that it is judged by is its own
+    -- the type that its rule reads is its own
     pub own_form : inner_at w.lists t ≡ Some j.ty.inner
     own_form = ap (option_map (λ (ty : «Type»). ty.inner)) j.at
 
@@ -150,15 +150,15 @@ module _ (w : CheckedTypes) where
     pub form_is : (inner : TypeInner) → inner_at w.lists t ≡ Some inner → j.ty.inner ≡ inner
     form_is inner form = same_Some j.ty.inner inner (sym own_form ∙ form)
 
-    -- the rule of its form gives its info
+    -- the rule of its variant gives its info
     pub rule_is : (inner : TypeInner) → inner_at w.lists t ≡ Some inner → type_rule known t inner ≡ Ok (info_of t)
     rule_is inner form = ap (type_rule known t) (sym (form_is inner form)) ∙ j.by_rule
 
-    -- the layout of a type is that of its form
+    -- the layout of a type is the layout of its `TypeInner`
     laid_out_at : slice_get w.layouts t ≡ Some (layout_of w.lists w.layouts j.ty)
     laid_out_at = layout_by_parts w.lists w.layouts w.laid_out w.references t j.ty j.at
 
-    -- so its alignment is that of its form
+    -- so its alignment is too
     pub alignment_is : (inner : TypeInner) → inner_at w.lists t ≡ Some inner → alignment_of_type t ≡ alignment_of w.layouts inner
     alignment_is inner form = ap alignment_in laid_out_at ∙ ap (alignment_of w.layouts) (form_is inner form)
 
@@ -166,7 +166,7 @@ module _ (w : CheckedTypes) where
     pub size_is : size_at known t ≡ size_at_index w.lists t
     size_is = ap size_in laid_out_at ∙ ap (λ o. unwrap_or (option_map (size_of w.lists) (option_map (λ (ty : «Type»). ty.inner) o)) 0) (sym j.at)
 
-    -- the types that its form names come before it
+    -- the types that it names come before it
     pub parts_before : (p : ℕ) → Contains (parts j.ty.inner) p → p < t
     parts_before p names = parts_come_before w.lists w.references t j.ty p j.at names
 

@@ -17,7 +17,7 @@ use Rattle.naga_typing.proofs.Powers.{power-positive}
 use Rattle.naga_typing.specs.Layout.{alignment_of}
 use Rattle.naga_typing.specs.Leaves.{IsLeafAlignment, inner_at}
 
--- all types that a form names stand before an index
+-- all types that `inner` names precede an index
 abbrev pub PartsBefore : ℕ → TypeInner → Type 0
 PartsBefore t inner = (p : ℕ) → Contains (parts inner) p → p < t
 

@@ -1,4 +1,4 @@
--- The forms of data that hosts may share, and what the parts of them may be used for.
+-- The types of data that hosts may share, and what their parts may be used for.
 use Rattle.std.proofs.Common.{◌≡◌, ◌<◌, ℕ, Bool, true, false, List, [], ◌∷◌, All, None, Ok, Result, if◌then◌else◌, length, refl, sym, ap, ◌∙◌, arith}
 use Rattle.std.specs.Prelude.{◌==◌, not}
 use Rattle.std.proofs.lemmas.Bool.{not-true, eqb-false}
@@ -34,21 +34,21 @@ struct_info s t members span = record {
   immediates_compatibility = struct_immediates s members;
 }
 
--- a form of data that hosts may share: a leaf, or an array or a struct of such data
+-- a type of data that hosts may share: a leaf, or an array or a struct of such data
 pub data HostForm (s : Surroundings) (t : ℕ) (info : TypeInfo) : TypeInner → Type 0 where
   leaf : (inner : TypeInner) → is_leaf inner ≡ true → info.uniform_layout ≡ Ok (alignment_at s.layouts t) → info.storage_layout ≡ Ok (alignment_at s.layouts t) → HostForm s t info inner
   array : (base : ℕ) (size : ArraySize) (stride : ℕ) → has (flags_at s base) data_for_hosts ≡ true → array_info s t base size stride ≡ info → HostForm s t info (form.Array base size stride)
   struct : (members : List StructMember) (span : ℕ) → first (struct_checks s members span) ≡ None → All (λ (m : StructMember). has (flags_at s m.ty) data_for_hosts ≡ true) members
       → struct_info s t members span ≡ info → HostForm s t info (form.Struct members span)
 
--- flags that a form has not
+-- flags that a type has not
 lacking : {P : Type 0} (b : Bool) → b ≡ false → b ≡ true → P
 lacking b capability_error has_it = absurd (impossible (sym capability_error ∙ has_it))
   where
     impossible : false ≡ true → ⊥
     impossible e = cc e
 
--- pointers are no data
+-- pointers are not data
 pointers_lack : (space : AddressSpace) → has (pointer_flags space) data_for_hosts ≡ false
 pointers_lack space = by (is_argument_space space)
   where
@@ -72,7 +72,7 @@ module _ (s : Surroundings) (t : ℕ) (info : TypeInfo) (for_hosts : IsForHosts 
   storage_is : (i : TypeInfo) → i ≡ info → info.storage_layout ≡ i.storage_layout
   storage_is i e = ap (λ (x : TypeInfo). x.storage_layout) (sym e)
 
-  -- an accepted type that is data which hosts may share has such a form
+  -- an accepted type that is data which hosts may share is such a type
   pub host-form : (inner : TypeInner) → type_rule s t inner ≡ Ok info → HostForm s t info inner
   host-form (form.Scalar scalar) h = let e = granted-value _ _ info h in leaf (form.Scalar scalar) refl (uniform_is _ e) (storage_is _ e)
   host-form (form.Vector size scalar) h = let e = granted-value _ _ info h in leaf (form.Vector size scalar) refl (uniform_is _ e) (storage_is _ e)

@@ -51,7 +51,7 @@ module _ (m : Module) (capabilities : Capabilities) (resolved : Bool) (layouts :
   pub host-uniform : IsForHosts info → HasUniformByLeaves g infos t info
   host-uniform for_hosts = subst (HasUniformByLeaves g infos t) same (uniform-by_leaves w t within (for_hosts_too for_hosts))
 
-  -- the members of a struct have its flags, but for being shared by stages
+  -- the members of a struct have its flags, except `IO_SHAREABLE`
   pub struct-flags : MembersHaveFlags g infos t info
   struct-flags members span p flags is in_list apart h =
       let j = w.each_accepted t within in

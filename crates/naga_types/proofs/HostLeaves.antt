@@ -105,7 +105,7 @@ module _ (w : CheckedTypes) (t : ℕ) where
   sized_info : (h : IsLaidOutForHosts w.lists w.infos t sized_for_hosts) → has (info_in (slice_get w.infos t)).flags.0 SIZED ≡ true
   sized_info h = ap (λ (o : Option TypeInfo). has (info_in o).flags.0 SIZED) h.info_is ∙ has-trans h.info.flags.0 sized_for_hosts SIZED h.has_flags refl
 
-  -- so are those of each type that is judged
+  -- so are the leaves of each type that keeps its rule
   pub leaves_of_checked : LeavesAreSeparate w.lists w.infos t
   leaves_of_checked = record {
     layouts = layouts_align;
@@ -113,7 +113,7 @@ module _ (w : CheckedTypes) (t : ℕ) where
     runtime_sized = λ h first stride ends n. separate n (first + n * stride) (shared n resolved_for_hosts refl h) (at_end first stride ends refl);
   }
 
--- the leaves of the next type are separate, if the infos before it are those of the rule
+-- the leaves of the next type are separate, if the infos before it are the rule's
 pub leaves_of_next : (g : GlobalLists) (capabilities : Capabilities) (resolved : Bool) (layouts : List TypeLayout) (infos : List TypeInfo) (t : ℕ) (x : «Type») (info : TypeInfo) → GlobalReferencesOk g → AreLayouts g layouts
     → t ≤ length infos → AllAcceptedInOrder (types_rule g capabilities resolved layouts) (take t g.types) (take t infos) → slice_get g.types t ≡ Some x
     → type_rule (surroundings_by g capabilities resolved layouts infos) t x.inner ≡ Ok info → LeavesAreSeparate g (take t infos ++ info ∷ []) t
@@ -141,7 +141,7 @@ leaves_of_result ctx g t (Ok info) references laid_out first_error_or exists sai
     let is : rule ≡ Ok info = ⊎_elim (λ (e : Ok info ≡ rule). sym e) (λ (h : (Ok info ≡ Err OutOfMemory) × NeedsMemory rule). cc (h.0)) returned in
     leaves_of_next (lists_of g) ctx.capabilities ctx.overrides_resolved ctx.layouter.now ctx.infos.now.infos t found.0 info references laid_out first_error_or before found.1 is
 
--- and so are those of each type of a module whose types are accepted
+-- and so are the leaves of each type of a module whose types are accepted
 pub leaves_of_accepted : (m : Module) (capabilities : Capabilities) (resolved : Bool) (layouts : List TypeLayout) (infos : List TypeInfo) → AreTypesAccepted m capabilities resolved layouts infos
     → AllLeavesAreSeparate (global_lists m) infos
 leaves_of_accepted m capabilities resolved layouts infos accepted = leaves_of_checked (accepted_types m capabilities resolved layouts infos accepted)

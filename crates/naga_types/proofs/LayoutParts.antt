@@ -71,7 +71,7 @@ module _ (s : Surroundings) (layout : TypeInfo → Layout) (t : ℕ) where
       let multiple = ap (λ b. require b (t, MemberOffset (saturated k) m.offset one.alignment)) (eq-eqb (m.offset % one.alignment) 0 one.aligned) in
       ap (λ o. option_or o (offset_error t k m.offset (layout (info_at s m.ty)))) kept ∙ ap (offset_error t k m.offset) one.is_alignment ∙ multiple)
 
-  -- their greatest alignment is that of the numbers in their layouts
+  -- their greatest alignment is the greatest of the numbers in their layouts
   pub greatest-placed : (members : List StructMember) (of : ℕ → ℕ) → ((i : ℕ) (m : StructMember) → slice_get members i ≡ Some m → layout (info_at s m.ty) ≡ Ok (of m.ty))
       → greatest_alignment s layout members ≡ greatest (map (λ (m : StructMember). of m.ty) members)
   greatest-placed members of all =
@@ -82,7 +82,7 @@ module _ (s : Surroundings) (t : ℕ) (members : List StructMember) (span : ℕ)
   abbrev pub IsWhole : Type 0
   IsWhole = span % alignment_at s.layouts t ≡ 0
 
-  -- it is so if there is no failure of the span
+  -- it is so if there is no error of the span
   pub span-whole : span_error s t span ≡ None → IsWhole
   span-whole none = eqb-true (span % alignment_at s.layouts t) 0 (unless-kept (span % alignment_at s.layouts t == 0) (t, StructSpan span (alignment_at s.layouts t)) none)
 

@@ -55,7 +55,7 @@ module _ (g : GlobalLists) (el : Elements) where
       option_and_then_some (λ inner. part_at el inner i) (inner_at g t) part found (λ inner inner_is part_is.
       record { inner = inner; inner_is = inner_is; part = part; part_is = part_is; inside = split.0; inside_is = split.1; is = sym split.2 }))
 
--- a part of a type is placed at a multiple of its alignment, which divides that of the type
+-- a part of a type is placed at a multiple of its alignment, which divides the alignment of the type
 pub record IsPlaced (Good : ℕ → Type 0) (al : ℕ → ℕ) (t : ℕ) (part : Part) : Type 0 where
   pub good : Good part.ty
   pub divides : al part.ty ∣ al t
@@ -76,7 +76,7 @@ pub record AllArePlaced (g : GlobalLists) (el : Elements) (Good : ℕ → Type 0
   pub leaf_ends : (t : ℕ) (inner : TypeInner) (limit : ℕ) → Good t → Limit t limit → inner_at g t ≡ Some inner → is_leaf inner ≡ true → size_of g inner ≤ limit
 
 module _ (g : GlobalLists) (el : Elements) (Good : ℕ → Type 0) (Limit : ℕ → ℕ → Type 0) (al : ℕ → ℕ) (all : AllArePlaced g el Good Limit al) where
-  -- each leaf stands at a multiple of its alignment, which divides that of the type
+  -- each leaf stands at a multiple of its alignment, which divides the alignment of the type
   pub leaves_aligned : (path : List ℕ) (t : ℕ) (leaf : LeafBytes) → Good t → leaf_at g el t path ≡ Some leaf → (leaf.alignment ∣ al t) × (leaf.alignment ∣ leaf.first)
   leaves_aligned [] t leaf good at =
       let w = whole g el t leaf at in

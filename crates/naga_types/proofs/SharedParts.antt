@@ -106,7 +106,7 @@ module _ (w : CheckedTypes) (n : ℕ) where
   size_of_form t inner form = ap (λ o. unwrap_or (option_map (size_of w.lists) o) 0) form
 
   module _ (t : ℕ) (shared : IsShared t) where
-    -- the type is judged
+    -- the type keeps its rule
     abbrev j : Judged w t
     j = w.each_accepted t shared.host.0
 
@@ -266,7 +266,7 @@ module _ (w : CheckedTypes) (n : ℕ) where
             by_end _ _ (array b stride at) = cc (at, form)
             by_end _ _ (last_member front q own b stride there last) = member_ends_at_last front q b stride (same_members members (front ++ q ∷ []) span own (sym form ∙ there)) last
 
-  -- the parts of each form are placed
+  -- the parts of each type are placed
   placed_by_form : (t : ℕ) (inner : TypeInner) (i : ℕ) (part : Part) → IsShared t → inner_at w.lists t ≡ Some inner → parts_of inner i ≡ Some part → IsPlaced IsShared al t part
   placed_by_form t (Array base size stride) i part shared form at = array_place t shared base size stride form i part at
   placed_by_form t (Struct members span) i part shared form at =

@@ -54,12 +54,12 @@ module _ (w : CheckedTypes) where
   }
 
   module _ (t : ℕ) (h : IsHostType w t) where
-    -- the alignment of data in storage buffers is that of its layout
+    -- the alignment of data in storage buffers is the alignment of its layout
     pub storage_alignment : (a : ℕ) → in_storage (info_of w t) ≡ Ok a → a ≡ al t
     storage_alignment a is = sym ((storage-exactly w t h.0 h.1).if_there a is).0
 
     module _ (u : ℕ) (is : in_uniform (info_of w t) ≡ Ok u) where
-      -- data with an alignment in uniform buffers has that of its layout in storage buffers
+      -- data with an alignment in uniform buffers has the alignment of its layout in storage buffers
       pub storage_of_uniform : in_storage (info_of w t) ≡ Ok (al t)
       storage_of_uniform = (storage-exactly w t h.0 h.1).is_there (λ v i. aligned_if_uniform v (inside w t v i h) (((uniform-exactly w t h.0 h.1).if_there u is).1 v i))
 

@@ -1,4 +1,4 @@
--- A struct's flags are its members': but for being shared by stages, it has none that a member lacks.
+-- A struct's flags are its members': except `IO_SHAREABLE` it has none that a member lacks.
 use Rattle.std.proofs.Common.{◌≡◌, ◌&&◌, ℕ, Bool, true, false, List, All, if◌then◌else◌, sym, ap, ◌∙◌}
 use Rattle.std.specs.List.{enumerate_from, list_all, list_any}
 use Rattle.std.specs.Prelude.{◌==◌, ◌-◌, bit_and, bit_or}
@@ -27,7 +27,7 @@ pub without_sources : (sources : Bool) (hosts flags : ℕ) → bit_and IO_SHAREA
 without_sources true hosts flags apart h = sym (ap (λ n. n == flags) (and_or_apart flags hosts IO_SHAREABLE apart)) ∙ h
 without_sources false hosts flags apart h = h
 
--- but for being shared by stages, a struct has no flags that a member lacks
+-- except `IO_SHAREABLE`, a struct has no flags that a member lacks
 pub has-struct_flags : (s : Surroundings) (members : List StructMember) (flags : ℕ) → bit_and IO_SHAREABLE flags ≡ 0 → has (struct_flags s members) flags ≡ true
     → All (λ (m : StructMember). has (flags_at s m.ty) flags ≡ true) members
 has-struct_flags s members flags apart h =

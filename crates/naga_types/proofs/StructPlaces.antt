@@ -50,7 +50,7 @@ module _ (s : Surroundings) (members : List StructMember) where
   abbrev sources : Bool
   sources = has_source members 0 && has_source members 1
 
-  -- what the struct may be used for but for sources of blending
+  -- what the struct may be used for, without sources of blending
   abbrev for_hosts : ℕ
   for_hosts = if back then bit_and (common_flags s members) (all_type_flags - HOST_SHAREABLE) else common_flags s members
 

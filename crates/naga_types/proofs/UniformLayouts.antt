@@ -33,7 +33,7 @@ use Rattle.naga_typing.specs.declared.layouter.TypeLayout.{TypeLayout}
 uniform_of_leaf : (inner : TypeInner) (found : Option TypeInner) (a : ℕ) → found ≡ Some inner → is_leaf inner ≡ true → uniform_alignment_in found a ≡ a
 uniform_of_leaf inner found a is one = ap (λ o. uniform_alignment_in o a) is ∙ ap (λ b. if b then a else max a min_uniform) one
 
--- that of anything else is at least 16
+-- the alignment of anything else is at least 16
 uniform_of_others : (inner : TypeInner) (found : Option TypeInner) (a : ℕ) → found ≡ Some inner → is_leaf inner ≡ false → uniform_alignment_in found a ≡ max a min_uniform
 uniform_of_others inner found a is none = ap (λ o. uniform_alignment_in o a) is ∙ ap (λ b. if b then a else max a min_uniform) none
 
@@ -108,7 +108,7 @@ module _ (g : GlobalLists) (capabilities : Capabilities) (resolved : Bool) (layo
         uniform : (struct_info s t members span).uniform_layout ≡ info.uniform_layout
         uniform = ap (λ (i : TypeInfo). i.uniform_layout) given
 
-        -- the greatest alignment of the members is that of the struct
+        -- the greatest alignment of the members is the alignment of the struct
         total : greatest_alignment s in_uniform members ≡ greatest (map (λ (m : StructMember). uniform_at m.ty) members) → max (greatest_alignment s in_uniform members) min_uniform ≡ uniform_at t
         total number =
             ap (λ n. max n min_uniform) number

@@ -24,7 +24,7 @@ pub greatest-above : {X : Type 0} (f h : X → ℕ) (bound : ℕ) (xs : List X) 
 greatest-above f h bound [] same = refl
 greatest-above f h bound (x ∷ xs) same = let rest = greatest-above f h bound xs same in let here = same x in omega (arith, rest, here)
 
--- the form of a type by its surroundings is its form by the lists
+-- a type by its surroundings is the type by the lists
 pub form-at : (s : Surroundings) (t : ℕ) → form_at s t ≡ inner_at s.lists t
 form-at s t = by (slice_get s.lists.types t)
   where
@@ -33,7 +33,7 @@ form-at s t = by (slice_get s.lists.types t)
     by (Some ty) = refl
 
 module _ (s : Surroundings) (t : ℕ) (members : List StructMember) (span : ℕ) where
-  -- all members have fixed sizes if there is no failure of their sizes
+  -- all members have fixed sizes if there is no error of their sizes
   pub sizes-fixed : first (unsized_errors s t members) ≡ None → (i : ℕ) (m : StructMember) → slice_get members i ≡ Some m → has (flags_at s m.ty) SIZED ≡ true
   sizes-fixed none i m at = unless-kept (has (flags_at s m.ty) SIZED) (t, UnsizedMember (saturated i)) (none-first (unsized_error s t) members none i m at)
 
@@ -46,7 +46,7 @@ module _ (s : Surroundings) (t : ℕ) (members : List StructMember) (span : ℕ)
   RoomIsLeft = (i : ℕ) (m next : StructMember) (inside : List StructMember) (room : ℕ) → slice_get members i ≡ Some m → slice_get members (suc i) ≡ Some next → inner_at s.lists m.ty ≡ Some (Struct inside room)
       → m.offset + rounded_up room ≤ next.offset
 
-  -- it does if there is no failure of such a member
+  -- it does if there is no error of such a member
   pub rooms-left : last_padding_error s t members ≡ None → RoomIsLeft
   rooms-left none i m next inside room m_at next_at is =
       let kept : end_after_struct_before s members (suc i) ≤ next.offset = leb-true (end_after_struct_before s members (suc i)) next.offset

@@ -1,4 +1,4 @@
--- What forms may be used for at most, as the numbers that reports show.
+-- What types may be used for at most, as the numbers that reports show.
 use Rattle.std.proofs.Common.{◌≡◌, refl}
 use Rattle.naga_ir.specs.declared.types.AddressSpace.TheVariants.{Function, Uniform}
 use Rattle.naga_ir.specs.declared.types.ArraySize.TheVariants.{Dynamic, Pending}

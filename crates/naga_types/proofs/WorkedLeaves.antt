@@ -42,7 +42,7 @@ pub second-member : (n : ℕ) → leaf_at lists (elements lists n) 2 (1 ∷ []) 
 unfolding leaf_at
 second-member n = refl
 
--- the struct itself is no leaf, and has no third member
+-- the struct itself is not a leaf, and has no third member
 pub whole-struct : (n : ℕ) → leaf_at lists (elements lists n) 2 [] ≡ None
 unfolding leaf_at
 whole-struct n = refl

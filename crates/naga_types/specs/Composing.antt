@@ -20,7 +20,7 @@ use Rattle.naga_types.specs.Layouts.{saturated}
 use Rattle.naga_types.specs.declared.error.ComposeError.{ComposeError}
 use Rattle.naga_types.specs.declared.error.ComposeError.TheVariants.{ComponentCount, ComponentType, Type_}
 
--- whether a form is a scalar, or a vector of it
+-- whether a type is `scalar`, or a vector of it
 abbrev pub is_part_of : ScalarType → Option TypeInner → Boolean
 is_part_of scalar (Some (Scalar s)) = of_scalar.ghosts.eq s scalar
 is_part_of scalar (Some (Vector size s)) = of_scalar.ghosts.eq s scalar
@@ -38,7 +38,7 @@ is_part_of scalar (Some (RayQuery vertex_return)) = false
 is_part_of scalar (Some (BindingArray base size)) = false
 is_part_of scalar None = false
 
--- how many components of a vector a form is: as many as it has, if it is a vector itself
+-- how many components of a vector a value of a type makes: as many as it has, if it is a vector itself
 abbrev pub parts_in : Option TypeInner → ℕ
 parts_in (Some (Vector size scalar)) = components size
 parts_in (Some (Scalar scalar)) = 1
@@ -56,7 +56,7 @@ parts_in (Some (RayQuery vertex_return)) = 1
 parts_in (Some (BindingArray base size)) = 1
 parts_in None = 1
 
--- whether a form is a vector of this size and scalar
+-- whether a type is a vector of `rows` components of `scalar`
 abbrev pub is_vector_of : VectorSize → ScalarType → Option TypeInner → Boolean
 is_vector_of rows scalar (Some (Vector size s)) = of_size.ghosts.eq size rows && of_scalar.ghosts.eq s scalar
 is_vector_of rows scalar (Some (Scalar s)) = false
@@ -127,7 +127,7 @@ compose_checks types t None given = Some (Type_ t) ∷ []
 abbrev pub compose_rule : List «Type» → ℕ → List TypeResolution → Result (Unit {0}) ComposeError
 compose_rule types t given = first_error_or (compose_checks types t (inner_in types (Handle t)) given) tt
 
--- a resolution, or if there is none that of the first type
+-- a resolution, or if there is none the first type
 abbrev pub resolution_in : Option TypeResolution → TypeResolution
 resolution_in (Some r) = r
 resolution_in None = Handle 0

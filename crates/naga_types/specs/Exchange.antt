@@ -19,7 +19,7 @@ is_name name None = false
 abbrev pub is_named : List ℕ → StructMember → Boolean
 is_named name m = is_name name m.name
 
--- a kind is that of truth values
+-- `kind` is `Bool`
 abbrev pub is_bool : ScalarKind → Boolean
 is_bool Bool = true
 is_bool Sint = false
@@ -28,7 +28,7 @@ is_bool Float = false
 is_bool AbstractInt = false
 is_bool AbstractFloat = false
 
--- values of a form are Booleans, of one byte
+-- values of a type are bools, of one byte
 abbrev pub is_bool_type : Option TypeInner → Boolean
 is_bool_type (Some (form.Scalar scalar)) = is_bool scalar.kind && scalar.width == bool_width
 is_bool_type (Some (form.Vector size scalar)) = false
@@ -46,7 +46,7 @@ is_bool_type (Some (form.RayQuery vertex_return)) = false
 is_bool_type (Some (form.BindingArray base size)) = false
 is_bool_type None = false
 
--- the form of the old value, if the members are that and whether it was exchanged
+-- the type of the old value, if the members are it and whether it was exchanged
 abbrev pub old_value_form : List «Type» → List StructMember → Option TypeInner
 old_value_form types (old ∷ flag ∷ []) =
     when (is_named (codes "old_value") old && (is_named (codes "exchanged") flag && is_bool_type (form_in (slice_get types flag.ty)))) (form_in (slice_get types old.ty))

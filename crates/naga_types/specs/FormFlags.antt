@@ -1,4 +1,4 @@
--- What types of each form may be used for at most, and what flags parts of types must have.
+-- What types of each variant may be used for at most, and what flags parts of types must have.
 use Rattle.std.specs.Prelude.{ℕ, Bool as Boolean, true, false, [], ◌∷◌, if◌then◌else◌}
 use Rattle.naga_flags.specs.Bits.{ARGUMENT, CONSTRUCTIBLE, COPY, CREATION_RESOLVED, DATA, HOST_SHAREABLE, SIZED, all_type_flags, union_of}
 use Rattle.naga_ir.specs.Sizes.{is_numeric}
@@ -8,7 +8,7 @@ use Rattle.naga_ir.specs.declared.types.ArraySize.{ArraySize}
 use Rattle.naga_ir.specs.declared.types.ArraySize.TheVariants.{Constant, Pending, Dynamic}
 use Rattle.naga_ir.specs.declared.types.ScalarKind.{ScalarKind}
 
--- what truth values and their vectors may be used for: everything but to be shared by stages or with hosts
+-- what bools and their vectors may be used for: everything except being shared by stages or with hosts
 abbrev pub value_flags : ℕ
 value_flags = union_of (DATA ∷ SIZED ∷ COPY ∷ CREATION_RESOLVED ∷ ARGUMENT ∷ CONSTRUCTIBLE ∷ [])
 

@@ -28,16 +28,16 @@ OfLeafAlignment g t P = (a : ℕ) → IsLeafAlignment g t a → P a
 abbrev pub HaveLeafAlignments : GlobalLists → ℕ → Type 0
 HaveLeafAlignments g t = (u : ℕ) → IsInside g t u → (a : ℕ) × IsLeafAlignment g u a
 
--- the alignment of a form in uniform buffers, by its leaf alignment: at least 16, unless it is a leaf
+-- the alignment of a type in uniform buffers, by its leaf alignment: at least 16, unless it is a leaf
 abbrev pub uniform_alignment_in : Option TypeInner → ℕ → ℕ
 uniform_alignment_in None a = a
 uniform_alignment_in (Some inner) a = if is_leaf inner then a else max a min_uniform
 
--- that of the type of an index
+-- the same of the type of an index
 abbrev pub uniform_alignment : GlobalLists → ℕ → ℕ → ℕ
 uniform_alignment g t = uniform_alignment_in (inner_at g t)
 
--- if a type is a struct, its span is a multiple of its leaf alignment, and each offset of that of the member's type; if it is an array, its stride is a multiple of that of its base
+-- if a type is a struct, its span is a multiple of its leaf alignment, and each offset of the leaf alignment of the member's type; if it is an array, its stride is a multiple of the leaf alignment of its base
 pub record IsStorageAligned (g : GlobalLists) (t : ℕ) : Type 0 where
   pub of_span : (members : List StructMember) (span : ℕ) → inner_at g t ≡ Some (form.Struct members span) → OfLeafAlignment g t (λ a. span % a ≡ 0)
   pub of_offset : (members : List StructMember) (span : ℕ) (m : StructMember) → inner_at g t ≡ Some (form.Struct members span) → Contains members m → OfLeafAlignment g m.ty (λ a. m.offset % a ≡ 0)
@@ -63,7 +63,7 @@ pub record HasUniformByLeaves (g : GlobalLists) (infos : List TypeInfo) (t : ℕ
   pub exactly : IsOk info.uniform_layout ↔ ((u : ℕ) → IsInside g t u → IsUniformAligned g infos u)
   pub alignment : IsOk info.uniform_layout → OfLeafAlignment g t (λ a. info.uniform_layout ≡ Ok (uniform_alignment g t a))
 
--- if a type is a struct, each member is marked with all that the struct is marked with, but for being shared by stages
+-- if a type is a struct, the type of each member has every flag that the struct has, except `IO_SHAREABLE`
 abbrev pub MembersHaveFlags : GlobalLists → List TypeInfo → ℕ → TypeInfo → Type 0
 MembersHaveFlags g infos t info =
     (members : List StructMember) (span : ℕ) (m : StructMember) (flags : ℕ) → inner_at g t ≡ Some (form.Struct members span) → Contains members m → bit_and IO_SHAREABLE flags ≡ 0 → has info.flags.0 flags ≡ true

@@ -88,7 +88,7 @@ end_after_struct (Some m) (Some (form.RayQuery vertex_return)) = 0
 end_after_struct (Some m) (Some (form.BindingArray base size)) = 0
 end_after_struct (Some m) None = 0
 
--- the form of a member, if there is one
+-- the type of a member, if there is one
 abbrev pub form_of : Surroundings → Option StructMember → Option TypeInner
 form_of s (Some m) = form_at s m.ty
 form_of s None = None
@@ -119,7 +119,7 @@ unsized_error s t at = require (has (flags_at s at.1.ty) SIZED) (t, UnsizedMembe
 abbrev pub unsized_errors : Surroundings → ℕ → List StructMember → List (Option (ℕ × Disalignment))
 unsized_errors s t members = map (unsized_error s t) (enumerate_from 0 members)
 
--- the layout in the uniform address space: the span and all members are aligned, each member after a struct leaves that its room, all have fixed sizes, and the alignment is at least that of all structs there
+-- the layout in the uniform address space: the span and all members are aligned, each member after a struct begins after the padded end of the struct, all have fixed sizes, and the alignment is at least the least alignment of structs there
 abbrev pub uniform_layout_of : Surroundings → ℕ → List StructMember → ℕ → Layout
 uniform_layout_of s t members span =
     first_error_or

@@ -1,8 +1,8 @@
 -- To read first:
--- TypeRule.type_rule: the info of a type, or the first condition of its form that it breaks
--- Surroundings.Surroundings: what a type is judged by beside its form
+-- TypeRule.type_rule: the info of a type, or the first error of its variant
+-- Surroundings.Surroundings: what the rule of a type depends on, besides the type
 -- Checks.first_error_or: a value, unless one of a list of conditions is broken
--- FormFlags: what types of each form may be used for at most
+-- FormFlags: what types of each variant may be used for at most
 -- StructRule.struct_rule: the conditions of a struct and of its members, and what a struct may be used for
 -- Layouts.uniform_layout_of, storage_layout_of: the layouts of a struct, or why it has none
 -- AcceptedTypes.AreTypesAccepted: all types of a module are accepted, each by the infos of those before it

@@ -34,7 +34,7 @@ source_of (Some (Location location None)) = None
 source_of (Some (BuiltIn value)) = None
 source_of None = None
 
--- the location of a binding that is no source of blending
+-- the location of a binding that is not a source of blending
 abbrev pub location_of : Option Binding → Option ℕ
 location_of (Some (Location location None)) = Some location
 location_of (Some (Location location (Some source))) = None
@@ -63,7 +63,7 @@ source_checks capabilities is_taken (Some (location, source)) =
     require (not (is_taken source)) (InvalidBlendSrc (BindingCollisionBlendSrc source)) ∷
     []
 
--- a form is that of arrays
+-- a type is an array
 abbrev pub is_array : Option TypeInner → Boolean
 is_array (Some (form.Array base size stride)) = true
 is_array (Some (form.Scalar scalar)) = false
@@ -88,7 +88,7 @@ place_checks s members span i m =
     require (leb (m.offset + size_at s m.ty) span) (MemberOutOfBounds (saturated i) m.offset (size_at s m.ty) span) ∷
     []
 
--- the refusal of a member that has no fixed size and is no array at the end
+-- the error of a member that has no fixed size and is not an array at the end
 abbrev pub member_size_error : Surroundings → List StructMember → ℕ → StructMember → Option TypeError
 member_size_error s members i m =
     require (has (flags_at s m.ty) SIZED || is_array (form_at s m.ty) && i + 1 == length members) (InvalidDynamicArray (unwrap_or m.name []) m.ty)
@@ -110,16 +110,16 @@ member_error s members span at = first (member_checks s members span at)
 abbrev pub member_errors : Surroundings → List StructMember → ℕ → List (Option TypeError)
 member_errors s members span = map (member_error s members span) (enumerate_from 0 members)
 
--- the last location of a member that is no source of blending
+-- the last location of a member that is not a source of blending
 abbrev pub other_location : List StructMember → Option ℕ
 other_location members = last (map (λ (m : StructMember). location_of m.binding) members)
 
--- the refusal of a location beside sources of blending
+-- the error of a location in a struct with sources of blending
 abbrev pub no_location : Option ℕ → Option VaryingError
 no_location None = None
 no_location (Some location) = Some (InvalidBlendSrcWithOtherBindings location)
 
--- the conditions of the two sources, by their types: there are both or none, beside no other location, they have one type, and stages may share it
+-- the checks of the two sources, by their types: both are there or none, no member has another location, they have one type, and stages may share it
 abbrev pub pair_checks : Surroundings → List StructMember → Option ℕ → Option ℕ → List (Option VaryingError)
 pair_checks s members None None = []
 pair_checks s members (Some t) None = Some (IncompleteBlendSrcUsage 0) ∷ []

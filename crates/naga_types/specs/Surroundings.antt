@@ -1,4 +1,4 @@
--- What a type is judged by.
+-- What the rule of a type depends on.
 use Rattle.std.specs.Prelude.{ℕ, Bool, List, Option, Some, None, Ok, slice_get}
 use Rattle.naga_ir.specs.ItemReferences.{GlobalLists}
 use Rattle.naga_ir.specs.declared.types.«Type».{«Type»}
@@ -9,7 +9,7 @@ use Rattle.naga_typing.specs.declared.context.GlobalCtx.{GlobalCtx}
 use Rattle.naga_types.specs.declared.info.TypeContext.{TypeContext}
 use Rattle.naga_types.specs.declared.info.TypeInfo.{TypeInfo}
 
--- all that a type is judged by beside its own form: the capabilities, whether overrides must have their values, the lists that types refer to, the layouts of all types, and the infos of those before it
+-- all that the rule of a type depends on, besides the type: the capabilities, whether overrides must have their values, the lists that types refer to, the layouts of all types, and the infos of the types before it
 pub record Surroundings : Type 0 where
   pub capabilities : ℕ
   pub resolved : Bool
@@ -25,7 +25,7 @@ surroundings ctx g = record { capabilities = ctx.capabilities.0; resolved = ctx.
 abbrev pub shared : ℕ → ℕ → TypeInfo
 shared flags alignment = record { flags = record { 0 = flags }; uniform_layout = Ok alignment; storage_layout = Ok alignment; immediates_compatibility = Ok tt }
 
--- an info, or if there is none that of a type of no use
+-- an info, or if there is none the info of a type of no use
 abbrev pub info_in : Option TypeInfo → TypeInfo
 info_in (Some info) = info
 info_in None = shared 0 1
@@ -38,12 +38,12 @@ info_at s t = info_in (slice_get s.infos t)
 abbrev pub flags_at : Surroundings → ℕ → ℕ
 flags_at s t = (info_at s t).flags.0
 
--- the form of a type, if there is one
+-- the `TypeInner` of a type, if there is one
 abbrev pub form_in : Option «Type» → Option TypeInner
 form_in (Some t) = Some t.inner
 form_in None = None
 
--- the form of the type at a place
+-- the `TypeInner` of the type at a place
 abbrev pub form_at : Surroundings → ℕ → Option TypeInner
 form_at s t = form_in (slice_get s.lists.types t)
 

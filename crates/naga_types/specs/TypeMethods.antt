@@ -1,4 +1,4 @@
--- What forms of types are.
+-- Properties of types by themselves.
 use Rattle.std.specs.Prelude.{Bool, true, false, Option, Some, None}
 use Rattle.naga_ir.specs.declared.types.ArraySize.{ArraySize}
 use Rattle.naga_ir.specs.declared.types.ArraySize.TheVariants.{Constant, Pending, Dynamic}
@@ -17,7 +17,7 @@ is_written (Constant n) = true
 is_written (Pending over) = false
 is_written Dynamic = false
 
--- values of a form have a fixed size: those that are no resources, and of arrays those whose count is written
+-- values of a type have a fixed size: those that are not resources, and of arrays those whose count is written
 abbrev pub is_sized : TypeInner → Bool
 is_sized (form.Array base size stride) = is_written size
 is_sized (form.Image dim arrayed class) = false

@@ -1,4 +1,4 @@
--- The rule of one type, by its form.
+-- The rule of one type, by its variant.
 use Rattle.std.specs.Prelude.{◌==◌, ◌&&◌, ◌||◌, not, max, ℕ, ◌%◌, Bool as Boolean, true, false, List, [], ◌∷◌, Option, Some, None, Result, Ok, Err, bit_and, is_some, if◌then◌else◌}
 use Rattle.naga_flags.specs.Bits.{COOPERATIVE_MATRIX, CREATION_RESOLVED, CUBE_ARRAY_TEXTURES, DATA, RAY_HIT_VERTEX_POSITION, RAY_QUERY, RAY_TRACING_PIPELINE, SHADER_FLOAT32_ATOMIC, SHADER_INT64_ATOMIC_ALL_OPS, SHADER_INT64_ATOMIC_MIN_MAX, SIZED, TEXTURE_EXTERNAL}
 use Rattle.naga_flags.specs.Flags.{has}
@@ -29,7 +29,7 @@ use Rattle.naga_types.specs.declared.error.TypeError.{TypeError}
 use Rattle.naga_types.specs.declared.error.TypeError.TheVariants.{MissingCapability, InvalidAtomicWidth, InvalidPointerBase, InvalidPointerToUnsized, InvalidData, InvalidArrayBaseType, MatrixElementNotFloat, UnsupportedImageType, BindingArrayBaseTypeNotStruct, BindingArrayBaseExternalTextures, WidthError, InvalidArraySize}
 use Rattle.naga_types.specs.declared.info.TypeInfo.{TypeInfo}
 
--- a space is that of storage buffers
+-- a space is `Storage`
 abbrev pub is_storage : AddressSpace → Boolean
 is_storage (Storage access) = true
 is_storage Function = false
@@ -42,7 +42,7 @@ is_storage TaskPayload = false
 is_storage RayPayload = false
 is_storage IncomingRayPayload = false
 
--- a kind is one of whole numbers
+-- a kind is one of integers
 abbrev pub is_integer : ScalarKind → Boolean
 is_integer Sint = true
 is_integer Uint = true
@@ -51,7 +51,7 @@ is_integer Bool = false
 is_integer AbstractInt = false
 is_integer AbstractFloat = false
 
--- a kind is that of floating-point numbers
+-- a kind is one of floating-point numbers
 abbrev pub is_float : ScalarKind → Boolean
 is_float Float = true
 is_float Sint = false
@@ -72,7 +72,7 @@ scalar_error capabilities scalar = require (is_good_width capabilities scalar) (
 abbrev pub of_scalars : ℕ → ℕ → Scalar → TypeInfo
 of_scalars flags alignment scalar = record (shared flags alignment) { immediates_compatibility = immediates_of scalar }
 
--- the refusal of a scalar that is not allowed in an atomic: allowed are integers of 32 bits, with a capability those of 64, and with another floating-point numbers of 32
+-- the error of a scalar that is not allowed in an atomic: allowed are integers of 32 bits, with a capability also those of 64, and with another floating-point numbers of 32
 abbrev pub atomic_error : ℕ → Scalar → Option TypeError
 atomic_error capabilities s =
     if is_integer s.kind && s.width == width_32 then None
@@ -100,7 +100,7 @@ has_count g (Pending o) = is_some (override_count g o)
 has_count g (Constant n) = true
 has_count g Dynamic = true
 
--- the layout of an array in an address space: its alignment is that of its base there, and at least `least`, and its stride is a multiple of that
+-- the layout of an array in an address space: its alignment is the alignment of its base there, and at least `least`, and its stride is a multiple of it
 abbrev pub array_layout : ℕ → ℕ → ℕ → Layout → Layout
 array_layout handle least stride (Err e) = Err e
 array_layout handle least stride (Ok base) = ok_unless (require (stride % max base least == 0) (handle, ArrayStride stride (max base least))) (max base least)
@@ -112,7 +112,7 @@ array_checks s handle base size =
     when s.resolved (require (has_count s.lists size) (InvalidArraySize handle)) ∷
     []
 
--- the info of an array: in uniform buffers it has at least the alignment that those ask of arrays
+-- the info of an array: in uniform buffers its alignment is at least the least alignment of arrays there
 abbrev pub array_info : Surroundings → ℕ → ℕ → ArraySize → ℕ → TypeInfo
 array_info s handle base size stride =
     let info = info_at s base in
@@ -139,11 +139,11 @@ is_cube D2 = false
 is_cube D3 = false
 
 -- an image has two coordinates
-abbrev pub is_flat : ImageDimension → Boolean
-is_flat D2 = true
-is_flat D1 = false
-is_flat D3 = false
-is_flat Cube = false
+abbrev pub is_2d : ImageDimension → Boolean
+is_2d D2 = true
+is_2d D1 = false
+is_2d D3 = false
+is_2d Cube = false
 
 -- an image is an external texture
 abbrev pub is_external : ImageClass → Boolean
@@ -157,7 +157,7 @@ abbrev pub image_checks : ℕ → ImageDimension → Boolean → ImageClass → 
 image_checks capabilities dim arrayed class =
     require (not (arrayed && is_solid dim)) (UnsupportedImageType dim arrayed class) ∷
     when (arrayed && is_cube dim) (capability_error capabilities CUBE_ARRAY_TEXTURES) ∷
-    when (is_external class) (require (is_flat dim && not arrayed) (UnsupportedImageType dim arrayed class)) ∷
+    when (is_external class) (require (is_2d dim && not arrayed) (UnsupportedImageType dim arrayed class)) ∷
     when (is_external class) (capability_error capabilities TEXTURE_EXTERNAL) ∷
     []
 
@@ -176,7 +176,7 @@ acceleration_checks capabilities vertex_return =
 abbrev pub ray_query_checks : ℕ → Boolean → List (Option TypeError)
 ray_query_checks capabilities vertex_return = capability_error capabilities RAY_QUERY ∷ vertex_return_condition capabilities vertex_return ∷ []
 
--- a form is that of structs
+-- a type is a struct
 abbrev pub is_struct : Option TypeInner → Boolean
 is_struct (Some (form.Struct members span)) = true
 is_struct (Some (form.Scalar scalar)) = false
@@ -194,7 +194,7 @@ is_struct (Some (form.RayQuery vertex_return)) = false
 is_struct (Some (form.BindingArray base size)) = false
 is_struct None = false
 
--- a form is that of external images
+-- a type is an external texture
 abbrev pub is_external_image : Option TypeInner → Boolean
 is_external_image (Some (form.Image dim arrayed class)) = is_external class
 is_external_image (Some (form.Scalar scalar)) = false
@@ -220,7 +220,7 @@ binding_array_checks s base =
     require (has (flags_at s base) CREATION_RESOLVED) (InvalidData base) ∷
     []
 
--- the info of the type at a place, which has this form, or why it is refused
+-- the info of the type of index `t`, which is `inner`, or the first error
 abbrev pub type_rule : Surroundings → ℕ → TypeInner → Result TypeInfo TypeError
 type_rule s t (form.Scalar scalar) =
     ok_unless (scalar_error s.capabilities scalar) (of_scalars (scalar_flags scalar.kind) (alignment_at s.layouts t) scalar)

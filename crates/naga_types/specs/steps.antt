@@ -1,4 +1,4 @@
--- What private functions alone promise one another.
+-- What only private functions promise one another.
 pub mod Components
 pub mod KnownTypes
 pub mod Structs

@@ -51,7 +51,7 @@ fn binding_array_flags(size: ArraySize) -> TypeFlags
     }
 }
 
-/// The layout of an array in an address space, from `base`, that of its elements there. Its alignment
+/// The layout of an array in an address space, by `base`, the layout of its elements there. Its alignment
 /// is at least `least`, and its stride in bytes a multiple of that.
 fn array_layout(
     handle: Handle<TypeTag>,

@@ -141,7 +141,7 @@ impl Wanted<'_> {
     }
 }
 
-/// Whether a form is a scalar, or a vector of it.
+/// Whether a type is `scalar`, or a vector of it.
 fn is_part_of(scalar: Scalar, inner: &TypeInner) -> bool
     ensures { result ≡ rule.is_part_of scalar (Some inner.now) }
 {
@@ -162,7 +162,7 @@ fn is_part_of(scalar: Scalar, inner: &TypeInner) -> bool
     }
 }
 
-/// Whether a form is a vector of this size and scalar.
+/// Whether a type is a vector of this size and scalar.
 fn is_vector_of(rows: VectorSize, scalar: Scalar, inner: &TypeInner) -> bool
     ensures { result ≡ rule.is_vector_of rows scalar (Some inner.now) }
 {
@@ -197,7 +197,7 @@ fn is_of(ty: Handle<TypeTag>, component: &TypeResolution, types: &UniqueArena) -
     compare_types(&TypeResolution::Handle(ty), component, types)
 }
 
-/// How many components of a vector values of a form make.
+/// How many components of a vector values of a type make.
 fn parts_in(inner: &TypeInner) -> u8
     ensures { result ≡ rule.parts_in (Some inner.now) }
 {

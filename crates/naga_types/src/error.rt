@@ -15,7 +15,7 @@ use std::fmt;
 use thiserror::Error;
 
 /// Why a type has no layout for the uniform or the storage address space (WGSL "Alignment and Size",
-/// "Address Space Layout Constraints"). Sizes, offsets and alignments are in bytes; an `index` is that of
+/// "Address Space Layout Constraints"). Sizes, offsets and alignments are in bytes; an `index` names
 /// a member, from 0.
 #[derive(Clone, Copy, Debug, PartialEq)]
 pub enum Disalignment {
@@ -107,7 +107,7 @@ pub enum VaryingError {
         /// The index of the source.
         blend_src: u32,
     },
-    /// A member beside the sources has a location, but is no source itself.
+    /// A member of a struct with blend sources has a location, but is not a source itself.
     #[error("A member at location {location} stands beside blend sources")]
     InvalidBlendSrcWithOtherBindings {
         /// The location of the last such member.
@@ -130,7 +130,7 @@ pub enum VaryingError {
     },
 }
 
-/// Why a type is refused: naga's `TypeError`. A handle is that of the type at fault, an `index` that of a
+/// Why a type is refused: naga's `TypeError`. A handle names the type at fault, an `index` a
 /// member, from 0, and offsets, sizes, spans and strides are in bytes.
 #[derive(Debug, PartialEq, Drop, Error)]
 pub enum TypeError {
@@ -143,14 +143,14 @@ pub enum TypeError {
     /// A pointer's base is not data (WGSL "Memory Views").
     #[error("Invalid type for pointer target {0:?}")]
     InvalidPointerBase(Handle<TypeTag>),
-    /// A pointer's base has no fixed size, and the pointer's space is not that of storage buffers.
+    /// A pointer's base has no fixed size, and the pointer's space is not `Storage`.
     #[error("Unsized types like {base:?} must be in the `Storage` address space, not `{space:?}`")]
     InvalidPointerToUnsized {
         base: Handle<TypeTag>,
         /// The pointer's space.
         space: AddressSpace,
     },
-    /// The type can't be that of a member or of an element of a binding array, or a doc comment is on a
+    /// The type can't be the type of a member or of an element of a binding array, or a doc comment is on a
     /// member that the type doesn't have.
     #[error("Expected data type, found {0:?}")]
     InvalidData(Handle<TypeTag>),
@@ -164,7 +164,7 @@ pub enum TypeError {
     /// Never returned: no constant is specialized here.
     #[error("The constant {0:?} is specialized, and cannot be used as an array size")]
     UnsupportedSpecializedArrayLength(Handle<ConstantTag>),
-    /// Images of this form are not supported (WGSL "Texture Types").
+    /// Images of this dimension and class are not supported (WGSL "Texture Types").
     #[error("{what} of dimensionality {dim:?} and class {class:?} are not supported", what = images(.arrayed))]
     UnsupportedImageType {
         dim: ImageDimension,
@@ -178,10 +178,10 @@ pub enum TypeError {
         expected: u32,
     },
     /// A member has no fixed size, and isn't an array at the end of its struct (WGSL "Structure Types").
-    /// The text is the member's name, or empty; the handle is that of the member's type.
+    /// The text is the member's name, or empty; the handle is the member's type.
     #[error("Field '{0}' can't be dynamically-sized, has type {1:?}")]
     InvalidDynamicArray(Text, Handle<TypeTag>),
-    /// The elements of a binding array are data, but not structs. The handle is that of their type.
+    /// The elements of a binding array are data, but not structs. The handle is their type.
     #[error("The base handle {0:?} has to be a struct")]
     BindingArrayBaseTypeNotStruct(Handle<TypeTag>),
     /// The elements of a binding array are external images.

@@ -11,8 +11,8 @@ use naga_ir::types::{Scalar, StructMember, TypeInner};
 use naga_ir::unique_arena::UniqueArena;
 
 /// Whether these are the members of a struct that an atomic compare-exchange returns: `old_value`, of
-/// a form that `scalar_predicate` accepts, and `exchanged`, a Boolean. The rule is that of naga's
-/// function of this name. The predicate is called last, and only with the form of `old_value`.
+/// a type that `scalar_predicate` accepts, and `exchanged`, a bool. The rule is naga's
+/// function of this name. The predicate is called last, and only with the type of `old_value`.
 pub fn validate_atomic_compare_exchange_struct<P: FnOnce(&TypeInner) -> bool>(
     types: &UniqueArena,
     members: &[StructMember],
@@ -40,7 +40,7 @@ fn is_named(member: &StructMember, name: &str) -> bool
     }
 }
 
-/// Whether values of a form are Booleans.
+/// Whether values of a type are bools.
 fn is_bool_type(inner: &TypeInner) -> bool
     ensures { result ≡ spec.is_bool_type (Some inner.now) }
 {

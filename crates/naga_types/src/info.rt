@@ -1,4 +1,4 @@
-//! The infos of types, and what types are judged by.
+//! The infos of types, and what the rule of types depends on.
 
 ghost use Rattle.std.specs.Prelude.{◌≡◌, ◌==◌, ◌<◌, ◌≤◌, [], ◌∷◌, ◌++◌, length, IfOk, IsOk, OnErr, OnOk, Some, slice_get};
 
@@ -15,7 +15,7 @@ use std::alloc::Global;
 use std::marker::Model;
 
 /// The alignment, in bytes, at which host and device may share values of a type in an address space, or
-/// the type inside it because of which they may not, and why. It matters for host-shareable types alone.
+/// the type inside it because of which they may not, and why. It matters only for host-shareable types.
 pub type LayoutCompatibility = Result<Alignment, (Handle<TypeTag>, Disalignment)>;
 
 /// What is known of an accepted type: naga's `TypeInfo`.
@@ -45,7 +45,7 @@ impl TypeInfo {
     }
 }
 
-/// The infos of a module's types. Contracts see them as a list in the order of the types, beside the
+/// The infos of a module's types. Contracts see them as a list in the order of the types, with the
 /// room for infos that takes no more memory.
 #[derive(Debug, Drop)]
 pub struct TypeInfos {
@@ -129,14 +129,14 @@ impl TypeInfos {
     }
 }
 
-/// What a type is judged by, beside the module.
+/// What the rule of a type depends on, besides the module.
 #[derive(Clone, Copy)]
 pub struct TypeContext<'a> {
     /// What shaders may use.
     pub capabilities: Capabilities,
     /// Whether overrides must have their values.
     pub overrides_resolved: bool,
-    /// The infos of the types before the one that is judged, or of more.
+    /// The infos of the types before the one that is validated, or of more.
     pub infos: &'a TypeInfos,
     /// The layouts of all types.
     pub layouter: &'a Layouter,

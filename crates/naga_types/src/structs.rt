@@ -218,7 +218,7 @@ impl StructType<'_> {
         Ok(sources)
     }
 
-    /// The last location of a member that is no source of blending.
+    /// The last location of a member that is not a source of blending.
     fn other_location(&self) -> Option<u32>
         ensures { result ≡ rule.other_location self.now.members.now }
     {

@@ -1,4 +1,4 @@
-//! What forms of types are, apart from any rule on them.
+//! Properties of types by themselves, apart from any rule on them.
 
 ghost use Rattle.std.specs.Prelude.{◌≡◌};
 ghost use Rattle.naga_types.specs.TypeMethods as spec;
@@ -6,8 +6,8 @@ ghost use Rattle.naga_types.specs.TypeRule as rule;
 
 use naga_ir::types::{ArraySize, ImageDimension, ScalarKind, TypeInner, VectorSize};
 
-/// Whether values of a form have a size that is fixed in the module: no override decides it, and no
-/// buffer. The rule is that of naga's `TypeInner::is_sized`.
+/// Whether values of a type have a size that is fixed in the module: no override decides it, and no
+/// buffer. The rule is naga's `TypeInner::is_sized`.
 pub fn is_sized(inner: &TypeInner) -> bool
     ensures { result ≡ spec.is_sized inner.now }
 {
@@ -33,8 +33,8 @@ pub fn is_sized(inner: &TypeInner) -> bool
     }
 }
 
-/// The dimension of the storage images in which values of a form are coordinates: those of one, two or
-/// three integers (WGSL "Storage Texture Types"). Other forms are coordinates in none.
+/// The dimension of the storage images in which values of a type are coordinates: those of one, two or
+/// three integers (WGSL "Storage Texture Types"). Other types are coordinates in none.
 pub fn image_storage_coordinates(inner: &TypeInner) -> Option<ImageDimension>
     ensures { result ≡ spec.image_storage_coordinates inner.now }
 {

@@ -58,7 +58,7 @@ module _ (m : Module) (x : Expression) (earlier : List TypeResolution) (can : Ca
   pub function_exists : (f : ℕ) → x ≡ expression.CallResult f → f < length m.functions
   function_exists f e = All-contains InSight (expression_references x) (to.Function f) can.references (item_in x (to.Function f) (function_named f e))
 
-  -- the types that the form of an operand's type names exist
+  -- the types that an operand's type names exist
   pub operand_parts_exist : (e : ℕ) (inner : TypeInner) → type_of_operand m.types earlier e ≡ Some inner → PartsExist m.types inner
   operand_parts_exist e inner at = by_operand (slice_get earlier e) refl at
     where

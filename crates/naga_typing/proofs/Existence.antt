@@ -29,7 +29,7 @@ constant_named : (c : ℕ) → named_item (expression.Constant c) ≡ Some (to.C
 unfolding named_item
 constant_named c = refl
 
--- the override that sizes a form exists
+-- the override that sizes a type exists
 pub size_override_exists : (g : GlobalLists) (inner : TypeInner) → ReferencesExist g inner → IfSome (size_override inner) (λ o. o < length g.overrides)
 size_override_exists g inner there =
     if_some (λ o. o < length g.overrides) (size_override inner)

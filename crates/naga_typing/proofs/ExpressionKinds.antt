@@ -1,4 +1,4 @@
--- Kinds of expressions: the latest of those of its operands, and laws of the kinds of all.
+-- Kinds of expressions: the latest kind of the operands, and laws of the kinds of all.
 use Rattle.std.proofs.Common.{◌≡◌, ◌<◌, ◌++◌, ◌∷◌, ℕ, suc, List, [], Some, Contains, map, length, slice_get, refl, sym, subst, ap, ◌∙◌, arith}
 use Rattle.std.specs.Option.{unwrap_or}
 use Rattle.naga_ir.specs.Handles.{ReferencesPrecede, OrderedOperands, own_operand}
@@ -58,7 +58,7 @@ operands_stay kinds more (o ∷ os) within =
     ap (λ k. k ∷ map (kind_at (kinds ++ more)) os) (ap (λ f. unwrap_or f Runtime) (get_stays kinds more o (within o (0, omega arith, refl))))
     ∙ ap (λ ks. kind_at kinds o ∷ ks) (operands_stay kinds more os (λ p h. within p (suc h.0, omega (arith, h.1), h.2)))
 
--- the kind of an expression stays when those of its operands are known already
+-- the kind of an expression stays when the kinds of its operands are known already
 kind_stays : (kinds more : List ExpressionKind) (x : Expression) → ((o : ℕ) → Contains (operands x) o → o < length kinds) → kind_of (kinds ++ more) x ≡ kind_of kinds x
 kind_stays kinds more x within = by_form x (ap latest (operands_stay kinds more (operands x) within))
   where

@@ -1,4 +1,4 @@
--- Resolving expressions in their order, for any lawful typing: those of the module, and those of a function.
+-- Resolving expressions in their order, for any lawful typing: of the module, and of a function.
 use Rattle.std.proofs.Common.{◌≡◌, ℕ, List, [], ◌∷◌, ◌++◌, Some, Ok, All, length, slice_get, refl, sym, subst, ap, ◌∙◌, length-append}
 use Rattle.std.specs.List.{enumerate_from}
 use Rattle.std.proofs.lemmas.List.Elements.{All-append, All-cons, All-nil}

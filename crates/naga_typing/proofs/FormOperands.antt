@@ -1,4 +1,4 @@
--- The operands of the forms whose types follow from them.
+-- The operands of the variants whose types follow from them.
 use Rattle.std.proofs.Common.{◌≡◌, Bool, ℕ, List, Option, Contains, refl, subst, sym, arith}
 use Rattle.naga_ir.specs.References.{operands}
 use Rattle.naga_ir.specs.declared.expression.BinaryOperator.{BinaryOperator}

@@ -24,7 +24,7 @@ one_more : (xs : List ℕ) (a : ℕ) → greatest (xs ++ a ∷ []) ≡ max (grea
 one_more [] a = max_comm a 1
 one_more (x ∷ xs) a = ap (max x) (one_more xs a) ∙ max_assoc x (greatest xs) a
 
--- with one more item, the greatest is the greater of the greatest so far and that of the item
+-- with one more item, the greatest is the greater of the greatest so far and the alignment of the item
 pub greatest_more : {X : Type 0} (f : X → ℕ) (xs : List X) (i : ℕ) (x : X) (a : ℕ) → i < length xs → x ≡ get_or xs i x → a ≡ greatest (map f (take i xs))
     → max a (f x) ≡ greatest (map f (take (i + 1) xs))
 greatest_more f xs i x a h e so_far =

@@ -20,7 +20,7 @@ module _ {X V : Type 0} (rule : List V → X → V) (items : List X) where
       same : (v w : V) → (let left : Result V ⊥ = Ok v in Some left ≡ Some (Ok w)) → v ≡ w
       same v w e = cc e
 
-  -- if the rule depends on the values before an item alone, the value of each item is also what it gives by all values
+  -- if the rule depends only on the values before an item, the value of each item is also what it gives by all values
   pub value_by_all : (values : List V) → AllAcceptedInOrder in_order items values → (k : ℕ) (x : X) → slice_get items k ≡ Some x
       → ((before more : List V) → length before ≡ k → rule (before ++ more) x ≡ rule before x) → slice_get values k ≡ Some (rule values x)
   value_by_all values all k x at stays =

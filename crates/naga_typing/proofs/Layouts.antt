@@ -1,4 +1,4 @@
--- Laws of layouts: there is one list of them, each follows from those of the parts of its type, and alignments are powers of two.
+-- Laws of layouts: there is one list of them, each follows from the layouts of the parts of its type, and alignments are powers of two.
 use Rattle.std.proofs.Common.{◌≡◌, ◌<◌, ◌≤◌, ◌++◌, ◌∷◌, ◌⊎◌, ⊎_elim, inl, inr, Bool, true, false, if◌then◌else◌, ℕ, zero, suc, max, List, [], All, Option, Some, None, Result, Err, IsOk, map, length, slice_get, take, refl, sym, subst, ap, ◌∙◌, arith}
 use Rattle.std.specs.Int.{is_power_of_two}
 use Rattle.std.specs.Option.{option_map}
@@ -33,7 +33,7 @@ members_stay layouts more (m ∷ members) all =
     ap (λ a. a ∷ map (λ (m : StructMember). alignment_at (layouts ++ more) m.ty) members) (at_stays layouts more m.ty (all 0 m (omega arith)))
     ∙ ap (λ rest. alignment_at layouts m.ty ∷ rest) (members_stay layouts more members (λ k d within. all (suc k) d (omega (arith, within))))
 
--- the alignment of a form stays when its parts are laid out already
+-- the alignment of a type stays when its parts are laid out already
 alignment_stays : (layouts more : List TypeLayout) (inner : TypeInner) → PartsLaidOut layouts inner → alignment_of (layouts ++ more) inner ≡ alignment_of layouts inner
 alignment_stays layouts more (Array base size stride) laid_out = at_stays layouts more base (base_is (λ (p : ℕ). p < length layouts) (Array base size stride) base size stride laid_out refl)
 alignment_stays layouts more (Struct members span) laid_out =

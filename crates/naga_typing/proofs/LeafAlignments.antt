@@ -28,7 +28,7 @@ pub leaf-alignment_once : (g : GlobalLists) (t a b : ℕ) → IsLeafAlignment g 
 leaf-alignment_once g t a b x y = omega (arith, x.is_its, y.is_its, x.is_greatest y.path y.leaf y.stands, y.is_greatest x.path x.leaf x.stands)
 
 module _ (g : GlobalLists) (t : ℕ) where
-  -- that of a leaf is its own
+  -- the leaf alignment of a leaf is its own alignment
   pub alignment-of_leaf : (inner : TypeInner) → inner_at g t ≡ Some inner → is_leaf inner ≡ true → IsLeafAlignment g t (alignment_of [] inner)
   alignment-of_leaf inner is leaf = record {
     path = [];
@@ -45,7 +45,7 @@ module _ (g : GlobalLists) (t : ℕ) where
           omega (arith, alike)
       below (i ∷ path) x h = no-leaf x (sym (leaf-in_part g one_each t inner is i path ∙ ap (leaf_of_part g one_each path) (leaf-no_part one_each inner i leaf)) ∙ h)
 
-  -- that of an array is that of its base
+  -- the leaf alignment of an array is the leaf alignment of its base
   pub alignment-of_array : (base : ℕ) (size : ArraySize) (stride a : ℕ) → inner_at g t ≡ Some (Array base size stride) → IsLeafAlignment g base a → IsLeafAlignment g t a
   alignment-of_array base size stride a is b = record {
     path = 0 ∷ b.path;
@@ -64,7 +64,7 @@ module _ (g : GlobalLists) (t : ℕ) where
           let same : x.alignment ≡ p.own.alignment = ap (λ (l : LeafBytes). l.alignment) p.is_moved in
           omega (arith, own, same)
 
-  -- that of a struct is the greatest of its members
+  -- the leaf alignment of a struct is the greatest of its members
   pub alignment-of_struct : (members : List StructMember) (span : ℕ) (of : ℕ → ℕ) → inner_at g t ≡ Some (Struct members span) → 0 < length members → All (λ (m : StructMember). 1 ≤ of m.ty) members
       → All (λ (m : StructMember). IsLeafAlignment g m.ty (of m.ty)) members → IsLeafAlignment g t (greatest (map (λ (m : StructMember). of m.ty) members))
   alignment-of_struct members span of is some positive all =

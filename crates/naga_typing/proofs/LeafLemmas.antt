@@ -12,7 +12,7 @@ use Rattle.naga_ir.specs.declared.types.TypeInner.TheVariants.{Array, Struct}
 use Rattle.naga_typing.specs.Layout.{alignment_of, size_of}
 use Rattle.naga_typing.specs.Leaves.{Elements, LeafBytes, Part, inner_at, is_leaf, leaf_at, moved, part_at, whole_leaf}
 
--- nothing is no leaf
+-- no type means no leaf
 pub no-leaf : {P : Type 0} (leaf : LeafBytes) → None ≡ Some leaf → P
 no-leaf leaf h = absurd (impossible h)
   where
@@ -43,7 +43,7 @@ pub record LeafOfPart (g : GlobalLists) (elements_of : Elements) (inner : TypeIn
   pub is_own : leaf_at g elements_of part.ty path ≡ Some own
   pub is_moved : leaf ≡ moved part.first own
 
--- what is no type has no leaves
+-- a handle that names no type has no leaves
 pub leaf-none : (g : GlobalLists) (elements_of : Elements) (t : ℕ) (path : List ℕ) → inner_at g t ≡ None → leaf_at g elements_of t path ≡ None
 unfolding leaf_at
 leaf-none g elements_of t [] none = ap (option_and_then (whole_leaf g)) none
@@ -78,7 +78,7 @@ module _ (g : GlobalLists) (elements_of : Elements) (t : ℕ) (inner : TypeInner
       by_part None is_part e = no-leaf leaf e
       by_part (Some part) is_part e = by_own part is_part (leaf_at g elements_of part.ty path) refl e
 
--- a type that has leaves has a form
+-- a type that has leaves is there
 pub leaf-form : (g : GlobalLists) (elements_of : Elements) (t : ℕ) (path : List ℕ) (leaf : LeafBytes) → leaf_at g elements_of t path ≡ Some leaf → (inner : TypeInner) × (inner_at g t ≡ Some inner)
 leaf-form g elements_of t path leaf h = by (inner_at g t) refl
   where
@@ -86,7 +86,7 @@ leaf-form g elements_of t path leaf h = by (inner_at g t) refl
     by None none = no-leaf leaf (sym (leaf-none g elements_of t path none) ∙ h)
     by (Some inner) is = (inner, is)
 
--- a form that is a leaf is all of it
+-- a type that is a leaf is all of it
 pub leaf-whole : (g : GlobalLists) (inner : TypeInner) → is_leaf inner ≡ true → whole_leaf g inner ≡ Some (all_of g inner)
 leaf-whole g inner e = ap (λ b. if b then Some (all_of g inner) else None) e
 
@@ -94,7 +94,7 @@ leaf-whole g inner e = ap (λ b. if b then Some (all_of g inner) else None) e
 pub leaf-not_whole : (g : GlobalLists) (inner : TypeInner) → is_leaf inner ≡ false → whole_leaf g inner ≡ None
 leaf-not_whole g inner e = ap (λ b. if b then Some (all_of g inner) else None) e
 
--- so a leaf that a form is has all its bytes
+-- so a leaf that a type is has all its bytes
 pub leaf-is_whole : (g : GlobalLists) (inner : TypeInner) (leaf : LeafBytes) → whole_leaf g inner ≡ Some leaf → (is_leaf inner ≡ true) × (leaf ≡ all_of g inner)
 leaf-is_whole g inner leaf h = by (is_leaf inner) refl
   where

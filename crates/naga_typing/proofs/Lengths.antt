@@ -1,4 +1,4 @@
--- Laws of lengths: a form whose references exist has a length, and no other.
+-- Laws of lengths: a type whose references exist has a length, and no other.
 use Rattle.std.proofs.Common.{◌≡◌, ◌≤◌, ℕ, zero, suc, List, Some, Result, slice_get, refl, sym, subst, ap, ◌∙◌, arith}
 use Rattle.std.proofs.lemmas.Option.{same_Some}
 use Rattle.naga_arena.proofs.InOrder.{found_at}
@@ -16,7 +16,7 @@ use Rattle.naga_typing.specs.declared.index.IndexableLength.{IndexableLength}
 use Rattle.naga_typing.specs.declared.index.IndexableLengthError.{IndexableLengthError}
 
 module _ (types : List «Type») where
-  -- a form that is no pointer leads to itself alone
+  -- a type that is not a pointer leads only to itself
   leads_to_itself : (x y : TypeInner) → IsNoPointer x → PointsTo types x y → x ≡ y
   leads_to_itself _ _ none (itself x n) = refl
   leads_to_itself _ _ none (pointed_to base space t x at h) = absurd none
@@ -30,12 +30,12 @@ module _ (types : List «Type») where
   leads_by_base base space t _ _ e at (pointed_to b s u y found h) =
       subst (λ (v : «Type»). PointsTo types v.inner y) (same_Some u t (sym found ∙ ap (slice_get types) (same_base b base s space e) ∙ at)) h
 
-  -- a form leads to one form at most
+  -- a type leads to one type at most
   pub leads_to_one : (i x y : TypeInner) → PointsTo types i x → PointsTo types i y → x ≡ y
   leads_to_one _ _ y (itself x none) other = leads_to_itself x y none other
   leads_to_one _ _ y (pointed_to base space t x at h) other = leads_to_one t.inner x y h (leads_by_base base space t (Pointer base space) y refl at other)
 
--- no form has two lengths
+-- no type has two lengths
 pub length_once : (g : GlobalLists) (of_array : LengthOfArray) (inner : TypeInner) (r s : Result IndexableLength IndexableLengthError) → IsLength g of_array inner r → IsLength g of_array inner s → r ≡ s
 length_once g of_array inner r s a b = a.2 ∙ ap (length_of of_array) (leads_to_one g.types inner a.0 b.0 a.1 b.1) ∙ sym b.2
 
@@ -49,6 +49,6 @@ module _ (g : GlobalLists) (ok : GlobalReferencesOk g) where
       (rest.0, pointed_to base space t.0 rest.0 t.1 rest.1)
   leads n inner below exist = (inner, itself inner tt)
 
-  -- a form whose references exist has a length
+  -- a type whose references exist has a length
   pub length_exists : (of_array : LengthOfArray) (inner : TypeInner) → ReferencesExist g inner → (r : Result IndexableLength IndexableLengthError) × IsLength g of_array inner r
   length_exists of_array inner exist = let found = leads (pointers_left inner) inner (omega arith) exist in (length_of of_array found.0, (found.0, found.1, refl))

@@ -1,4 +1,4 @@
--- Following pointers to the form that they lead to.
+-- Following pointers to the type that they lead to.
 use Rattle.std.proofs.Common.{◌≡◌, ◌<◌, ℕ, suc, List, Some, Contains, length, map, slice_get, refl, sym, subst, arith, option_to_list}
 use Rattle.std.proofs.lemmas.List.Elements.{All-contains, Contains-append_left}
 use Rattle.naga_ir.specs.Handles.{ExistsGlobally, GlobalReferencesOk}
@@ -16,7 +16,7 @@ use Rattle.naga_typing.proofs.Existence.{references_exist}
 use Rattle.naga_typing.specs.Context.{ReferencesExist}
 use Rattle.naga_typing.specs.Index.{IsNoPointer, PointsTo, itself, pointed_to}
 
--- one more than the index that a pointer points to, and 0 for other forms
+-- one more than the index that a pointer points to, and 0 for other types
 abbrev pub pointers_left : TypeInner → ℕ
 pointers_left (Pointer base space) = suc base
 pointers_left _ = 0
@@ -34,7 +34,7 @@ pointer_base_exists g inner base space exist e =
     (Contains-append_left named (map to.Override (option_to_list (size_override form))) (to.Type_ base) (type_of_pointer base space))
 
 module _ (g : GlobalLists) where
-  -- pointers lead from one form to another
+  -- pointers lead from one type to another
   pub record Following (from now : TypeInner) : Type 0 where
     pub exist : ReferencesExist g now
     pub leads : (x : TypeInner) → PointsTo g.types now x → PointsTo g.types from x

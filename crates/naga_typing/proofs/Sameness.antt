@@ -1,4 +1,4 @@
--- Whether two types are the same: the truth value and the relation agree.
+-- Whether two types are the same: the bool and the relation agree.
 use Rattle.std.proofs.Common.{◌≡◌, ◌==◌, ◌&&◌, ◌↔◌, ℕ, Bool, not, Decides, IsTrue, List, Option, Some, None, refl, sym, ap, subst₂, true≢false, ◌∙◌}
 use Rattle.std.proofs.lemmas.Bool.Decides.{Decides-and, Decides-eqb, Decides-like, Decides-or, same_from_decides}
 use Rattle.std.proofs.lemmas.Option.{same_Some}
@@ -51,7 +51,7 @@ module _ (types : List «Type») (lhs rhs : TypeResolution) where
       (all_three (is_struct x) (is_struct y) unary (struct_decides x) (struct_decides y) (one_handle_decides lhs rhs))
       (all_three (not (is_struct x)) (not (is_struct y)) equal (no_struct_decides x) (no_struct_decides y) (inner_decides (canonical types x) (canonical types y)))
 
-  -- there are two forms, and they are of the same type
+  -- there are two types, and they are the same
   abbrev pub AreSameFound : Option TypeInner → Option TypeInner → Type 0
   AreSameFound l r = (x : TypeInner) × (y : TypeInner) × (l ≡ Some x) × (r ≡ Some y) × AreSameInners types lhs rhs x y
 
@@ -64,11 +64,11 @@ module _ (types : List «Type») (lhs rhs : TypeResolution) where
   found_decides None _ = (λ e. absurd (true≢false (sym e)), λ (h : AreSameFound None _). cc (h.2))
   found_decides (Some x) None = (λ e. absurd (true≢false (sym e)), λ h. cc (h.3))
 
--- the truth value decides the relation
+-- the bool decides the relation
 pub same_decides : (types : List «Type») (lhs rhs : TypeResolution) → Decides (are_same types lhs rhs) (AreSameTypes types lhs rhs)
 unfolding are_same
 same_decides types lhs rhs = found_decides types lhs rhs _ _
 
--- a truth value that decides the relation is that one
+-- a bool that decides the relation is this one
 pub same_types : (types : List «Type») (lhs rhs : TypeResolution) (result : Bool) → IsTrue result ↔ AreSameTypes types lhs rhs → result ≡ are_same types lhs rhs
 same_types types lhs rhs result says = same_from_decides result (are_same types lhs rhs) says (same_decides types lhs rhs)

@@ -22,7 +22,7 @@ use Rattle.naga_typing.specs.Leaves.{EndsInArray, HasNoShortStride, IsLeafAlignm
 abbrev typed : TypeInner → «Type»
 typed inner = record { name = None; inner = inner }
 
--- lists of types of these forms, and of nothing else
+-- lists of these types, and of nothing else
 abbrev of_types : List TypeInner → GlobalLists
 of_types inners = record { types = map typed inners; constants = []; overrides = []; expressions = [] }
 
@@ -178,7 +178,7 @@ unfolding leaf_at
 unsized-no_leaves n [] leaf h = cc h
 unsized-no_leaves n (i ∷ path) leaf h = no-leaf leaf (sym (leaf-past_end unsized (elements unsized n) 1 0 (Pending 0) 16 i path refl (omega arith)) ∙ h)
 
--- as its leaves see it, its alignment is that of the one element that it would have
+-- as its leaves see it, its alignment is the alignment of the one element that it would have
 pub unsized-alignment : IsLeafAlignment unsized 1 4
 unsized-alignment = alignment-of_array unsized 1 0 (Pending 0) 16 4 refl (alignment-of_leaf unsized 0 number refl refl)
 

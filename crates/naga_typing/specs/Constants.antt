@@ -38,7 +38,7 @@ literal_index (literal.Bool value) = Err InvalidType
 literal_index (literal.AbstractInt n) = Err InvalidType
 literal_index (literal.AbstractFloat bits) = Err InvalidType
 
--- a scalar type is that of an index if its values are integers of two or four bytes
+-- values of a scalar type can be indexes: integers of two or four bytes
 abbrev pub is_index_type : Scalar → Boolean
 is_index_type s = elim s.kind [
   | Sint ↦ s.width == 2 || s.width == 4
@@ -49,7 +49,7 @@ is_index_type s = elim s.kind [
   | AbstractFloat ↦ false
 ]
 
--- the zero of a scalar type is an index if the type is that of an index
+-- the zero of a scalar type is an index if values of the type can be
 abbrev pub zero_index : TypeInner → Result ℕ ConstValueError
 zero_index (form.Scalar s) = if is_index_type s then Ok 0 else Err InvalidType
 zero_index (form.Vector size scalar) = Err NonConst
@@ -118,7 +118,7 @@ abbrev pub named_index : GlobalLists → Option Constant → Result ℕ ConstVal
 named_index g None = Err NonConst
 named_index g (Some c) = unnamed_index g.types (slice_get g.expressions c.init)
 
--- the index that an expression gives: a constant that of its initialiser, unless that is a constant again
+-- the index that an expression gives: for a constant the index of its initialiser, unless that is a constant again
 abbrev pub index_of : GlobalLists → Option Expression → Result ℕ ConstValueError
 index_of g (Some (expression.Constant c)) = named_index g (slice_get g.constants c)
 index_of g x = unnamed_index g.types x

@@ -9,6 +9,6 @@ use Rattle.naga_typing.specs.declared.context.GlobalCtx.{GlobalCtx}
 abbrev pub lists_of : GlobalCtx → GlobalLists
 lists_of g = record { types = g.types.now; constants = g.constants.now; overrides = g.overrides.now; expressions = g.global_expressions.now }
 
--- everything that a form refers to exists
+-- everything that a type refers to exists
 abbrev pub ReferencesExist : GlobalLists → TypeInner → Type 0
 ReferencesExist g inner = All (ExistsGlobally g) (type_references inner)

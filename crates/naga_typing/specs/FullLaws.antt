@@ -82,7 +82,7 @@ module _ (g : GlobalLists) (types_ok : AllPartsExist g.types) where
   of_part_pointer index space (BindingArray base size) exist = of_pointer base space (exist base (parts_of_binding_array base size))
   of_part_pointer index space _ exist = tt
 
-  -- a rule on what a pointer points to keeps the laws if it keeps them for every form
+  -- a rule on what a pointer points to keeps the laws if it keeps them for every type
   of_target : (base : ℕ) (rule : TypeInner → ResolveResult) → ((inner : TypeInner) → PartsExist g.types inner → IsLawfulResult g (rule inner)) → IsLawfulResult g (at_target g.types base rule)
   of_target base rule lawful = by_type (slice_get g.types base) refl
     where

@@ -82,7 +82,7 @@ part_pointer index space (Sampler comparison) = Err IncompatibleOperands
 part_pointer index space (AccelerationStructure vertex_return) = Err IncompatibleOperands
 part_pointer index space (RayQuery vertex_return) = Err IncompatibleOperands
 
--- the result of a rule on the form of a type of a list, if there is one
+-- the result of a rule on a type of a list, if there is one
 abbrev pub at_target : List «Type» → ℕ → (TypeInner → ResolveResult) → ResolveResult
 at_target types base rule = of_form (inner_in types (Handle base)) rule
 
@@ -138,7 +138,7 @@ load_of types (AccelerationStructure vertex_return) = Err IncompatibleOperands
 load_of types (RayQuery vertex_return) = Err IncompatibleOperands
 load_of types (BindingArray base size) = Err IncompatibleOperands
 
--- the dimension and the class of an image; other forms have none
+-- the dimension and the class of an image; other types have none
 abbrev pub image_parts : TypeInner → Option (ImageDimension × ImageClass)
 image_parts (Image dim arrayed class) = Some (dim, class)
 image_parts (Scalar scalar) = None
@@ -155,7 +155,7 @@ image_parts (AccelerationStructure vertex_return) = None
 image_parts (RayQuery vertex_return) = None
 image_parts (BindingArray base size) = None
 
--- the result of a rule on the dimension and the class of an image; other forms don't fit
+-- the result of a rule on the dimension and the class of an image; other types don't fit
 abbrev pub of_image : Option (ImageDimension × ImageClass) → (ImageDimension → ImageClass → ResolveResult) → ResolveResult
 of_image None rule = Err IncompatibleOperands
 of_image (Some parts) rule = rule parts.0 parts.1
@@ -187,7 +187,7 @@ sample_of (Some component) class = gathered_of class
 abbrev pub sample_in : Option SwizzleComponent → TypeInner → ResolveResult
 sample_in gather inner = of_image (image_parts inner) (λ dim class. sample_of gather class)
 
--- the size of an image, in texels, by its dimension; that of a cube is the size of a face
+-- the size of an image, in texels, by its dimension; for a cube the size of a face
 abbrev pub extent_of : ImageDimension → ResolveResult
 extent_of D1 = Ok (Value (Scalar u32_scalar))
 extent_of D2 = Ok (Value (Vector Bi u32_scalar))

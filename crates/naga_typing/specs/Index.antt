@@ -14,7 +14,7 @@ use Rattle.naga_typing.specs.declared.index.IndexableLength.TheVariants.{Known, 
 use Rattle.naga_typing.specs.declared.index.IndexableLengthError.{IndexableLengthError}
 use Rattle.naga_typing.specs.declared.index.IndexableLengthError.TheVariants.{TypeNotIndexable, InvalidArrayLength}
 
--- a form is no pointer to a type of the module
+-- `inner` is not a pointer to a type of the module
 abbrev pub IsNoPointer : TypeInner → Type 0
 IsNoPointer (Pointer base space) = ⊥
 IsNoPointer (Scalar scalar) = ⊤
@@ -31,7 +31,7 @@ IsNoPointer (AccelerationStructure vertex_return) = ⊤
 IsNoPointer (RayQuery vertex_return) = ⊤
 IsNoPointer (BindingArray base size) = ⊤
 
--- a form leads through any number of pointers to a form that is no pointer
+-- a type leads through any number of pointers to a type that is not a pointer
 pub data PointsTo (types : List «Type») : TypeInner → TypeInner → Type 0 where
   itself : (x : TypeInner) → IsNoPointer x → PointsTo types x x
   pointed_to : (base : ℕ) (space : AddressSpace) (t : «Type») (x : TypeInner) → slice_get types base ≡ Some t → PointsTo types t.inner x → PointsTo types (Pointer base space) x
@@ -57,7 +57,7 @@ resolved_length g size.Dynamic = Ok Dynamic
 abbrev pub LengthOfArray : Type 0
 LengthOfArray = ArraySize → Result IndexableLength IndexableLengthError
 
--- the length of a form that is no pointer to a type of the module, by the length of arrays
+-- the length of a type that is not a pointer to a type of the module, by the length of arrays
 abbrev pub length_of : LengthOfArray → TypeInner → Result IndexableLength IndexableLengthError
 length_of of_array (Vector size scalar) = Ok (Known (components size))
 length_of of_array (Matrix columns rows scalar) = Ok (Known (components columns))
@@ -75,6 +75,6 @@ length_of of_array (Sampler comparison) = Err TypeNotIndexable
 length_of of_array (AccelerationStructure vertex_return) = Err TypeNotIndexable
 length_of of_array (RayQuery vertex_return) = Err TypeNotIndexable
 
--- the length of a form is that of the form that it leads to through pointers
+-- the length of a type is the length of the type that it leads to through pointers
 abbrev pub IsLength : GlobalLists → LengthOfArray → TypeInner → Result IndexableLength IndexableLengthError → Type 0
 IsLength g of_array inner result = (x : TypeInner) × PointsTo g.types inner x × (result ≡ length_of of_array x)

@@ -43,7 +43,7 @@ size_of g (AccelerationStructure vertex_return) = 0
 size_of g (RayQuery vertex_return) = 0
 size_of g (BindingArray base size) = 0
 
--- the size of a value is a number of 32 bits: that of an array may not be, and that of any other form is
+-- the size of a value is a number of 32 bits: the size of an array may not be, the size of any other type is
 abbrev pub SizeFits : GlobalLists → TypeInner → Type 0
 SizeFits g (Array base size stride) = element_count g size * stride ≤ largest_u32
 SizeFits g (Scalar scalar) = ⊤
@@ -74,7 +74,7 @@ alignment_in (Some layout) = layout.alignment
 abbrev pub alignment_at : List TypeLayout → ℕ → ℕ
 alignment_at layouts t = alignment_in (slice_get layouts t)
 
--- the alignment of a value, by the layouts of other types: of a matrix that of its columns, of an array that of its base, of a struct the greatest of its members
+-- the alignment of a value, by the layouts of other types: of a matrix the alignment of its columns, of an array of its base, of a struct the greatest of its members
 abbrev pub alignment_of : List TypeLayout → TypeInner → ℕ
 alignment_of layouts (Scalar scalar) = scalar.width
 alignment_of layouts (Vector size scalar) = vector_alignment size * scalar.width
@@ -91,7 +91,7 @@ alignment_of layouts (AccelerationStructure vertex_return) = 1
 alignment_of layouts (RayQuery vertex_return) = 1
 alignment_of layouts (BindingArray base size) = 1
 
--- the layout of a form, by the layouts of other types
+-- the layout of a type, by the layouts of other types
 abbrev pub layout_of_inner : GlobalLists → List TypeLayout → TypeInner → TypeLayout
 layout_of_inner g layouts inner = record { size = size_of g inner; alignment = alignment_of layouts inner }
 
@@ -99,7 +99,7 @@ layout_of_inner g layouts inner = record { size = size_of g inner; alignment = a
 abbrev pub layout_of : GlobalLists → List TypeLayout → «Type» → TypeLayout
 layout_of g layouts t = layout_of_inner g layouts t.inner
 
--- the width of the scalars of a form, and 1 if it has none of its own
+-- the width of the scalars of a type, and 1 if it has none of its own
 abbrev pub width_of : TypeInner → ℕ
 width_of (Scalar scalar) = scalar.width
 width_of (Vector size scalar) = scalar.width
@@ -137,7 +137,7 @@ size_rule g (AccelerationStructure vertex_return) = Ok tt
 size_rule g (RayQuery vertex_return) = Ok tt
 size_rule g (BindingArray base size) = Ok tt
 
--- a form has a layout if the width of its scalars is a power of two, and an array if it is not too large
+-- a type has a layout if the width of its scalars is a power of two, and an array if it is not too large
 abbrev pub layout_rule : GlobalLists → TypeInner → Result (Unit {0}) LayoutErrorInner
 layout_rule g inner = if is_power_of_two (width_of inner) then size_rule g inner else Err NonPowerOfTwoWidth
 

@@ -20,11 +20,11 @@ pub record LeafBytes : Type 0 where
 abbrev pub end_of : LeafBytes → ℕ
 end_of leaf = leaf.first + leaf.size
 
--- the form of the type of an index
+-- the `TypeInner` of the type of an index
 abbrev pub inner_at : GlobalLists → ℕ → Option TypeInner
 inner_at g t = option_map (λ (ty : «Type»). ty.inner) (slice_get g.types t)
 
--- a value of a form is a leaf: scalars, vectors, matrices and atomics are, and have no parts
+-- a value of type `inner` is a leaf: scalars, vectors, matrices and atomics are, and have no parts
 abbrev pub is_leaf : TypeInner → Bool
 is_leaf (Scalar scalar) = true
 is_leaf (Vector size scalar) = true

@@ -1,4 +1,4 @@
--- To read first, after those of naga_ir:
+-- To read first, after the definitions of naga_ir:
 -- Constants.index_of, override_count: the number that an expression gives, and the count that an override gives
 -- Layout.size_of, alignment_of: the size and the alignment of a type, in bytes
 -- Layout.layout_results, AreLayouts: which types have a layout, and what the layouts of a module are
@@ -9,8 +9,8 @@
 -- Resolutions.ResolutionExists, IsProperResolution: which types an expression may have
 -- Typings.CanResolve, IsLawful: what a typing may rely on, and what it promises
 -- Typings.AreResolved: what the types of a module's global expressions are
--- PlainTyping.plain_resolves: what `PlainTyping` promises beside
--- FullTyping.full_resolves: what `FullTyping` promises beside
+-- PlainTyping.plain_resolves: what `PlainTyping` resolves
+-- FullTyping.full_resolves: what `FullTyping` resolves
 -- Math.signature: what each mathematical function takes and returns, by `PlainTyping`
 pub mod Constants
 pub mod Context

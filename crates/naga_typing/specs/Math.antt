@@ -16,7 +16,7 @@ use Rattle.naga_ir.specs.declared.types.TypeInner.TheVariants.{Scalar, Vector, M
 use Rattle.naga_ir.specs.declared.types.VectorSize.{VectorSize}
 use Rattle.naga_ir.specs.declared.types.VectorSize.TheVariants.{Bi, Tri, Quad}
 
--- what a mathematical function takes and returns: which types its first argument may have, which types each further one may have beside such a first one, and which type the result has, by that of the first
+-- what a mathematical function takes and returns: which types its first argument may have, which types each further one may have after such a first one, and which type the result has, by the first
 pub record Signature : Type 0 where
   pub first : TypeInner → Boolean
   pub further : List (TypeInner → TypeInner → Boolean)
@@ -63,7 +63,7 @@ is_three (Some Bi) = false
 is_three (Some Quad) = false
 is_three None = false
 
--- a type is that of a scalar of one of these kinds, or of a vector of such, and its number of components is so
+-- `inner` is a scalar of one of `kinds`, or a vector of such, and its number of components satisfies `is_so`
 abbrev pub consists_of : (Option VectorSize → Boolean) → List ScalarKind → TypeInner → Boolean
 consists_of is_so kinds inner = option_map_or (λ found. is_so found.0 && list_any (of_kind.ghosts.eq found.1.kind) kinds) (vector_size_and_scalar inner) false
 
@@ -79,11 +79,11 @@ is_square inner = option_map_or (λ parts. of_size.ghosts.eq parts.0 parts.1) (m
 abbrev pub same : TypeInner → TypeInner → Boolean
 same first inner = of_inner.ghosts.eq first inner
 
--- a type is that of the scalar of the first
+-- `inner` is the scalar of `first`
 abbrev pub scalar_of_first : TypeInner → TypeInner → Boolean
 scalar_of_first first inner = option_map_or (λ scalar. same (Scalar scalar) inner) (scalar_of first) false
 
--- a type is that of the first, or that of its scalar
+-- `inner` is `first`, or the scalar of `first`
 abbrev pub same_or_scalar : TypeInner → TypeInner → Boolean
 same_or_scalar first inner = same first inner || scalar_of_first first inner
 
@@ -200,15 +200,15 @@ signature math.Determinant = record (unary is_square) { result = scalar_type }
 signature math.Pack2x16float = record (unary (same (Vector Bi f32_scalar))) { result = λ first. Some (Scalar u32_scalar) }
 signature math.Unpack2x16float = record (unary (same (Scalar u32_scalar))) { result = λ first. Some (Vector Bi f32_scalar) }
 
--- each further argument is as its rule says beside the first
+-- each further argument is as its rule says, by the first
 abbrev pub each_ok : List (TypeInner → TypeInner → Boolean) → TypeInner → List TypeInner → Boolean
 each_ok rules first further = list_all (λ pair. pair.0 first pair.1) (zip rules further)
 
--- so it is, and there are no more arguments than rules
+-- so it is, and there are at most as many arguments as rules
 abbrev pub takes_each : List (TypeInner → TypeInner → Boolean) → TypeInner → List TypeInner → Boolean
 takes_each rules first further = leb (length further) (length rules) && each_ok rules first further
 
--- a function takes arguments of these types, which may be the first of several: the first is as it takes it, and so is each further one beside the first
+-- a function takes arguments of these types, which may be the first of several: the first is as it takes it, and so is each further one by the first
 abbrev pub takes : Signature → List TypeInner → Boolean
 takes s [] = true
 takes s (first ∷ further) = s.first first && takes_each s.further first further

@@ -46,7 +46,7 @@ IsLawfulResult g (Err IncompatibleOperands) = ⊤
 IsLawfulResult g (Err NotResolvable) = ⊤
 IsLawfulResult g (Err OutOfMemory) = ⊥
 
--- a form keeps them as the result
+-- a type keeps them as the result
 abbrev IsLawfulForm : GlobalLists → TypeInner → Type 0
 IsLawfulForm g inner = IsLawfulResult g (Ok (Value inner))
 
@@ -160,7 +160,7 @@ module _ (g : GlobalLists) where
   of_product left right (Matrix columns rows scalar) (Matrix right_columns right_rows s) l r = of_matrix right_columns rows scalar
   of_product left right _ _ l r = l
 
--- the types that the form of a resolution names exist
+-- the types that a resolution names exist
 pub parts_exist : (types : List «Type») (r : TypeResolution) (x : TypeInner) → AllPartsExist types → TypesExist types r → inner_in types r ≡ Some x → PartsExist types x
 parts_exist types (Value inner) x all exists is = subst (PartsExist types) (same_Some inner x is) exists
 parts_exist types (Handle t) x all exists is = by_type (slice_get types t) refl is

@@ -30,11 +30,11 @@ use Rattle.naga_typing.specs.declared.typifier.TypeResolution.TheVariants.{Handl
 abbrev pub ResolveResult : Type 0
 ResolveResult = Result TypeResolution ResolveError
 
--- the type of truth values
+-- the type of bools
 abbrev pub bool_scalar : ScalarType
 bool_scalar = record { kind = kind.Bool; width = 1 }
 
--- the result of a rule on the form of an operand, if there is an operand
+-- the result of a rule on the type of an operand, if there is an operand
 abbrev pub of_form : Option TypeInner → (TypeInner → ResolveResult) → ResolveResult
 of_form None rule = Err NotResolvable
 of_form (Some inner) rule = rule inner
@@ -127,7 +127,7 @@ swizzle_of size (AccelerationStructure vertex_return) = Err IncompatibleOperands
 swizzle_of size (RayQuery vertex_return) = Err IncompatibleOperands
 swizzle_of size (BindingArray base of_size) = Err IncompatibleOperands
 
--- truth values in the shape of a scalar or a vector
+-- bools in the shape of a scalar or a vector
 abbrev pub truths_of : TypeInner → ResolveResult
 truths_of (Scalar scalar) = Ok (Value (Scalar bool_scalar))
 truths_of (Vector size scalar) = Ok (Value (Vector size bool_scalar))
@@ -165,7 +165,7 @@ cast_of kind convert (AccelerationStructure vertex_return) = Err IncompatibleOpe
 cast_of kind convert (RayQuery vertex_return) = Err IncompatibleOperands
 cast_of kind convert (BindingArray base size) = Err IncompatibleOperands
 
--- the type of a product: a new one if a matrix is beside a vector or a matrix, that of the right factor if a scalar is before a vector or a matrix, and else that of the left factor
+-- the type of a product: a new one if a matrix meets a vector or a matrix, the right factor's if a scalar precedes a vector or a matrix, and else the left factor's
 abbrev pub product_of : ResolveResult → ResolveResult → TypeInner → TypeInner → ResolveResult
 product_of left right (Scalar s) (Vector size scalar) = right
 product_of left right (Scalar s) (Matrix columns rows scalar) = right

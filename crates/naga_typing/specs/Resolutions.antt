@@ -16,16 +16,16 @@ abbrev pub handle_of : TypeResolution → Option ℕ
 handle_of (Handle t) = Some t
 handle_of (Value inner) = None
 
--- the form of a type that is given by its handle or as a value
+-- the `TypeInner` of a type that is given by its handle or as a value
 abbrev pub inner_in : List «Type» → TypeResolution → Option TypeInner
 inner_in types (Handle t) = option_map (λ (x : «Type»). x.inner) (slice_get types t)
 inner_in types (Value inner) = Some inner
 
--- the form of the type of an operand
+-- the `TypeInner` of the type of an operand
 abbrev pub operand : List «Type» → List TypeResolution → ℕ → Option TypeInner
 operand types earlier e = option_and_then (inner_in types) (slice_get earlier e)
 
--- the types that a form names exist
+-- the types that `inner` names exist
 abbrev pub PartsExist : List «Type» → TypeInner → Type 0
 PartsExist types inner = (p : ℕ) → Contains (parts inner) p → p < length types
 
@@ -38,12 +38,12 @@ abbrev pub TypesExist : List «Type» → TypeResolution → Type 0
 TypesExist types (Handle t) = t < length types
 TypesExist types (Value inner) = PartsExist types inner
 
--- everything that a resolution refers to exists: its type, or what its form refers to
+-- everything that a resolution refers to exists: its type, or what its `TypeInner` refers to
 abbrev pub ResolutionExists : GlobalLists → TypeResolution → Type 0
 ResolutionExists g (Handle t) = t < length g.types
 ResolutionExists g (Value inner) = ReferencesExist g inner
 
--- a form may be given as a value: it is no array, binding array or struct
+-- `inner` may be given as a value: it is not an array, binding array or struct
 abbrev pub IsValueForm : TypeInner → Type 0
 IsValueForm (form.Array base size stride) = ⊥
 IsValueForm (form.BindingArray base size) = ⊥
@@ -60,7 +60,7 @@ IsValueForm (form.Sampler comparison) = ⊤
 IsValueForm (form.AccelerationStructure vertex_return) = ⊤
 IsValueForm (form.RayQuery vertex_return) = ⊤
 
--- a resolution is a handle, or a form that may be given as a value
+-- a resolution is a handle, or a `TypeInner` that may be given as a value
 abbrev pub IsProperResolution : TypeResolution → Type 0
 IsProperResolution (Handle t) = ⊤
 IsProperResolution (Value inner) = IsValueForm inner
@@ -70,7 +70,7 @@ abbrev pub IsStructValue : TypeResolution → Type 0
 IsStructValue (Handle t) = ⊥
 IsStructValue (Value inner) = IsStruct inner
 
--- a pointer to a form, as it is compared: to a scalar or a vector it is a value pointer
+-- a pointer to a type, as it is compared: to a scalar or a vector it is a value pointer
 abbrev pub pointer_to : ℕ → AddressSpace → TypeInner → TypeInner
 pointer_to base space (form.Scalar scalar) = form.ValuePointer None scalar space
 pointer_to base space (form.Vector size scalar) = form.ValuePointer (Some size) scalar space
@@ -92,7 +92,7 @@ abbrev pub pointer_to_found : ℕ → AddressSpace → Option TypeInner → Type
 pointer_to_found base space None = form.Pointer base space
 pointer_to_found base space (Some x) = pointer_to base space x
 
--- a form as it is compared: pointers so, and other forms as they are
+-- a type as it is compared: pointers as above, and other types as they are
 abbrev pub canonical : List «Type» → TypeInner → TypeInner
 canonical types (form.Pointer base space) = pointer_to_found base space (inner_in types (Handle base))
 canonical types (form.Scalar scalar) = form.Scalar scalar
@@ -113,7 +113,7 @@ canonical types (form.BindingArray base size) = form.BindingArray base size
 abbrev pub AreOneHandle : TypeResolution → TypeResolution → Type 0
 AreOneHandle lhs rhs = (t : ℕ) × (lhs ≡ Handle t) × (rhs ≡ Handle t)
 
--- two forms are of the same type: structs if they have the same handle, other forms if they are equal as they are compared
+-- two types are the same: structs if they have the same handle, other types if they are equal as they are compared
 abbrev pub AreSameInners : List «Type» → TypeResolution → TypeResolution → TypeInner → TypeInner → Type 0
 AreSameInners types lhs rhs x y = (IsStruct x × IsStruct y × AreOneHandle lhs rhs) ⊎ (IsNoStruct x × IsNoStruct y × (canonical types x ≡ canonical types y))
 

@@ -1,4 +1,4 @@
--- Whether two types are the same, as a truth value.
+-- Whether two types are the same, as a bool.
 use Rattle.std.specs.Prelude.{◌==◌, ◌&&◌, ◌||◌, not, ℕ, Bool as Boolean, true, false, List, Option, Some, None}
 use Rattle.naga_ir.specs.contracts.types.TypeInnerPartialEq.TheImpl as of_inner
 use Rattle.naga_ir.specs.declared.types.«Type».{«Type»}
@@ -7,7 +7,7 @@ use Rattle.naga_ir.specs.declared.types.TypeInner.TheVariants.{Scalar, Vector, M
 use Rattle.naga_typing.specs.Resolutions.{canonical, handle_of, inner_in}
 use Rattle.naga_typing.specs.declared.typifier.TypeResolution.{TypeResolution}
 
--- whether a form is a struct
+-- whether `inner` is a struct
 abbrev pub is_struct : TypeInner → Boolean
 is_struct (Struct members span) = true
 is_struct (Scalar scalar) = false
@@ -30,12 +30,12 @@ is_one_handle (Some t) (Some u) = t == u
 is_one_handle (Some t) None = false
 is_one_handle None _ = false
 
--- whether two forms are of the same type: structs if they have the same handle, other forms if they are equal as they are compared
+-- whether two types are the same: structs if they have the same handle, other types if they are equal as they are compared
 abbrev pub are_same_inners : List «Type» → Boolean → TypeInner → TypeInner → Boolean
 are_same_inners types one_handle x y =
     is_struct x && (is_struct y && one_handle) || not (is_struct x) && (not (is_struct y) && of_inner.ghosts.eq (canonical types x) (canonical types y))
 
--- whether there are two forms, and they are of the same type
+-- whether there are two types, and they are the same
 abbrev pub are_same_found : List «Type» → Boolean → Option TypeInner → Option TypeInner → Boolean
 are_same_found types one_handle (Some x) (Some y) = are_same_inners types one_handle x y
 are_same_found types one_handle (Some x) None = false

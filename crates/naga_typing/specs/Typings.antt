@@ -32,9 +32,9 @@ pub record CanResolve (m : Module) (x : Expression) (earlier : List TypeResoluti
   pub earlier_exist : All (ResolutionExists (global_lists m)) earlier
   pub earlier_proper : All IsProperResolution earlier
 
--- out of memory aside, a result is the meant one
+-- a result is what `rule` says, out of memory aside
 abbrev pub IsResolveResult : Result TypeResolution ResolveError → Result TypeResolution ResolveError → Type 0
-IsResolveResult meant result = UnlessOutOfMemory (λ e. e ≡ OutOfMemory) result (λ r. meant ≡ Ok r) (λ e. meant ≡ Err e)
+IsResolveResult rule result = UnlessOutOfMemory (λ e. e ≡ OutOfMemory) result (λ r. rule ≡ Ok r) (λ e. rule ≡ Err e)
 
 -- how the type of an expression follows from a module, the expression, and the types of earlier expressions
 abbrev pub Resolves : Type 0

@@ -42,10 +42,10 @@ pub fn to_ctx(module: &Module) -> GlobalCtx<'_>
     }
 }
 
-/// Why an expression is no index constant.
+/// Why an expression is not an index constant.
 #[derive(Clone, Copy, Debug, PartialEq, Eq, Error)]
 pub enum ConstValueError {
-    /// It is no literal, no zero value of a scalar type, and no constant whose initialiser is one of
+    /// It is not a literal, a zero value of a scalar type, or a constant whose initialiser is one of
     /// these.
     #[error("The expression is not a constant")]
     NonConst,
@@ -66,7 +66,7 @@ pub enum ConstValueError {
 ///
 /// # Errors
 ///
-/// - `NonConst` if the expression has another form.
+/// - `NonConst` if the expression is of another variant.
 /// - `InvalidType` if it has another scalar type.
 /// - `Negative` if it is negative. The type is checked before the sign.
 pub fn get_const_val_from(

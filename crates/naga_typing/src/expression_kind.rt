@@ -91,7 +91,7 @@ impl ExpressionKindTracker {
         )
     }
 
-    /// The kind of one expression, by those of its operands.
+    /// The kind of one expression, by the kinds of its operands.
     fn kind_of(&self, expression: &Expression) -> ExpressionKind
         requires { (o : ℕ) → Contains (references.operands expression.now) o → o < length self.now }
         ensures { result ≡ spec.kind_of self.now expression.now }

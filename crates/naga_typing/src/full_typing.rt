@@ -1,4 +1,4 @@
-//! A typing that supports nearly all forms.
+//! A typing that supports nearly all variants of expressions.
 
 ghost use Rattle.std.specs.Prelude.{◌≡◌, ◌<◌, Ok, length};
 ghost use Rattle.naga_ir.specs.declared.expression.Expression.TheVariants as form;
@@ -20,7 +20,7 @@ use naga_ir::types::{
 use naga_ir::unique_arena::UniqueArena;
 use std::alloc::Global;
 
-/// A typing that supports all forms whose types follow from a module and from their operands.
+/// A typing that supports all variants whose types follow from a module and from their operands.
 ///
 /// Where operands alone decide, it resolves what `PlainTyping` does. Beside that it supports
 ///
@@ -232,7 +232,7 @@ fn load_of(types: &UniqueArena, pointer: &TypeInner) -> Result<TypeResolution, R
     }
 }
 
-/// The dimension and the class of an image. Other forms have none.
+/// The dimension and the class of an image. Other types have none.
 fn image_parts(inner: &TypeInner) -> Option<(ImageDimension, ImageClass)>
     ensures { result ≡ spec.image_parts inner.now }
 {
@@ -360,7 +360,7 @@ impl Typing for FullTyping {
     }
 }
 
-/// The type of an expression, by its form.
+/// The type of an expression, by its variant.
 #[tactic(auto, unfolding(crate::specs::FullTyping::full_resolves))]
 fn resolve_full(
     module: &Module,

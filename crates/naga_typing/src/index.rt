@@ -27,7 +27,7 @@ pub enum IndexableLength {
 /// Why a type has no indexable length.
 #[derive(Clone, Copy, Debug, PartialEq, Eq, Error)]
 pub enum IndexableLengthError {
-    /// It is no vector, matrix, array or binding array, and no pointer to one.
+    /// It is neither a vector, matrix, array or binding array, nor a pointer to one.
     #[error("Type is not indexable, and has no length (validation error)")]
     TypeNotIndexable,
     /// The override that gives the number of elements has no initialiser that is an index constant
@@ -95,7 +95,7 @@ pub fn indexable_length_resolved(
     }
 }
 
-/// The form that pointers lead to, through any number of them.
+/// The type that pointers lead to, through any number of them.
 fn pointed_form<'a>(inner: &'a TypeInner, gctx: GlobalCtx<'a>) -> &'a TypeInner
     requires exist { ReferencesExist (lists_of gctx) inner.now }
     requires references { GlobalReferencesOk (lists_of gctx) }
@@ -109,7 +109,7 @@ fn pointed_form<'a>(inner: &'a TypeInner, gctx: GlobalCtx<'a>) -> &'a TypeInner
     inner
 }
 
-/// The indexable length of a form that is no array, no binding array and no pointer to a type of the
+/// The indexable length of a type that is neither an array nor a binding array nor a pointer to a type of the
 /// module.
 fn length_unless_array(inner: &TypeInner) -> Result<IndexableLength, IndexableLengthError>
     ensures { HasNoArraySize inner.now → (of_array : LengthOfArray) → result ≡ length_of of_array inner.now }

@@ -43,7 +43,7 @@ pub enum LayoutErrorInner {
     /// An array is larger than `MAX_TYPE_SIZE`.
     #[error("The array is larger than 2147483647 bytes")]
     TooLarge,
-    /// The width of a scalar, in bytes, is no power of two.
+    /// The width of a scalar, in bytes, is not a power of two.
     #[error("The scalar width is not a power of two")]
     NonPowerOfTwoWidth,
     /// A request for memory was refused.
@@ -139,10 +139,10 @@ impl Layouter {
         self.layouts.clear();
     }
 
-    /// Lays out the types of a module, and forgets all layouts before. The rule is that of naga's
-    /// `Layouter::update`, and for types that a buffer may hold that of WGSL, "Alignment and Size".
+    /// Lays out the types of a module, and forgets all layouts before. The rule is naga's
+    /// `Layouter::update`, and for types that a buffer may hold WGSL's, "Alignment and Size".
     ///
-    /// Sizes are those of `size`. A scalar, an atomic and a cooperative matrix are aligned to the width
+    /// Sizes are as `size` returns them. A scalar, an atomic and a cooperative matrix are aligned to the width
     /// of the scalar, a vector to 2 or 4 times the width (a vector of three components to 4 times), a
     /// matrix as its columns, an array as its base, a struct as the member of the greatest alignment,
     /// and all else to 1.
@@ -154,7 +154,7 @@ impl Layouter {
     /// The error names the first type that has no layout, and leaves no layouts.
     ///
     /// - `NonPowerOfTwoWidth` if the type is a scalar, vector, matrix, cooperative matrix or atomic, and
-    ///   the width of its scalar is no power of two.
+    ///   the width of its scalar is not a power of two.
     /// - `TooLarge` if it is an array of more than `MAX_TYPE_SIZE` bytes.
     /// - `OutOfMemory` if memory was refused. The type is the one whose layout would have been next; it
     ///   has a layout, as have all types before it.

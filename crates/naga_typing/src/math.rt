@@ -31,7 +31,7 @@ enum ScalarSet {
 enum FirstArgument {
     /// Scalars and vectors.
     ScalarOrVector(ScalarSet),
-    /// Vectors alone.
+    /// Only vectors.
     Vector(ScalarSet),
     /// Vectors of three components.
     VectorOfThree(ScalarSet),
@@ -48,7 +48,7 @@ enum FirstArgument {
 enum FurtherArgument {
     /// The type of the first.
     Same,
-    /// The type of the first, or that of its scalar.
+    /// The type of the first, or its scalar.
     SameOrScalar,
     /// The type of the scalar of the first.
     ScalarOfFirst,
@@ -234,7 +234,7 @@ impl FirstArgument {
     }
 }
 
-/// Whether a type is that of the scalar of another.
+/// Whether a type is the scalar of another.
 fn is_scalar_of(first: &TypeInner, inner: &TypeInner) -> bool
     ensures { result ≡ spec.scalar_of_first first.now inner.now }
 {
@@ -245,7 +245,7 @@ fn is_scalar_of(first: &TypeInner, inner: &TypeInner) -> bool
 }
 
 impl FurtherArgument {
-    /// Whether a further argument may have this type, beside a first one of that type.
+    /// Whether a further argument may have this type, after a first one of type `first`.
     fn takes(self, first: &TypeInner, inner: &TypeInner) -> bool
         ensures { result ≡ takes_further self first.now inner.now }
     {
@@ -259,7 +259,7 @@ impl FurtherArgument {
 }
 
 impl ConclusionRule {
-    /// The type of the result, by that of the first argument.
+    /// The type of the result, by the type of the first argument.
     fn conclude(self, first: &TypeInner) -> Option<TypeInner>
         ensures { result ≡ concluded self first.now }
     {

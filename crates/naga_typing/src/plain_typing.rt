@@ -1,4 +1,4 @@
-//! A typing that supports the forms whose types follow from their operands.
+//! A typing that supports the variants whose types follow from their operands.
 
 ghost use Rattle.std.specs.Prelude.{◌≡◌, ◌<◌, All, IfSome, Ok, Some, length, option_and_then, option_map, slice_get};
 ghost use Rattle.naga_typing.specs.Math.{math_type};
@@ -17,12 +17,12 @@ use naga_ir::tags::ExpressionTag;
 use naga_ir::types::{Scalar, ScalarKind, TypeInner, VectorSize};
 use std::alloc::Global;
 
-/// A typing that supports the forms whose types follow from their operands.
+/// A typing that supports the variants whose types follow from their operands.
 ///
 /// It supports literals, constants, overrides, zero values and compositions, which have a declared
 /// type; parts of vectors, matrices, arrays and structs; operators, relational and mathematical
-/// functions, conversions, splats and swizzles. Operands aren't compared with one another, but for the
-/// arguments of mathematical functions: the type of a sum is that of its left operand, whatever the
+/// functions, conversions, splats and swizzles. Operands aren't compared with one another, except the
+/// arguments of mathematical functions: the type of a sum is the type of its left operand, whatever the
 /// right one is. Operands from which no type follows are `IncompatibleOperands`, and so are arguments
 /// that a mathematical function doesn't take. Loads, variables, arguments, images, rays, calls and the
 /// results of statements are `NotResolvable`. It takes no memory.
@@ -125,7 +125,7 @@ fn swizzle_of(size: VectorSize, inner: &TypeInner) -> Result<TypeResolution, Res
     }
 }
 
-/// The type of as many truth values as a scalar or a vector has components.
+/// The type of as many bools as a scalar or a vector has components.
 fn truths_of(inner: &TypeInner) -> Result<TypeResolution, ResolveError>
     ensures { result ≡ spec.truths_of inner.now }
 {
@@ -196,7 +196,7 @@ fn relational_of(fun: RelationalFunction, inner: &TypeInner) -> Result<TypeResol
     }
 }
 
-/// The form of the type of an operand.
+/// The type of an operand.
 pub(crate) fn operand<'a>(
     module: &'a Module,
     earlier: &'a [TypeResolution],
@@ -335,7 +335,7 @@ impl Typing for PlainTyping {
     }
 }
 
-/// The form of the type of an operand that may not be given.
+/// The type of an operand that may not be given.
 fn optional_operand<'a>(
     module: &'a Module,
     earlier: &'a [TypeResolution],
@@ -376,7 +376,7 @@ fn math_of(
     }
 }
 
-/// The type of an expression, by its form.
+/// The type of an expression, by its variant.
 #[tactic(auto, unfolding(crate::specs::PlainTyping::plain_resolves))]
 pub(crate) fn resolve(
     module: &Module,

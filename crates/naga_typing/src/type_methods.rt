@@ -54,7 +54,7 @@ pub(crate) fn array_size(size: ArraySize, stride: u32, gctx: GlobalCtx<'_>) -> u
     u64::from(element_count(size, gctx)) * u64::from(stride)
 }
 
-/// The size of a value that is no array, in bytes.
+/// The size of a value that is not an array, in bytes.
 pub(crate) fn size_unless_array(inner: &TypeInner) -> u32
     ensures { IsNoArray inner.now → (g : GlobalLists) → result ≡ size_of g inner.now }
 {
@@ -94,7 +94,7 @@ pub(crate) fn size_unless_array(inner: &TypeInner) -> u32
 /// The size of a value, in bytes, or `None` if it is above 4294967295, which only the size of an array
 /// can be.
 ///
-/// For types that a buffer may hold the rule is that of WGSL, "Alignment and Size", but that an array
+/// For types that a buffer may hold the rule is WGSL's, "Alignment and Size", except that an array
 /// is as large as its stride says. A runtime-sized array counts one element. A pointer has 4 bytes,
 /// and types without a size have none. naga's `TypeInner::try_size` is `None` for an array above
 /// `MAX_TYPE_SIZE` already.

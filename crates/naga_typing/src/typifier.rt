@@ -19,8 +19,8 @@ use thiserror::Error;
 pub enum TypeResolution {
     /// A type of the module.
     Handle(Handle<TypeTag>),
-    /// A type that the module need not contain. The type of an expression is no array, binding array or
-    /// struct in this form.
+    /// A type that the module need not contain. It is not an array, binding array or
+    /// struct.
     Value(TypeInner),
 }
 
@@ -35,7 +35,7 @@ impl TypeResolution {
         }
     }
 
-    /// The form of the type: naga's `TypeResolution::inner_with`.
+    /// What the type is made of: naga's `TypeResolution::inner_with`.
     pub fn inner_with<'a>(&'a self, types: &'a UniqueArena) -> &'a TypeInner
         requires { TypesExist types.now self.now }
         ensures { inner_in types.now self.now ≡ Some result.now }
@@ -81,7 +81,7 @@ pub enum ResolveError {
     /// The types of the operands don't fit the expression.
     #[error("Incompatible operands")]
     IncompatibleOperands,
-    /// The typing doesn't support the form of the expression.
+    /// The typing doesn't support this variant of expressions.
     #[error("The type of the expression can't be resolved")]
     NotResolvable,
     /// A request for memory was refused.
@@ -101,7 +101,7 @@ impl From<OutOfMemory> for ResolveError {
 }
 
 /// Whether two types are the same, by the rule of naga's `compare_types`: structs if they have the same
-/// handle, and other types if their forms are equal; a pointer to a scalar or a vector equals the value
+/// handle, and other types if their `TypeInner` are equal; a pointer to a scalar or a vector equals the value
 /// pointer to it.
 pub fn compare_types(lhs: &TypeResolution, rhs: &TypeResolution, types: &UniqueArena) -> bool
     requires lhs_exists { TypesExist types.now lhs.now }
@@ -113,7 +113,7 @@ pub fn compare_types(lhs: &TypeResolution, rhs: &TypeResolution, types: &UniqueA
     compare_types_inner(lhs, rhs, types)
 }
 
-/// `compare_types` by the relation alone, from which its truth value is proved.
+/// `compare_types` by the relation, from which its bool is proved.
 fn compare_types_inner(lhs: &TypeResolution, rhs: &TypeResolution, types: &UniqueArena) -> bool
     requires lhs_exists { TypesExist types.now lhs.now }
     requires rhs_exists { TypesExist types.now rhs.now }
@@ -129,7 +129,7 @@ fn compare_types_inner(lhs: &TypeResolution, rhs: &TypeResolution, types: &Uniqu
     }
 }
 
-/// Whether a form is a struct.
+/// Whether `inner` is a struct.
 fn is_struct(inner: &TypeInner) -> bool
     ensures yes { IsTrue result ↔ IsStruct inner.now }
     ensures no { IsFalse result ↔ IsNoStruct inner.now }
@@ -137,7 +137,7 @@ fn is_struct(inner: &TypeInner) -> bool
     matches!(inner, TypeInner::Struct { .. })
 }
 
-/// Whether two forms are equal as they are compared.
+/// Whether two types are equal as they are compared.
 fn are_equivalent(left: &TypeInner, right: &TypeInner, types: &UniqueArena) -> bool
     requires left_exists { PartsExist types.now left.now }
     requires right_exists { PartsExist types.now right.now }
@@ -148,7 +148,7 @@ fn are_equivalent(left: &TypeInner, right: &TypeInner, types: &UniqueArena) -> b
     canonical_left.as_ref().unwrap_or(left) == canonical_right.as_ref().unwrap_or(right)
 }
 
-/// The value pointer that equals a pointer to a scalar or a vector. All other forms are compared as
+/// The value pointer that equals a pointer to a scalar or a vector. All other types are compared as
 /// they are.
 fn canonical_form(inner: &TypeInner, types: &UniqueArena) -> Option<TypeInner>
     requires { PartsExist types.now inner.now }

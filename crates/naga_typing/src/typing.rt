@@ -16,7 +16,7 @@ use naga_ir::types::TypeInner;
 use std::alloc::Global;
 
 /// A rule for the types of expressions, as naga's `ResolveContext::resolve` and the overloads of its
-/// math functions are one. Generic code is proved for every implementation, by its laws alone.
+/// math functions are one. Generic code is proved for every implementation, only by its laws.
 pub trait Typing {
     ghost resolves: { Self → modules.Module → expression.Expression → List resolution.TypeResolution → Result resolution.TypeResolution error.ResolveError };
 
@@ -25,13 +25,13 @@ pub trait Typing {
     ghost least_arguments: { Self → math.MathFunction → List inner.TypeInner → ℕ };
 
     /// The type of an expression, by the types of the expressions before it in the arena. It depends on
-    /// these arguments alone. The expression may be one of a function, which isn't given, so that of a
+    /// only these arguments. The expression may be one of a function, which isn't given, so that for a
     /// local variable or an argument nothing is known.
     ///
     /// # Errors
     ///
     /// - `IncompatibleOperands` if the types of the operands don't fit the expression.
-    /// - `NotResolvable` if the typing doesn't support the form of the expression.
+    /// - `NotResolvable` if the typing doesn't support this variant of expressions.
     /// - `OutOfMemory` if memory was refused. That it was refused isn't proved of an implementation.
     fn resolve(
         &self,

@@ -1,4 +1,4 @@
--- The first error of two lists of results is that of one of them.
+-- The first error of two lists of results is the first error of one of them.
 use Rattle.std.proofs.Common.{◌≡◌, ◌+◌, ℕ, suc, List, [], ◌∷◌, ◌++◌, Result, All, IsOk, length, slice_get, take, sym, ap, subst, ◌∙◌, arith}
 use Rattle.std.proofs.Math.Seq.{take-append-add}
 use Rattle.std.proofs.lemmas.List.{take-append-le}

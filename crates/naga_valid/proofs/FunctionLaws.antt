@@ -1,4 +1,4 @@
--- The functions of accepted modules can be judged in order.
+-- The functions of accepted modules can be validated in order.
 use Rattle.std.proofs.Common.{◌≡◌, ◌≤◌, ◌∙◌, ℕ, All, Contains, List, Some, length, slice_get, refl, ap, arith}
 use Rattle.std.specs.List.{flat_map}
 use Rattle.std.proofs.lemmas.List.{length-map}
@@ -53,7 +53,7 @@ module _ (m : Module) (h : HandlesAccepted m) where
         calls = λ e called there. All-contains (Exists (function_counts m f)) (function_references f) (to.Function called) all (calls_referred f e called there);
       }
 
-  -- the functions of a module whose handles are right can be judged in order
+  -- the functions of a module whose handles are right can be validated in order
   pub ready_in_order : AreFunctionsReadyInOrder m
   ready_in_order = record { functions = function_at; entry_points = entry_point_at }
 

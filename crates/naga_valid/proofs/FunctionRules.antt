@@ -76,7 +76,7 @@ module _ (s : FunctionSurroundings) where
   follows types (inl all) = all.follow
   follows types (inr part) = part.1.0.follow
 
-  -- an expression up to the first without a type can be judged
+  -- an expression up to the first without a type can be validated
   pub ready_next : (types : List TypeResolution) (kinds : List ExpressionKind) (place : ℕ) (x : Expression)
       → CanCheckRules s types → AreKinds f.expressions kinds → slice_get f.expressions place ≡ Some x → place ≤ length types → IsReady (expression_surroundings s types kinds) place x
   ready_next types kinds place x can are at typed =
@@ -149,7 +149,7 @@ module _ (s : FunctionSurroundings) where
     pub one_breach : (source : ExpressionError) → n ≤ length types → IsRuleAt s types n (Err source) → IsFirstBreach s types n source
     one_breach source typed meant = record { typed = typed; before = w.stages; as_many = sym next_place; rules = w.rules; broken = meant }
 
-    -- all expressions up to it have been asked, and one of them has no type
+    -- all expressions up to it have been validated, and one of them has no type
     pub enough_asked : length types < n → AllowInCommon s types common
     enough_asked beyond = record { stages = w.stages; enough = inr (subst (λ k. length types < k) next_place beyond); rules = w.rules; are_common = w.are_common }
 

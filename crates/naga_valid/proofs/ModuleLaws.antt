@@ -27,7 +27,7 @@ module _ (m : Module) (settings : Settings) (infos : List TypeInfo) (valid : Are
   pub sized_leaves : (n : ℕ) → IsLaidOutForHosts g infos t sized_for_hosts → AreSeparate g n t (size_at_index g t)
   sized_leaves n h = separate.sized h n
 
-  -- those of a type that ends in a runtime-sized array
+  -- the leaves of a type that ends in a runtime-sized array
   pub leaves_by_length : (n : ℕ) → IsLaidOutForHosts g infos t resolved_for_hosts → (first stride : ℕ) → EndsInArray g t first stride → AreSeparate g n t (first + n * stride)
   leaves_by_length n h first stride ends = separate.runtime_sized h first stride ends n
 

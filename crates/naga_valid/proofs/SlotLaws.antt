@@ -1,4 +1,4 @@
--- In accepted modules the slots of types without arrays are those of their leaves.
+-- In accepted modules the slots of types without arrays are the slots of their leaves.
 use Rattle.std.proofs.Common.{◌≡◌, ℕ, List, Option, Some, None, IfSome, slice_get}
 use Rattle.naga_immediates.proofs.SlotLeaves.{slots_of_leaves}
 use Rattle.naga_immediates.specs.LeafSlots.{HasNoArray, HasSlotsOfLeaves}

@@ -3,7 +3,7 @@ use Rattle.std.proofs.Common.{◌≡◌, ◌+◌, refl}
 use Rattle.naga_flags.specs.Bits.{SUBGROUP, SUBGROUP_VERTEX_STAGE, all_capabilities, default_capabilities}
 use Rattle.naga_valid.specs.State.{operations_with, stages_with}
 
--- by those of a validator that is given none
+-- by the stages of a validator that is given none
 pub stages-by-default : stages_with default_capabilities ≡ 0
 stages-by-default = refl
 

@@ -27,7 +27,7 @@ use Rattle.naga_valid.specs.Values.{AreValueResults}
 use Rattle.naga_valid.specs.declared.error.ValidationError.{ValidationError}
 use Rattle.naga_valid.specs.declared.error.ValidationError.TheVariants.{InvalidHandle, Layouter, Type_, ConstExpression, ArraySizeError, Constant, Override, Corrupted, OutOfMemory}
 
--- what a module's users learn of its facts: what each type may be used for, and the type of each global expression; functions and entry points are not judged
+-- what a module's users learn of its facts: what each type may be used for, and the type of each global expression; functions and entry points are not validated
 abbrev pub lists_of : Facts → ModuleInfoLists
 lists_of facts = record { type_flags = map (λ (i : TypeInfo). i.flags) facts.infos; functions = []; entry_points = []; const_expression_types = facts.resolutions }
 
@@ -104,7 +104,7 @@ pub record IsValueRefusal (resolves : Resolves) (m : Module) (settings : Setting
   pub place : ℕ
   pub first : IsFirstError results place e
 
--- a refusal of a module before its values are judged: a fault of its handles, else the first of its layouts, else of its types, else of the types of its global expressions
+-- a refusal of a module before its values are validated: a fault of its handles, else the first of its layouts, else of its types, else of the types of its global expressions
 abbrev pub IsEarlyRefusal : Resolves → Module → Settings → ValidationError → Type 0
 IsEarlyRefusal resolves m settings (InvalidHandle e) = IsHandleFault m e
 IsEarlyRefusal resolves m settings (Layouter e) = IsLayoutRefusal m e

@@ -25,7 +25,7 @@ use Rattle.naga_valid.specs.State.{State}
 use Rattle.naga_valid.specs.declared.function.FunctionError.{FunctionError}
 use Rattle.naga_valid.specs.declared.function.FunctionError.TheVariants.{Expression as Expression_, OutOfMemory}
 
--- what the expressions of a function are judged by: how their types follow, what mathematical functions take, the capabilities, whether overrides must have their values, the stages that may use subgroup operations, the module, the function, and what is known of the module
+-- what the validation of the expressions of a function depends on: how their types follow, what mathematical functions take, the capabilities, whether overrides must have their values, the stages that may use subgroup operations, the module, the function, and what is known of the module
 pub record FunctionSurroundings : Type 0 where
   pub resolves : Resolves
   pub math : MathTyping
@@ -36,7 +36,7 @@ pub record FunctionSurroundings : Type 0 where
   pub function : Function
   pub infos : ModuleInfoLists
 
--- those that a validator judges them by
+-- what it depends on under a validator
 abbrev pub function_surroundings : {T : Type 0} → Resolves → MathTyping → State T → Bool → Module → Function → ModuleInfoLists → FunctionSurroundings
 function_surroundings resolves math state resolved m f infos = record {
   resolves = resolves;
@@ -49,7 +49,7 @@ function_surroundings resolves math state resolved m f infos = record {
   infos = infos;
 }
 
--- what one of them is judged by, once their types and kinds are known
+-- what the validation of one of them depends on, once their types and kinds are known
 abbrev pub expression_surroundings : FunctionSurroundings → List TypeResolution → List ExpressionKind → ExpressionSurroundings
 expression_surroundings s types kinds = record {
   capabilities = s.capabilities;
@@ -62,10 +62,23 @@ expression_surroundings s types kinds = record {
   kinds = kinds;
 }
 
+-- what a validator in this state validates an expression of a function by: whether overrides must have their values, the module, the function, what is known of the module, and the types and the kinds of the expressions
+abbrev pub surroundings_under : {T : Type 0} → State T → Bool → Module → Function → ModuleInfoLists → List TypeResolution → List ExpressionKind → ExpressionSurroundings
+surroundings_under state resolved m f infos types kinds = record {
+  capabilities = state.capabilities.0;
+  resolved = resolved;
+  subgroup_stages = state.subgroup_stages;
+  «module» = m;
+  function = f;
+  types = types;
+  infos = infos;
+  kinds = kinds;
+}
+
 -- by these types, this is what the rule of the expression at a place says
 abbrev pub IsRuleAt : FunctionSurroundings → List TypeResolution → ℕ → Result ShaderStages ExpressionError → Type 0
-IsRuleAt s types place meant =
-    (x : Expression) × (kinds : List ExpressionKind) × (slice_get s.function.expressions place ≡ Some x) × AreKinds s.function.expressions kinds × IsRule s.math (expression_surroundings s types kinds) x meant
+IsRuleAt s types place rule =
+    (x : Expression) × (kinds : List ExpressionKind) × (slice_get s.function.expressions place ≡ Some x) × AreKinds s.function.expressions kinds × IsRule s.math (expression_surroundings s types kinds) x rule
 
 -- as many of the first expressions keep their rules, and these are the stages that may use each
 abbrev pub KeepRules : FunctionSurroundings → List TypeResolution → List ShaderStages → Type 0
@@ -83,7 +96,7 @@ pub record IsFunctionAccepted (s : FunctionSurroundings) (info : FunctionInfo) :
   pub rules : KeepRules s info.types stages
   pub common : info.available_stages ≡ common_stages stages
 
--- the expression after those of these types has no type, for this reason, and is the first such
+-- the expression after the expressions of these types has no type, for this reason, and is the first such
 abbrev pub IsFirstUntyped : FunctionSurroundings → List TypeResolution → ResolveError → Type 0
 IsFirstUntyped s types error =
     AreTypesBefore s.resolves s.«module» s.function (length types) types × IsUntyped s.resolves s.«module» s.function (length types) types error
@@ -116,12 +129,12 @@ RefusesFunction s OutOfMemory = ⊥
 abbrev pub CallsBefore : Function → ℕ → Type 0
 CallsBefore f count = (e called : ℕ) → slice_get f.expressions e ≡ Some (form.CallResult called) → called < count
 
--- the handles of a function are right, and so many functions have to be known before it is judged
+-- the handles of function `f` are right, and `count` functions have to be known before it is validated
 pub record IsFunctionReady (m : Module) (f : Function) (count : ℕ) : Type 0 where
   pub references : FunctionReferencesOk m f
   pub calls : CallsBefore f count
 
--- the functions of a module can be judged in order, each once those before it are known, and its entry points once all functions are
+-- the functions of module `m` can be validated in order, each once the functions before it are known, and its entry points once all functions are
 pub record AreFunctionsReadyInOrder (m : Module) : Type 0 where
   pub functions : (i : ℕ) (f : Function) → slice_get m.functions i ≡ Some f → IsFunctionReady m f i
   pub entry_points : (i : ℕ) (e : EntryPoint) → slice_get m.entry_points i ≡ Some e → IsFunctionReady m e.function (length m.functions)

@@ -1,4 +1,4 @@
--- To read first, after those of naga_ir, naga_handles, naga_typing, naga_types and naga_exprs:
+-- To read first, after the definitions of naga_ir, naga_handles, naga_typing, naga_types and naga_exprs:
 -- Accepted.IsAccepted: a module keeps all rules, and these are its facts
 -- Accepted.IsRefusal: a fault of its handles, else the first refusal of its layouts, its types, the types of its global expressions, and its values
 -- Accepted.Accepts, Refuses: what validate says of a module that it accepts, and of one that it refuses

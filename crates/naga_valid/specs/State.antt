@@ -14,7 +14,7 @@ pub record Facts : Type 0 where
   pub infos : List TypeInfo
   pub resolutions : List TypeResolution
 
--- what modules are judged by: the parts that are validated, what may be used, and whether overrides have to have their values
+-- what the validation of a module depends on: the parts that are validated, what may be used, and whether overrides have to have their values
 pub record Settings : Type 0 where
   pub flags : ValidationFlags
   pub capabilities : Capabilities
@@ -33,7 +33,7 @@ pub record State (T : Type 0) : Type 0 where
 abbrev pub settings_of : {T : Type 0} → State T → Bool → Settings
 settings_of state resolved = record { flags = state.flags; capabilities = state.capabilities; resolved = resolved }
 
--- the stages that may use subgroups: with the one capability that of vertices, with the other those of fragments and those that run in workgroups
+-- the stages that may use subgroups: with one capability vertices, with the other fragments and the stages that run in workgroups
 abbrev pub stages_with : ℕ → ℕ
 stages_with capabilities =
     bit_or

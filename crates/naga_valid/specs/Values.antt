@@ -60,7 +60,7 @@ override_scalars =
     record { kind = Float; width = 8 } ∷
     []
 
--- whether overrides may have a type of this form
+-- whether overrides may have a type
 abbrev pub is_override_type : Option TypeInner → Boolean
 is_override_type (Some (Scalar scalar)) = list_any (λ s. of_scalar.ghosts.eq s scalar) override_scalars
 is_override_type (Some (Vector size scalar)) = false
@@ -112,7 +112,7 @@ reported error (Err e) = Err (error e)
 abbrev pub shown_name : Option (List ℕ) → List ℕ
 shown_name name = unwrap_or name []
 
--- what the global expressions of a module are judged by
+-- what the validation of the global expressions of a module depends on
 abbrev pub const_surroundings : Capabilities → Boolean → Module → ModuleInfoLists → List ExpressionKind → ConstSurroundings
 const_surroundings capabilities resolved m info kinds = record { capabilities = capabilities.0; resolved = resolved; types = m.types; kinds = kinds; resolutions = info.const_expression_types }
 

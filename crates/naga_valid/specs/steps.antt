@@ -1,4 +1,4 @@
--- What private functions alone do.
+-- What only private functions promise one another.
 pub mod Functions
 pub mod Ids
 pub mod KnownValues

@@ -5,6 +5,7 @@ ghost use Rattle.naga_arena.specs.Memory.{UnlessOutOfMemory};
 ghost use Rattle.naga_arena.specs.Span.{inner_of};
 ghost use Rattle.naga_exprs.specs.ConstExpression.{literal_rule};
 ghost use Rattle.naga_exprs.specs.ExpressionRule.{IsExpressionResult};
+ghost use Rattle.naga_exprs.specs.Math.{math_typing};
 ghost use Rattle.naga_flags.specs.Width.{width_rule};
 ghost use Rattle.naga_ir.specs.Handles.{HandlesAccepted};
 ghost use Rattle.naga_ir.specs.ItemReferences.{global_lists};
@@ -16,6 +17,7 @@ ghost use Rattle.naga_types.specs.declared.error.TypeError.TheVariants as TypeEr
 ghost use Rattle.naga_typing.specs.Resolutions.{TypesExist};
 ghost use Rattle.naga_typing.specs.Typings.{AreResolved, Resolves};
 ghost use Rattle.naga_valid.specs.Accepted.{Accepts, AreValidTypes, Refuses, lists_of};
+ghost use Rattle.naga_valid.specs.Functions.{surroundings_under};
 ghost use Rattle.naga_valid.specs.State.{settings_of};
 ghost use Rattle.naga_valid.specs.State as state;
 ghost use Rattle.naga_valid.specs.steps.KnownValues.{IsFirstUnresolved};
@@ -30,7 +32,7 @@ use naga_flags::flags::{Capabilities, ShaderStages, SubgroupOperationSet, Valida
 use naga_flags::width::{ImmediateCompatibility, WidthError, check_width};
 use naga_handles::handles::validate_module_handles;
 use naga_info::const_expression_error::{ConstExpressionError, LiteralError};
-use naga_info::context::ExprContext;
+use naga_info::context::{ExprContext, FunctionContext};
 use naga_info::expression_error::ExpressionError;
 use naga_info::module_info::{FunctionInfo, ModuleInfo};
 use naga_ir::expression::{Expression, Literal};
@@ -54,7 +56,7 @@ use std::marker::Model;
 
 /// Validates modules, one after another, under settings of its own.
 ///
-/// Its results depend on the settings, the typing and the module alone. Contracts see these, and the
+/// Its results depend only on the settings, the typing and the module. Contracts see these, and the
 /// infos of the types of the module last accepted.
 #[derive(Drop)]
 pub struct Validator<T = PlainTyping> {
@@ -84,7 +86,7 @@ impl<T> Model for Validator<T> {
     } };
 }
 
-/// What one call judges a module by.
+/// What the validation of a module depends on in one call.
 #[derive(Clone, Copy)]
 struct Settings {
     flags: ValidationFlags,
@@ -202,7 +204,7 @@ impl<T: Typing> Validator<T> {
     }
 
     /// Whether a module keeps all rules, and what is known of it then. Of global variables, functions
-    /// and entry points only the handles are judged, and of global expressions, constants and overrides
+    /// and entry points only the handles are validated, and of global expressions, constants and overrides
     /// the types, unless the flags have `CONSTANTS`. If it keeps them, hosts may rely on the leaves of
     /// its types.
     ///
@@ -218,7 +220,7 @@ impl<T: Typing> Validator<T> {
     /// - with the flag `CONSTANTS` the first global expression that breaks its rule, `ConstExpression`,
     ///   the first constant, `Constant`, and the first override, `Override`.
     ///
-    /// All but those of handles have the span of the item. A module that is refused breaks a rule.
+    /// All except errors of handles have the span of the item. A module that is refused breaks a rule.
     /// `OutOfMemory` if memory was refused. After each of them the validator is as after `reset`.
     pub fn validate(&mut self, module: &Module) -> Result<ModuleInfo, WithSpan<ValidationError>>
         ensures result { UnlessOutOfMemory (λ e. inner_of e ≡ ValidationError.OutOfMemory) result
@@ -336,7 +338,7 @@ impl<T: Typing> Validator<T> {
     }
 
     /// The pipeline stages that may use an expression of a function, under the capabilities and the
-    /// subgroup stages of the validator. What is asked of the arguments, and the cost, are those of the
+    /// subgroup stages of the validator. What has to be known of the arguments, and the cost, are as for the
     /// function `validate_expression`.
     ///
     /// # Errors
@@ -353,36 +355,23 @@ impl<T: Typing> Validator<T> {
         mod_info: &ModuleInfo,
         kinds: &ExpressionKindTracker,
     ) -> Result<ShaderStages, ExpressionError>
-        requires ready { IsReady (record {
-          capabilities = self.now.capabilities.0;
-          resolved = overrides_resolved;
-          subgroup_stages = self.now.subgroup_stages;
-          «module» = «module».now;
-          function = function.now;
-          types = info.now.types;
-          infos = mod_info.now.lists;
-          kinds = kinds.now;
-        }) root expression.now }
-        ensures { IsExpressionResult (record { accepts = T.accepts_types self.now.typing; least_arguments = T.least_arguments self.now.typing }) (record {
-          capabilities = self.now.capabilities.0;
-          resolved = overrides_resolved;
-          subgroup_stages = self.now.subgroup_stages;
-          «module» = «module».now;
-          function = function.now;
-          types = info.now.types;
-          infos = mod_info.now.lists;
-          kinds = kinds.now;
-        }) expression.now result }
+        requires ready { IsReady (surroundings_under self.now overrides_resolved «module».now function.now
+            mod_info.now.lists info.now.types kinds.now) root expression.now }
+        ensures { IsExpressionResult (math_typing (T.accepts_types self.now.typing) (T.least_arguments self.now.typing))
+            (surroundings_under self.now overrides_resolved «module».now function.now
+            mod_info.now.lists info.now.types kinds.now) expression.now result }
     {
-        let ctx = ExprContext {
+        let context = FunctionContext {
             capabilities: self.capabilities,
             overrides_resolved,
             subgroup_stages: self.subgroup_stages,
-            typing: &self.typing,
+            module,
+            function,
+            info,
+            mod_info,
+            kinds,
         };
-        validate_expression(
-            self.alloc, ctx, root, expression, function, module, info, mod_info, kinds,
-        )
+        validate_expression(self.alloc, &self.typing, context, expression)
     }
 
     /// How many types the module last accepted has.
@@ -457,7 +446,7 @@ fn validate_types(
     Ok(mod_info)
 }
 
-/// Whether a type was not judged to the end, since a request for memory was refused.
+/// Whether a type was not validated to the end, since a request for memory was refused.
 fn is_out_of_memory(error: &TypeError) -> bool
     ensures { IsTrue result ↔ (error.now ≡ TypeError.OutOfMemory) }
 {
@@ -505,7 +494,7 @@ fn make_room(
     mod_info.reserve(types, module.global_expressions.len())
 }
 
-/// Resolves the type of each global expression, by those of the expressions before it.
+/// Resolves the type of each global expression, by the types of the expressions before it.
 fn resolve_expressions<T: Typing>(
     alloc: Global,
     typing: &T,

@@ -71,7 +71,7 @@ pub enum ValidationError {
     #[error("{0}")]
     Layouter(LayoutError),
     /// A type breaks its rule, or a comment documents a member that it doesn't have (`InvalidData`). The
-    /// name is empty if the type has none; on a comment it then is `Unknown` if the type is no struct,
+    /// name is empty if the type has none; on a comment it then is `Unknown` if the type is not a struct,
     /// else `members length incorrect`.
     #[error("Type {handle:?} '{name}' is invalid")]
     Type_ {

@@ -2,7 +2,7 @@
 //! is wrong with any other.
 //!
 //! What a user needs of the crates below is re-exported here: all of their public names but the rules of
-//! single forms of expressions with what they take, `ABSTRACT_WIDTH`, `override_count` and `HandleVec`.
+//! single variants of expressions with what they take, `ABSTRACT_WIDTH`, `override_count` and `HandleVec`.
 #![tactic(auto)]
 
 pub mod driver;
@@ -43,6 +43,7 @@ pub use naga_immediates::immediates::ImmediateSlots;
 pub use naga_info::const_expression_error::ConstExpressionError;
 pub use naga_info::const_expression_error::LiteralError;
 pub use naga_info::context::ExprContext;
+pub use naga_info::context::FunctionContext;
 pub use naga_info::expression_error::ExpressionError;
 pub use naga_info::infer::UntypedExpression;
 pub use naga_info::infer::infer_types;

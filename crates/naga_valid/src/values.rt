@@ -1,4 +1,4 @@
-//! The rules of constants and overrides, and those of all values of a module: its global expressions,
+//! The rules of constants and overrides, and of all values of a module: its global expressions,
 //! constants and overrides.
 
 ghost use Rattle.std.specs.Prelude.{◌≡◌, ◌<◌, All, IfOk, IfSome, IsOk, List, MatchResult, Result, Some, length};
@@ -63,7 +63,7 @@ fn has_type(
     compare_types(&TypeResolution::Handle(ty), &mod_info[init], &module.types)
 }
 
-/// Whether overrides may have a type of this form: a truth value or a number that is not abstract, an
+/// Whether overrides may have a type: a bool or a number that is not abstract, an
 /// integer of 64 bits excepted (naga).
 fn is_override_type(inner: &TypeInner) -> bool
     ensures { result ≡ rule.is_override_type (Some inner.now) }

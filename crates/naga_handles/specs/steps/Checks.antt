@@ -29,12 +29,12 @@ abbrev pub of_expression : ℕ → Subjects
 of_expression e (to.Expression o) = Some (to.Expression e)
 of_expression e _ = None
 
--- those of a function: the functions that it names precede it, while an entry point may name any
+-- the checks of a function: the functions that it names precede it, while an entry point may name any
 abbrev pub of_function : Option ℕ → Subjects
 of_function caller (to.Function f) = option_map to.Function caller
 of_function caller _ = None
 
--- those of a filter, whose parent precedes it
+-- the checks of a filter, whose parent precedes it
 abbrev pub of_filter : ℕ → Subjects
 of_filter d (to.DiagnosticFilterNode parent) = Some (to.DiagnosticFilterNode d)
 of_filter d _ = None

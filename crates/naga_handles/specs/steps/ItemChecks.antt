@@ -1,4 +1,4 @@
--- The checks of a module's references, those of types and global expressions aside, in their order.
+-- The checks of a module's references, except those of types and global expressions, in their order.
 use Rattle.std.specs.Prelude.{◌≡◌, ℕ, ◌<◌, List, ◌++◌, map, Option, Some, None, Result, MatchResult, ◌≤◌, ◌⊎◌, codes, length, slice_get, option_to_list}
 use Rattle.std.specs.List.{enumerate_from, flat_map}
 use Rattle.naga_ir.specs.Handles.{Counts, MemberExists, function_counts, module_counts}
@@ -45,15 +45,15 @@ IsOperandResult e o result = MatchResult result (λ _. o < e) (λ error. (o < e 
 abbrev pub checks : Counts → Subjects → List Reference → List Check
 checks n subjects references = map (λ r. record { there = n; subject = subjects r; target = r }) references
 
--- those of the references of an item in a scope
+-- the checks of the references of an item in a scope
 abbrev pub checks_in : Scope → List Reference → List Check
 checks_in scope references = checks scope.counts (of_function scope.caller) references
 
--- those of an expression of a function
+-- the checks of an expression of a function
 abbrev pub expression_checks : Counts → Option ℕ → ℕ × Expression → List Check
 expression_checks n caller at = checks n (of_expression at.0) (map to.Expression (operands at.1)) ++ checks n (of_function caller) (named_references at.1)
 
--- those of a function, by its index if it is one of the module's
+-- the checks of a function, by its index if it is one of the module's
 abbrev pub function_checks : Counts → Option ℕ → Function → List Check
 function_checks n caller f =
     checks n (of_function caller) (signature_references f)
@@ -61,15 +61,15 @@ function_checks n caller f =
     ++ (flat_map (expression_checks n caller) (enumerate_from 0 f.expressions)
     ++ checks n (of_function caller) (body_references f)))
 
--- those of an entry point
+-- the checks of an entry point
 abbrev pub entry_point_checks : Module → EntryPoint → List Check
 entry_point_checks m p = function_checks (function_counts m p.function) None p.function ++ checks (module_counts m) (of_function None) (entry_point_references p)
 
--- those of a function of the module, with its index
+-- the checks of a function of the module, with its index
 abbrev pub numbered_checks : Module → ℕ × Function → List Check
 numbered_checks m at = function_checks (function_counts m at.1) (Some at.0) at.1
 
--- those of a filter
+-- the checks of a filter
 abbrev pub filter_checks : Counts → ℕ × DiagnosticFilterNode → List Check
 filter_checks n at = checks n (of_filter at.0) (map to.DiagnosticFilterNode (option_to_list at.1.parent))
 
@@ -80,11 +80,11 @@ valued_references m =
     ++ (flat_map override_references m.overrides
     ++ flat_map global_variable_references m.global_variables)
 
--- those of the entry points and functions
+-- the checks of the entry points and functions
 abbrev pub code_checks : Module → List Check
 code_checks m = flat_map (entry_point_checks m) m.entry_points ++ flat_map (numbered_checks m) (enumerate_from 0 m.functions)
 
--- those of the filters
+-- the checks of the filters
 abbrev pub all_filter_checks : Module → List Check
 all_filter_checks m =
     flat_map (filter_checks (module_counts m)) (enumerate_from 0 m.diagnostic_filters)
@@ -98,7 +98,7 @@ documented_references d =
     ++ (map (λ (c : ℕ × List (List ℕ)). to.Constant c.0) d.constants
     ++ map (λ (c : ℕ × List (List ℕ)). to.GlobalVariable c.0) d.global_variables))
 
--- all of them, with those of special types and of what comments document
+-- all of them, with the checks of special types and of what comments document
 abbrev pub module_checks : Module → List Check
 module_checks m =
     let plain = checks (module_counts m) (of_function None) in

@@ -1,4 +1,4 @@
--- Where the forms of expressions keep their operands.
+-- Where the variants of expressions keep their operands.
 use Rattle.std.specs.Prelude.{ℕ, List, []}
 use Rattle.naga_ir.specs.declared.expression.Expression.{Expression}
 use Rattle.naga_ir.specs.declared.expression.Expression.TheVariants.{Compose, ImageSample, ImageLoad, ImageQuery}

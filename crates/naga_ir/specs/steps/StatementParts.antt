@@ -1,4 +1,4 @@
--- What statements name themselves, by groups of forms.
+-- What statements name themselves, by groups of variants.
 use Rattle.std.specs.Prelude.{ℕ, List, [], ◌∷◌, ◌++◌, option_to_list}
 use Rattle.naga_ir.specs.Statements.{compare_operand, gather_operand, own_operands, own_references, own_target}
 use Rattle.naga_ir.specs.declared.reference.Reference.{Reference}
@@ -9,7 +9,7 @@ use Rattle.naga_ir.specs.declared.statement.Statement.TheOpen.{Statement-F}
 use Rattle.naga_ir.specs.declared.statement.Statement.TheOpen as one
 use Rattle.naga_ir.specs.declared.statement.Statement.TheViews.{out-Statement}
 
--- a statement with its form in sight
+-- a statement with its variant in sight
 abbrev pub Form : Type 0
 Form = Statement-F Statement Block SwitchCase
 

@@ -151,7 +151,7 @@ fn equal_types_are_inserted_once(rt: HostRuntime) {
     let again = insert(&rt, &mut types, unnamed(TypeInner::Scalar(F32)), later);
     assert_same(&rt, "places", &again, &plain);
     assert_same(&rt, "a type", &(types.len(), types.is_empty()), &(1, false));
-    // A type that differs in its name alone is another.
+    // A type that differs only in its name is another.
     let ty = named(&rt, "Length", TypeInner::Scalar(F32));
     let length = insert(&rt, &mut types, ty, later);
     assert_same(&rt, "types", &types.len(), &2);

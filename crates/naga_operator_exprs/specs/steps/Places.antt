@@ -32,7 +32,7 @@ pub record IsSourceOrItself (s : ExpressionSurroundings) (p q : Place) : Type 0 
   pub given : (n : ℤ) → ContainsInteger s q n → ContainsInteger s p n
   pub taken : (n : ℤ) → ContainsInteger s p n → ContainsInteger s q n
 
--- an expression is no constant and no splat
+-- `x` is neither a constant nor a splat
 abbrev pub HasNoSource : Expression → Type 0
 HasNoSource (form.Constant c) = ⊥
 HasNoSource (form.Splat size value) = ⊥
@@ -69,7 +69,7 @@ HasNoSource (form.SubgroupOperationResult ty) = ⊤
 HasNoSource (form.CooperativeLoad pointer stride) = ⊤
 HasNoSource (form.CooperativeMultiplyAdd a b c) = ⊤
 
--- the expression at a place is no constant and no splat
+-- the expression at a place is neither a constant nor a splat
 abbrev pub HasNoSourceAt : ExpressionSurroundings → Place → Type 0
 HasNoSourceAt s p = (x : Expression) → expression_at s p ≡ Some x → HasNoSource x
 

@@ -95,7 +95,7 @@ fn sets_of_flags_are_joined_and_taken_apart(rt: HostRuntime) {
     assert_same(&rt, &flags.contains(others), &false);
     assert_same(&rt, &flags.intersects(others), &true);
     assert_same(&rt, &flags.intersects(ValidationFlags::BINDINGS), &false);
-    // Bits that no flag has are kept if this is asked for.
+    // Bits that no flag has are kept if `from_bits_retain` makes the set.
     let bits = 1_u64 << 63 | 2;
     assert_same(&rt, &Capabilities::from_bits_retain(bits).bits(), &bits);
     let known = Capabilities::from_bits_truncate(bits);

@@ -83,7 +83,7 @@ fn structs_that_no_text_describes_are_judged(rt: HostRuntime) -> Result<(), Fail
         let refused = TypeError::InvalidDynamicArray(want, Handle::new(1));
         assert_same(&rt, &result, &Err(refused));
     }
-    // A built-in value may stand beside sources of blending.
+    // A built-in value may stand among sources of blending.
     let info = with_module(rt.alloc(), |module| {
         let word = add_type(&rt, module, TypeInner::Scalar(Scalar::U32))?;
         let mut members = List::new(rt.alloc());

@@ -15,7 +15,7 @@ use std::alloc::Global;
 use std::process::Abort;
 use std::test::Fail;
 
-/// A typing that supports only the forms whose types the laws give.
+/// A typing that supports only the variants whose types the laws give.
 #[derive(Clone, Copy)]
 struct DeclaredTyping;
 

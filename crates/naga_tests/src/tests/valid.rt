@@ -71,7 +71,7 @@ fn assert_outcome(
 
 #[test]
 fn each_result_is_of_its_own_module(rt: HostRuntime) {
-    // The number of the override is that of the module alone.
+    // The number of the override is only the module's.
     let good = "type scalar float 4\nexpr zero 0\noverride 0 0 7";
     let mut validator = validator_under(rt.alloc(), Capabilities::default());
     assert_same(&rt, &validator.type_count(), &0);

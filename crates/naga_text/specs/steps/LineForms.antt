@@ -19,7 +19,7 @@ use Rattle.naga_text.specs.declared.line.Line.TheVariants.{Flags, Capabilities, 
 abbrev pub Reader : Type 0 → Type 0
 Reader A = List (List ℕ) → Option A
 
--- what the reader beside a keyword reads of the words after it
+-- what the reader of a keyword reads of the words after it
 abbrev pub read_by : {A : Type 0} → List (List ℕ × Reader A) → List ℕ → Reader A
 read_by readers keyword words = do
   reader ← chosen readers keyword
@@ -172,7 +172,7 @@ abbrev pub type_of : Reader TypeInner
 type_of [] = None
 type_of (form ∷ words) = read_by type_readers form words
 
--- the readers of a literal's value, each beside the word of its type
+-- the readers of a literal's value, each with the word of its type
 abbrev pub literal_readers : List (List ℕ × (List ℕ → Option Literal))
 literal_readers =
     (codes "i16", λ w. option_map I16 (integer_up_to largest_i16 w)) ∷

@@ -1,4 +1,4 @@
--- A struct as the code judges it.
+-- A struct as the code validates it.
 use Rattle.std.specs.Prelude.{◌<◌, All, ℕ, zero, suc, Bool, List, Option, is_some}
 use Rattle.std.specs.Option.{option_or}
 use Rattle.naga_ir.specs.declared.types.StructMember.{StructMember}
@@ -12,7 +12,7 @@ use Rattle.naga_types.specs.declared.structs.Sources.{Sources}
 use Rattle.naga_types.specs.declared.structs.StructType.{StructType}
 use Rattle.naga_types.specs.steps.KnownTypes.{KnownBefore}
 
--- what a struct is judged by
+-- what the rule of a struct depends on
 abbrev pub surroundings_of : StructType → Surroundings
 surroundings_of x = surroundings x.ctx x.gctx
 

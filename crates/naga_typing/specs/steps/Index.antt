@@ -1,9 +1,9 @@
--- The forms whose length doesn't depend on overrides.
+-- The types whose length doesn't depend on overrides.
 use Rattle.std.specs.Prelude.{⊤}
 use Rattle.naga_ir.specs.declared.types.TypeInner.{TypeInner}
 use Rattle.naga_ir.specs.declared.types.TypeInner.TheVariants.{Scalar, Vector, Matrix, CooperativeMatrix, Atomic, Pointer, ValuePointer, Array, Struct, Image, Sampler, AccelerationStructure, RayQuery, BindingArray}
 
--- a form is no array and no binding array
+-- `inner` is neither an array nor a binding array
 abbrev pub HasNoArraySize : TypeInner → Type 0
 HasNoArraySize (Array base size stride) = ⊥
 HasNoArraySize (BindingArray base size) = ⊥

@@ -5,7 +5,7 @@ use Rattle.naga_ir.specs.declared.types.TypeInner.{TypeInner}
 use Rattle.naga_ir.specs.declared.types.TypeInner.TheVariants.{Scalar, Vector, Matrix, CooperativeMatrix, Atomic, Pointer, ValuePointer, Array, Struct, Image, Sampler, AccelerationStructure, RayQuery, BindingArray}
 use Rattle.naga_typing.specs.declared.layouter.TypeLayout.{TypeLayout}
 
--- a form is no array
+-- `inner` is not an array
 abbrev pub IsNoArray : TypeInner → Type 0
 IsNoArray (Array base size stride) = ⊥
 IsNoArray (Scalar scalar) = ⊤
@@ -22,6 +22,6 @@ IsNoArray (AccelerationStructure vertex_return) = ⊤
 IsNoArray (RayQuery vertex_return) = ⊤
 IsNoArray (BindingArray base size) = ⊤
 
--- the types that a form names are among those laid out so far
+-- the types that `inner` names are among the types laid out so far
 abbrev pub PartsLaidOut : List TypeLayout → TypeInner → Type 0
 PartsLaidOut layouts inner = (p : ℕ) → Contains (parts inner) p → p < length layouts

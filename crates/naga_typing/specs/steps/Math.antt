@@ -33,14 +33,14 @@ takes_first first.SquareMatrix = spec.is_square
 takes_first first.TwoF32 = spec.same (Vector Bi f32_scalar)
 takes_first first.U32 = spec.same (Scalar u32_scalar)
 
--- which types a further one may have beside a first one
+-- which types a further argument may have after a first one
 abbrev pub takes_further : FurtherArgument → TypeInner → TypeInner → Boolean
 takes_further further.Same = spec.same
 takes_further further.SameOrScalar = spec.same_or_scalar
 takes_further further.ScalarOfFirst = spec.scalar_of_first
 takes_further further.ExactlyU32 = spec.exactly (Scalar u32_scalar)
 
--- which type the result has, by that of the first argument
+-- which type the result has, by the type of the first argument
 abbrev pub concluded : ConclusionRule → TypeInner → Option TypeInner
 concluded conclusion.ArgumentType = spec.argument_type
 concluded conclusion.ScalarOfArgument = spec.scalar_type

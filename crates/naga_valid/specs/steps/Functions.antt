@@ -1,4 +1,4 @@
--- What is known when the rules of a function's expressions are asked.
+-- What is known when the rules of a function's expressions are checked.
 use Rattle.std.specs.Prelude.{◌≡◌, ◌⊎◌, ◌<◌, ◌≤◌, ℕ, List, All, Err, length}
 use Rattle.naga_flags.specs.declared.flags.ShaderStages.{ShaderStages}
 use Rattle.naga_ir.specs.Handles.{ExpressionReferencesOk, HandlesAccepted}
@@ -10,7 +10,7 @@ use Rattle.naga_valid.specs.Functions.{AreTypesReached, CallsBefore, FunctionSur
 use Rattle.naga_valid.specs.declared.function.FunctionError.{FunctionError}
 use Rattle.naga_valid.specs.declared.function.FunctionError.TheVariants.{Expression, OutOfMemory}
 
--- the rules of a function's expressions can be asked, by these types
+-- the rules of a function's expressions can be checked, by these types
 pub record CanCheckRules (s : FunctionSurroundings) (types : List TypeResolution) : Type 0 where
   pub handles : HandlesAccepted s.«module»
   pub in_function : ExpressionReferencesOk s.«module» s.function

@@ -1,4 +1,4 @@
--- What is known when the values of a module are judged.
+-- What is known when the values of a module are validated.
 use Rattle.std.specs.Prelude.{◌≡◌, ℕ, List, All, Result, length}
 use Rattle.naga_arena.specs.InOrder.{IsFirstErrorInOrder}
 use Rattle.naga_arena.specs.Results.{IsFirstError}
@@ -29,7 +29,7 @@ pub record AreFilledWithKinds (m : Module) (info : ModuleInfoLists) (kinds : Lis
 abbrev pub IsFirstValueError : List (Result (Unit {0}) ValidationError) → ValidationError → Type 0
 IsFirstValueError results e = (place : ℕ) × IsFirstError results place e
 
--- an error is that of the first global expression that has no type
+-- an error is the error of the first global expression that has no type
 pub record IsFirstUnresolved (resolves : Resolves) (m : Module) (e : ValidationError) : Type 0 where
   pub handle : ℕ
   pub error : ResolveError

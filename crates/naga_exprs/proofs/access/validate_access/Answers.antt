@@ -13,7 +13,7 @@ use Rattle.naga_types.specs.TypeRule.{is_integer}
 use Rattle.naga_typing.specs.Constants.{index_of}
 use Rattle.naga_typing.specs.Index.{IsLength}
 
--- what breaks the third condition alone is refused with its error
+-- an access that breaks only the third condition is refused with its error
 refused : (parts integer : Boolean) (bad : Option ExpressionError) (a b error : ExpressionError) → parts ≡ true → integer ≡ true → ok_unless bad (tt {0}) ≡ Err error
     → first_error_or (require parts a ∷ require integer b ∷ bad ∷ []) every_stage ≡ Err error
 refused true true None a b error p i h = cc h

@@ -99,7 +99,7 @@ module _ (t : MathTyping) (s : ExpressionSurroundings) (x : Expression) (result 
   as_meant : IsRule t s x result → IsExpressionResult t s x result
   as_meant h = (result, h, inl refl)
 
-  -- what is meant of a form is meant of an expression of that form
+  -- the rule of a variant is the rule of an expression of that variant
   of_form : (y : Expression) → x ≡ y → IsRule t s y result → IsRule t s x result
   of_form y is h = subst (λ x. IsRule t s x result) (sym is) h
 
@@ -155,7 +155,7 @@ validate_composition-requires-clause-components g c =
     subst (λ (os : List ℕ). All (λ o. o < bound) os) (sym c.as_slice.ensures)
     (components_typed (surroundings c.args.context) c.requires.ready.0 c.args.expression.now c.requires.ready.1 c.in-Compose.ty c.in-Compose.components c.in-Compose.is)
 
--- what is judged of an expression is judged of its form
+-- what is returned for an expression is returned for its variant
 judged_as : (s : ExpressionSurroundings) (x y : Expression) → x ≡ y → IsReadySomewhere s x → IsReadySomewhere s y
 judged_as s x y is can = subst (IsReadySomewhere s) is can
 

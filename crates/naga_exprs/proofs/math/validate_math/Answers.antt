@@ -9,7 +9,7 @@ use Rattle.naga_typing.proofs.MathOperands.{OfArguments, of_arguments}
 all_known : (s : ExpressionSurroundings) (fun : MathFunction) (arg : ℕ) (arg1 arg2 arg3 : Option ℕ) → IsReadySomewhere s (form.Math fun arg arg1 arg2 arg3) → OfArguments (λ (e : ℕ). e < length s.types) arg arg1 arg2 arg3
 all_known s fun arg arg1 arg2 arg3 can = of_arguments (λ (e : ℕ). e < length s.types) (form.Math fun arg arg1 arg2 arg3) fun arg arg1 arg2 arg3 can.1.typed refl
 
--- and so is that of each that is given
+-- and so is the type of each that is given
 known : (n : ℕ) (given : Option ℕ) (e : ℕ) → IfSome given (λ (e : ℕ). e < n) → given ≡ Some e → e < n
 known n given e all is = subst (λ (o : Option ℕ). IfSome o (λ (e : ℕ). e < n)) is all
 

@@ -23,7 +23,7 @@ loop-handle-init g c = (
       (c.into_iter-handle-iterator.ensures.into_iter_gives ∙ c.iter-handle-items.ensures),
 )
 
--- what a call says of lists that are those of the module it says of the module
+-- what a call says of lists of the module it says of the module
 of-module : (capabilities : ℕ) (resolved : Bool) (types own_types : List «Type») (kinds : List ExpressionKind) (resolutions : List TypeResolution) (xs own_xs : List Expression) (n : ℕ) (x : Expression) (result : Result (Unit {0}) ConstExpressionError)
     → IfSome (slice_get xs n) (λ x. result ≡ const_expression_rule (record { capabilities = capabilities; resolved = resolved; types = types; kinds = kinds; resolutions = resolutions }) n x)
     → xs ≡ own_xs → types ≡ own_types → slice_get own_xs n ≡ Some x

@@ -1,4 +1,5 @@
-use Rattle.naga_query.proofs.Validation.{ready_either, surroundings_under}
+use Rattle.naga_query.proofs.Validation.{ready_either}
+use Rattle.naga_valid.specs.Functions.{surroundings_under}
 use Rattle.naga_query.proofs.answers.functions.validate_at.Goals as goal
 
 pub validate_expression-requires : goal.validate_expression-requires
