@@ -57,7 +57,8 @@ fn indexable_length(
 ) -> Result<IndexableLength, IndexableLengthError>
     requires exist { ReferencesExist (global_lists «module».now) inner.now }
     requires references { GlobalReferencesOk (global_lists «module».now) }
-    ensures { IsLength (global_lists «module».now) (rule.lengths overrides_resolved (global_lists «module».now)) inner.now result }
+    ensures { IsLength (global_lists «module».now) (rule.lengths overrides_resolved (global_lists «module».now))
+        inner.now result }
 {
     if overrides_resolved {
         indexable_length_resolved(inner, module)

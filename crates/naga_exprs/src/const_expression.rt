@@ -45,7 +45,8 @@ fn check_known(
     kinds: &ExpressionKindTracker,
 ) -> Result<(), ConstExpressionError>
     requires { handle < length kinds.now }
-    ensures { result ≡ ok_unless (require (is_const_or_override (slice_get kinds.now handle)) refusal.NonConstOrOverride) tt }
+    ensures { result ≡ ok_unless (require (is_const_or_override (slice_get kinds.now handle))
+        refusal.NonConstOrOverride) tt }
 {
     if kinds.is_const_or_override(handle) {
         return Ok(());
@@ -60,7 +61,9 @@ fn check_evaluated(
     kinds: &ExpressionKindTracker,
 ) -> Result<(), ConstExpressionError>
     requires { handle < length kinds.now }
-    ensures { result ≡ first_error_or (when (overrides_resolved || is_const (slice_get kinds.now handle)) (Some refusal.NonFullyEvaluatedConst) ∷ []) tt }
+    ensures { result ≡ first_error_or
+        (when (overrides_resolved || is_const (slice_get kinds.now handle)) (Some refusal.NonFullyEvaluatedConst)
+        ∷ []) tt }
 {
     if overrides_resolved || kinds.is_const(handle) {
         return Err(ConstExpressionError::NonFullyEvaluatedConst);
@@ -75,7 +78,8 @@ fn check_splat(
     types: &UniqueArena,
 ) -> Result<(), ConstExpressionError>
     requires { TypesExist types.now resolution.now }
-    ensures { result ≡ first_error_or (require (is_scalar (inner_in types.now resolution.now)) (refusal.InvalidSplatType value) ∷ []) tt }
+    ensures { result ≡ first_error_or
+        (require (is_scalar (inner_in types.now resolution.now)) (refusal.InvalidSplatType value) ∷ []) tt }
 {
     match resolution.inner_with(types) {
         TypeInner::Scalar(_) => Ok(()),

@@ -42,7 +42,9 @@ fn check_arguments<T: Typing>(
 ) -> Result<(), ExpressionError>
     requires typed { length arguments.now ≡ length types.now }
     requires few { length arguments.now ≤ 4 }
-    ensures { result ≡ ok_unless (first_argument_error (math_typing (T.accepts_types typing.now) (T.least_arguments typing.now)) fun (map (λ t. t.now) types.now) arguments.now) tt }
+    ensures { result ≡ ok_unless (first_argument_error
+        (math_typing (T.accepts_types typing.now) (T.least_arguments typing.now)) fun (map (λ t. t.now) types.now)
+        arguments.now) tt }
 {
     for (index, argument) in arguments.iter().enumerate() {
         if !typing.accepts(fun, &types[..index + 1]) {
@@ -62,7 +64,9 @@ fn validate_arguments<T: Typing>(
 ) -> Result<ShaderStages, ExpressionError>
     requires typed { length arguments.now ≡ length types.now }
     requires few { length arguments.now ≤ 4 }
-    ensures { result ≡ first_error_or (argument_checks (math_typing (T.accepts_types typing.now) (T.least_arguments typing.now)) fun (map (λ t. t.now) types.now) arguments.now) stages.every_stage }
+    ensures { result ≡ first_error_or
+        (argument_checks (math_typing (T.accepts_types typing.now) (T.least_arguments typing.now)) fun
+        (map (λ t. t.now) types.now) arguments.now) stages.every_stage }
 {
     check_arguments(typing, fun, arguments, types)?;
     if types.len() < typing.min_arguments(fun, types) {
@@ -92,7 +96,8 @@ pub fn validate_math<T: Typing>(
     arg3: Option<Handle<ExpressionTag>>,
 ) -> Result<ShaderStages, ExpressionError>
     requires { IsReadySomewhere (surroundings context) (form.Math fun arg arg1 arg2 arg3) }
-    ensures { result ≡ math_rule (math_typing (T.accepts_types typing.now) (T.least_arguments typing.now)) (surroundings context.entry) fun arg arg1 arg2 arg3 }
+    ensures { result ≡ math_rule (math_typing (T.accepts_types typing.now) (T.least_arguments typing.now))
+        (surroundings context.entry) fun arg arg1 arg2 arg3 }
 {
     check_capability(context.capabilities, fun)?;
     let first = context.type_of(arg);

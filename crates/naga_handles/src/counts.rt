@@ -33,9 +33,27 @@ impl Model for Counts {
 
     ghost Value = { Counts };
 
-    ghost inverse = { λ n. record { types = n.types; constants = n.constants; overrides = n.overrides; global_variables = n.global_variables; expressions = n.expressions; local_variables = n.local_variables; functions = n.functions; diagnostic_filters = n.diagnostic_filters } };
+    ghost inverse = { λ n. record {
+      types = n.types;
+      constants = n.constants;
+      overrides = n.overrides;
+      global_variables = n.global_variables;
+      expressions = n.expressions;
+      local_variables = n.local_variables;
+      functions = n.functions;
+      diagnostic_filters = n.diagnostic_filters;
+    } };
 
-    ghost view = { λ n. record { types = n.types; constants = n.constants; overrides = n.overrides; global_variables = n.global_variables; expressions = n.expressions; local_variables = n.local_variables; functions = n.functions; diagnostic_filters = n.diagnostic_filters } };
+    ghost view = { λ n. record {
+      types = n.types;
+      constants = n.constants;
+      overrides = n.overrides;
+      global_variables = n.global_variables;
+      expressions = n.expressions;
+      local_variables = n.local_variables;
+      functions = n.functions;
+      diagnostic_filters = n.diagnostic_filters;
+    } };
 }
 
 impl Counts {
@@ -68,7 +86,8 @@ impl Counts {
 
     /// Whether a reference is not dangling.
     pub(crate) fn check_exists(self, reference: Reference) -> Result<(), InvalidHandleError>
-        ensures { MatchResult result (λ _. Exists self reference) (λ e. (Exists self reference → ⊥) × (e ≡ missing reference)) }
+        ensures { MatchResult result (λ _. Exists self reference)
+            (λ e. (Exists self reference → ⊥) × (e ≡ missing reference)) }
     {
         match reference {
             Reference::Type_(handle) => handle.check_valid_for(self.types)?,
@@ -93,7 +112,14 @@ pub(crate) fn check_dep<K: Kind>(
     depends_on: Handle<K>,
 ) -> Result<(), InvalidHandleError>
     ensures before { IsOk result ↔ (depends_on < subject) }
-    ensures after { IfErr result (λ e. e ≡ InvalidHandleError.ForwardDependency (record { subject = subject; subject_kind = K.kind_name; depends_on = depends_on; depends_on_kind = K.kind_name })) }
+    ensures after { IfErr result (λ e. e
+        ≡ InvalidHandleError.ForwardDependency
+        (record {
+          subject = subject;
+          subject_kind = K.kind_name;
+          depends_on = depends_on;
+          depends_on_kind = K.kind_name;
+        })) }
 {
     if depends_on < subject {
         Ok(())

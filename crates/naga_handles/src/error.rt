@@ -73,7 +73,12 @@ pub struct FwdDepError {
 impl FwdDepError {
     /// The error on `subject`, which depends on `depends_on`.
     pub fn new<K: Kind>(subject: Handle<K>, depends_on: Handle<K>) -> FwdDepError
-        ensures { result ≡ record { subject = subject; subject_kind = K.kind_name; depends_on = depends_on; depends_on_kind = K.kind_name } }
+        ensures { result ≡ record {
+          subject = subject;
+          subject_kind = K.kind_name;
+          depends_on = depends_on;
+          depends_on_kind = K.kind_name;
+        } }
     {
         FwdDepError {
             subject: subject.index(),

@@ -54,7 +54,8 @@ use std::alloc::Global;
 /// comments. `MissingMember` is of a comment on a member. `OutOfMemory` if memory was refused, which
 /// can only be if the module has overrides or a `MissingMember` is due.
 pub fn validate_module_handles(alloc: Global, module: &Module) -> Result<(), ValidationFault>
-    ensures { UnlessOutOfMemory (λ fault. (fault ≡ ValidationFault.OutOfMemory) × NeedsMemory «module».now) result (λ _. HandlesAccepted «module».now)
+    ensures { UnlessOutOfMemory (λ fault. (fault ≡ ValidationFault.OutOfMemory) × NeedsMemory «module».now) result
+        (λ _. HandlesAccepted «module».now)
         (λ fault. IsFault «module».now fault × (HandlesAccepted «module».now → ⊥)) }
 {
     validate_all_handles(alloc, module)
@@ -119,7 +120,11 @@ impl Scope {
 
     /// Whether an item may refer to this.
     fn check(&self, reference: Reference) -> Result<(), InvalidHandleError>
-        ensures { IsResult (record { there = self.now.counts; subject = of_function self.now.caller reference; target = reference }) result }
+        ensures { IsResult (record {
+          there = self.now.counts;
+          subject = of_function self.now.caller reference;
+          target = reference;
+        }) result }
     {
         if let (Some(caller), Reference::Function(function)) = (self.caller, reference) {
             check_dep(caller, function)
@@ -157,7 +162,8 @@ fn validate_expression_handles(
     handle: Handle<ExpressionTag>,
     expression: &Expression,
 ) -> Result<(), InvalidHandleError>
-    ensures { ChecksEach IsResult (expression_checks scope.now.counts scope.now.caller (handle, expression.now)) result }
+    ensures { ChecksEach IsResult (expression_checks scope.now.counts scope.now.caller (handle, expression.now))
+        result }
 {
     check_operands(handle, expression)?;
     scope.check_all(&[
@@ -168,7 +174,8 @@ fn validate_expression_handles(
 
 /// Whether what the expressions of a function refer to exists, and their operands precede them.
 fn validate_expressions(scope: &Scope, function: &Function) -> Result<(), InvalidHandleError>
-    ensures { ChecksEach IsResult (flat_map (expression_checks scope.now.counts scope.now.caller) (enumerate_from 0 function.now.expressions)) result }
+    ensures { ChecksEach IsResult (flat_map (expression_checks scope.now.counts scope.now.caller)
+        (enumerate_from 0 function.now.expressions)) result }
 {
     for (handle, expression) in function.expressions.iter() {
         validate_expression_handles(scope, handle, expression)?;
@@ -234,7 +241,8 @@ fn validate_workgroup_sizes(
     scope: &Scope,
     entry_point: &EntryPoint,
 ) -> Result<(), InvalidHandleError>
-    ensures { ChecksEach IsResult (checks_in scope.now (map to.Expression (item.workgroup_sizes entry_point.now.workgroup_size_overrides))) result }
+    ensures { ChecksEach IsResult (checks_in scope.now
+        (map to.Expression (item.workgroup_sizes entry_point.now.workgroup_size_overrides))) result }
 {
     match &entry_point.workgroup_size_overrides {
         Some(sizes) => try_each(
@@ -285,7 +293,8 @@ fn validate_entry_point_handles(
 
 /// Whether what the functions of a module refer to exists, and what they call precedes them.
 fn validate_functions(module: &Module) -> Result<(), InvalidHandleError>
-    ensures { ChecksEach IsResult (flat_map (numbered_checks «module».now) (enumerate_from 0 «module».now.functions)) result }
+    ensures { ChecksEach IsResult (flat_map (numbered_checks «module».now) (enumerate_from 0 «module».now.functions))
+        result }
 {
     for (handle, function) in module.functions.iter() {
         let scope = Scope::of_function(module, Some(handle), function);
@@ -343,7 +352,8 @@ fn validate_special_types(
 
 /// Whether the parent of each filter precedes it.
 fn validate_filter_parents(module: &Module) -> Result<(), InvalidHandleError>
-    ensures { ChecksEach IsResult (flat_map (filter_checks (module_counts «module».now)) (enumerate_from 0 «module».now.diagnostic_filters)) result }
+    ensures { ChecksEach IsResult (flat_map (filter_checks (module_counts «module».now))
+        (enumerate_from 0 «module».now.diagnostic_filters)) result }
 {
     for (handle, filter) in module.diagnostic_filters.iter() {
         if let Some(parent) = filter.parent {
@@ -417,7 +427,8 @@ fn validate_entry_point_index(module: &Module, index: usize) -> Result<(), Inval
 
 /// Whether the entry points exist that comments document.
 fn validate_documented_entry_points(module: &Module) -> Result<(), InvalidHandleError>
-    ensures { ChecksEach (IsEntryPointResult «module».now) (map (λ (c : ℕ × List (List ℕ)). c.0) «module».now.doc_comments.entry_points) result }
+    ensures { ChecksEach (IsEntryPointResult «module».now)
+        (map (λ (c : ℕ × List (List ℕ)). c.0) «module».now.doc_comments.entry_points) result }
 {
     try_each(
         module.doc_comments.entry_points.as_slice(),
@@ -477,7 +488,8 @@ fn validate_documented_member(
 
 /// Whether the members exist that comments document.
 fn validate_documented_members(alloc: Global, module: &Module) -> Result<(), ValidationFault>
-    ensures { ChecksEach (IsMemberResult «module».now) (map (λ (c : (ℕ × ℕ) × List (List ℕ)). c.0) «module».now.doc_comments.struct_members) result }
+    ensures { ChecksEach (IsMemberResult «module».now)
+        (map (λ (c : (ℕ × ℕ) × List (List ℕ)). c.0) «module».now.doc_comments.struct_members) result }
 {
     try_each(
         module.doc_comments.struct_members.as_slice(),

@@ -45,11 +45,13 @@ pub struct Walk {
 /// `Invalid` names a fault of a type or global expression, as `validate_module_handles` does; the other
 /// items need not be right. `OutOfMemory` if memory was refused.
 pub fn visit_order(alloc: Global, module: &Module) -> Result<Walk, ValidationFault>
-    ensures verdict { UnlessOutOfMemory (λ fault. fault ≡ ValidationFault.OutOfMemory) result (λ _. CanBeOrdered «module».now)
+    ensures verdict { UnlessOutOfMemory (λ fault. fault ≡ ValidationFault.OutOfMemory) result
+        (λ _. CanBeOrdered «module».now)
         (λ fault. NamesOrderFault «module».now fault × (CanBeOrdered «module».now → ⊥)) }
     ensures order { IfOk result (λ walk. IsOrder (global_lists «module».now) walk.order.items) }
     ensures falls { OnOk result (RanksFall (global_lists «module».now)) }
-    ensures reads { IfOk result (λ walk. walk.reads ≡ length «module».now.types + length «module».now.global_expressions) }
+    ensures reads { IfOk result (λ walk. walk.reads
+        ≡ length «module».now.types + length «module».now.global_expressions) }
 {
     order_of(alloc, module)
 }
@@ -59,7 +61,8 @@ pub fn visit_order(alloc: Global, module: &Module) -> Result<Walk, ValidationFau
 fn order_of(alloc: Global, module: &Module) -> Result<Walk, ValidationFault>
     ensures accepted { OnOk result (CanBeOrdered «module».now) }
     ensures order { IfOk result (λ walk. IsOrder (global_lists «module».now) walk.order.items) }
-    ensures reads { IfOk result (λ walk. walk.reads ≡ length «module».now.types + length «module».now.global_expressions) }
+    ensures reads { IfOk result (λ walk. walk.reads
+        ≡ length «module».now.types + length «module».now.global_expressions) }
     ensures refused { IfErr result (IsNoOrder «module».now) }
 {
     let mut walker = Walker::new();
@@ -97,7 +100,8 @@ fn push_visited(
 ) -> Result<(), OutOfMemory>
     requires grows { from ≤ to }
     requires few { to ≤ largest_u32 }
-    ensures { OnOk result ((between : List Item) × PlacesUpTo order.old.items between from to × (order.new.items ≡ between ++ item.Type_ handle ∷ [])) }
+    ensures { OnOk result ((between : List Item) × PlacesUpTo order.old.items between from to
+        × (order.new.items ≡ between ++ item.Type_ handle ∷ [])) }
 {
     push_expressions(order, from, to)?;
     order.push(Item::Type_(handle))?;

@@ -117,7 +117,8 @@ fn check_item(
 /// Whether the type that an expression names precedes this one.
 fn check_gate(handle: Handle<TypeTag>, expression: &Expression) -> Result<(), InvalidHandleError>
     ensures before { OnOk result (NamesBefore handle expression.now) }
-    ensures refused { IfErr result (λ e. (u : ℕ) × (references.named_type expression.now ≡ Some u) × (handle ≤ u) × (e ≡ forward (to.Type_ handle) (to.Type_ u))) }
+    ensures refused { IfErr result (λ e. (u : ℕ) × (references.named_type expression.now ≡ Some u) × (handle ≤ u)
+        × (e ≡ forward (to.Type_ handle) (to.Type_ u))) }
 {
     let Some(ty) = expression.named_type() else {
         return Ok(());
@@ -228,7 +229,8 @@ impl Walker {
         ensures accepted { OnOk result (CanBeOrdered «module».now) }
         ensures visited { OnOk result (self.new.visited ≡ length «module».now.global_expressions) }
         ensures few { OnOk result (self.new.visited ≤ largest_u32) }
-        ensures counted { OnOk result (self.new.reader.reads ≡ length «module».now.types + length «module».now.global_expressions) }
+        ensures counted { OnOk result (self.new.reader.reads
+            ≡ length «module».now.types + length «module».now.global_expressions) }
         ensures refused { IfErr result (IsOrderFault «module».now) }
     {
         for index in self.visited..module.global_expressions.len() {

@@ -69,7 +69,8 @@ pub(crate) fn check_sampled_layer(
 ) -> Result<(), ExpressionError>
     requires sound { AreSound (surroundings context) }
     requires known { IfSome array_index (λ e. e < length context.info.now.types) }
-    ensures { result ≡ ok_unless (rule.layer_error (surroundings context.entry) words.is_integer_scalar arrayed array_index) tt }
+    ensures { result ≡ ok_unless (rule.layer_error (surroundings context.entry) words.is_integer_scalar arrayed
+        array_index) tt }
 {
     check_layer(arrayed, array_index.is_some())?;
     match array_index {

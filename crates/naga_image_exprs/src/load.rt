@@ -42,7 +42,8 @@ fn check_sample(
 ) -> Result<(), ExpressionError>
     requires sound { AreSound (surroundings context) }
     requires known { IfSome sample (λ e. e < length context.info.now.types) }
-    ensures { result ≡ ok_unless (rule.sample_index_error (surroundings context.entry) (is_multisampled class) sample) tt }
+    ensures { result ≡ ok_unless (rule.sample_index_error (surroundings context.entry) (is_multisampled class)
+        sample) tt }
 {
     match (sample, class.is_multisampled()) {
         (None, false) => Ok(()),

@@ -157,7 +157,8 @@ impl ImmediateSlots {
         requires global { global < length global_vars.now }
         requires typed { spec.IsTyped (lists_of gctx) (slice_get global_vars.now global) }
         requires references { GlobalReferencesOk (lists_of gctx) }
-        ensures { spec.AreSlotsTouched (lists_of gctx.entry) expressions.now (slice_get global_vars.now global) pointer result }
+        ensures { spec.AreSlotsTouched (lists_of gctx.entry) expressions.now (slice_get global_vars.now global)
+            pointer result }
     {
         let whole = &gctx.types[global_vars[global].ty].inner;
         match accessed_member(pointer, expressions, whole) {
@@ -263,7 +264,8 @@ fn accessed_member<'a>(
 ) -> Option<&'a StructMember>
     requires pointer { pointer < length expressions.now }
     requires operands { spec.BaseExists expressions.now pointer }
-    ensures { MatchOption result (spec.AccessesNone expressions.now whole.now pointer) (λ m. AccessesMember expressions.now whole.now pointer m.now) }
+    ensures { MatchOption result (spec.AccessesNone expressions.now whole.now pointer)
+        (λ m. AccessesMember expressions.now whole.now pointer m.now) }
 {
     let Expression::AccessIndex { base, index } = expressions[pointer] else {
         return None;

@@ -61,7 +61,8 @@ pub fn infer_types<T: Typing>(
     ensures result { UnlessOutOfMemory (λ e. e.error ≡ ResolveError.OutOfMemory) result
         (λ info. AreFunctionTypes (T.resolves typing.now) «module».now function.now info.types)
         (λ e. IsUntyped (T.resolves typing.now) «module».now function.now e.handle e.info.types e.error) }
-    ensures before { IfErr result (λ e. AreTypesBefore (T.resolves typing.now) «module».now function.now e.handle e.info.types) }
+    ensures before { IfErr result (λ e. AreTypesBefore (T.resolves typing.now) «module».now function.now e.handle
+        e.info.types) }
     ensures stages { (info_of result).available_stages ≡ record { 0 = all_stages } }
     ensures exist { All (ResolutionExists (global_lists «module».now)) (info_of result).types }
     ensures proper { All IsProperResolution (info_of result).types }
@@ -93,10 +94,13 @@ fn push_type_of<T: Typing>(
     info: &mut FunctionInfo,
 ) -> Result<(), ResolveError>
     requires can_resolve { CanResolve «module».now expression.now info.old.types }
-    requires variable_exists { (v : ℕ) → expression.now ≡ form.LocalVariable v → v < length function.now.local_variables }
+    requires variable_exists { (v : ℕ) → expression.now ≡ form.LocalVariable v
+        → v < length function.now.local_variables }
     ensures result { UnlessOutOfMemory (λ e. e ≡ ResolveError.OutOfMemory) result
-        (λ _. HasType (function_resolves (T.resolves typing.now) «module».now function.now expression.now info.old.types) info.old info.new)
-        (λ e. function_resolves (T.resolves typing.now) «module».now function.now expression.now info.old.types ≡ Err e) }
+        (λ _. HasType (function_resolves (T.resolves typing.now) «module».now function.now expression.now
+        info.old.types) info.old info.new)
+        (λ e. function_resolves (T.resolves typing.now) «module».now function.now expression.now info.old.types
+        ≡ Err e) }
     ensures refused { OnErr result (info.new ≡ info.old) }
 {
     let earlier = info.types.as_slice();
@@ -120,8 +124,10 @@ fn type_of<T: Typing>(
     earlier: &[TypeResolution],
 ) -> Result<TypeResolution, ResolveError>
     requires can_resolve { CanResolve «module».now expression.now earlier.now }
-    requires variable_exists { (v : ℕ) → expression.now ≡ form.LocalVariable v → v < length function.now.local_variables }
-    ensures { IsResolveResult (function_resolves (T.resolves typing.now) «module».now function.now expression.now earlier.now) result }
+    requires variable_exists { (v : ℕ) → expression.now ≡ form.LocalVariable v
+        → v < length function.now.local_variables }
+    ensures { IsResolveResult (function_resolves (T.resolves typing.now) «module».now function.now expression.now
+        earlier.now) result }
 {
     match *expression {
         Expression::FunctionArgument(index) => {

@@ -120,10 +120,12 @@ impl ModuleInfo {
     pub fn reserve(&mut self, types: usize, expressions: usize) -> Result<(), OutOfMemory>
         ensures same { self.new.lists ≡ self.old.lists }
         ensures type_room { OnOk result (length self.old.lists.type_flags + types ≤ self.new.type_room) }
-        ensures expression_room { OnOk result (length self.old.lists.const_expression_types + expressions ≤ self.new.expression_room) }
+        ensures expression_room { OnOk result
+            (length self.old.lists.const_expression_types + expressions ≤ self.new.expression_room) }
         ensures types_grow { self.old.type_room ≤ self.new.type_room }
         ensures expressions_grow { self.old.expression_room ≤ self.new.expression_room }
-        ensures within_room { length self.old.lists.type_flags + types ≤ self.old.type_room → length self.old.lists.const_expression_types + expressions ≤ self.old.expression_room → IsOk result }
+        ensures within_room { length self.old.lists.type_flags + types ≤ self.old.type_room
+            → length self.old.lists.const_expression_types + expressions ≤ self.old.expression_room → IsOk result }
         ensures refused { OnErr result (self.new.expression_room ≡ self.old.expression_room) }
     {
         self.type_flags.reserve(types)?;
@@ -136,7 +138,8 @@ impl ModuleInfo {
     ///
     /// `OutOfMemory` if memory was refused, which changes no list.
     pub fn push_type(&mut self, flags: TypeFlags) -> Result<(), OutOfMemory>
-        ensures pushed { OnOk result (self.new.lists ≡ record self.old.lists { type_flags = self.old.lists.type_flags ++ flags ∷ [] }) }
+        ensures pushed { OnOk result (self.new.lists
+            ≡ record self.old.lists { type_flags = self.old.lists.type_flags ++ flags ∷ [] }) }
         ensures refused { OnErr result (self.new.lists ≡ self.old.lists) }
         ensures within_room { length self.old.lists.type_flags < self.old.type_room → IsOk result }
         ensures grows { self.old.type_room ≤ self.new.type_room }
@@ -151,7 +154,11 @@ impl ModuleInfo {
     ///
     /// `OutOfMemory` if memory was refused, which changes no list.
     pub fn push_expression(&mut self, resolution: TypeResolution) -> Result<(), OutOfMemory>
-        ensures pushed { OnOk result (self.new.lists ≡ record self.old.lists { const_expression_types = self.old.lists.const_expression_types ++ resolution ∷ [] }) }
+        ensures pushed { OnOk result (self.new.lists
+            ≡ record self.old.lists {
+              const_expression_types = self.old.lists.const_expression_types ++ resolution
+                  ∷ [];
+            }) }
         ensures refused { OnErr result (self.new.lists ≡ self.old.lists) }
         ensures within_room { length self.old.lists.const_expression_types < self.old.expression_room → IsOk result }
         ensures grows { self.old.expression_room ≤ self.new.expression_room }
@@ -166,7 +173,8 @@ impl ModuleInfo {
     ///
     /// `OutOfMemory` if memory was refused, which changes nothing.
     pub fn push_function(&mut self, info: FunctionInfo) -> Result<(), OutOfMemory>
-        ensures pushed { OnOk result (self.new ≡ record self.old { lists = record self.old.lists { functions = self.old.lists.functions ++ info ∷ [] } }) }
+        ensures pushed { OnOk result (self.new
+            ≡ record self.old { lists = record self.old.lists { functions = self.old.lists.functions ++ info ∷ [] } }) }
         ensures refused { OnErr result (self.new ≡ self.old) }
     {
         self.functions.push(info)
@@ -178,7 +186,13 @@ impl ModuleInfo {
     ///
     /// `OutOfMemory` if memory was refused, which changes nothing.
     pub fn push_entry_point(&mut self, info: FunctionInfo) -> Result<(), OutOfMemory>
-        ensures pushed { OnOk result (self.new ≡ record self.old { lists = record self.old.lists { entry_points = self.old.lists.entry_points ++ info ∷ [] } }) }
+        ensures pushed { OnOk result (self.new
+            ≡ record self.old {
+              lists = record self.old.lists {
+                entry_points = self.old.lists.entry_points ++ info
+                    ∷ [];
+              };
+            }) }
         ensures refused { OnErr result (self.new ≡ self.old) }
     {
         self.entry_points.push(info)

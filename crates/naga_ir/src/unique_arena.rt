@@ -126,7 +126,8 @@ impl UniqueArena {
     /// that the arena has is never refused.
     pub fn insert(&mut self, value: Type, span: Span) -> Result<Handle<TypeTag>, OutOfMemory>
         requires { length self.old < largest_u32 }
-        ensures present { (k : ℕ) → slice_get self.old k ≡ Some value → IsOk result × IfOk result (λ h. h ≡ k) × (self.new ≡ self.old) }
+        ensures present { (k : ℕ) → slice_get self.old k ≡ Some value → IsOk result × IfOk result (λ h. h ≡ k)
+            × (self.new ≡ self.old) }
         ensures place { ¬ (Contains self.old value) → IfOk result (λ h. h ≡ length self.old) }
         ensures appended { ¬ (Contains self.old value) → OnOk result (self.new ≡ self.old ++ value ∷ []) }
         ensures found { IfOk result (λ h. slice_get self.new h ≡ Some value) }

@@ -52,7 +52,8 @@ impl Place {
     fn leaf(&self, gctx: GlobalCtx<'_>) -> Option<Leaf>
         requires exists { self.now.part.ty < length_of gctx.types.now }
         requires references { GlobalReferencesOk (lists_of gctx) }
-        ensures leaf { (e : Elements) → option_map bytes_of result ≡ option_map (moved self.now.part.first) (leaf_at (lists_of gctx.entry) e self.now.part.ty []) }
+        ensures leaf { (e : Elements) → option_map bytes_of result
+            ≡ option_map (moved self.now.part.first) (leaf_at (lists_of gctx.entry) e self.now.part.ty []) }
         ensures begins { IfSome result (λ leaf. leaf.first ≡ self.now.part.first) }
     {
         let Part { ty, first } = self.part;
@@ -66,8 +67,11 @@ impl Place {
         requires exists { self.now.part.ty < length_of gctx.types.now }
         requires references { GlobalReferencesOk (lists_of gctx) }
         ensures { MatchOption result
-            ((m : ℕ) → self.now.next ≤ m → m ≤ largest_u32 → part_of_type (lists_of gctx.entry) (elements (lists_of gctx.entry) length) self.now.part.ty m ≡ None)
-            (λ r. (r.0 ≡ self.now.next) × (r.0 ≤ largest_u32) × (part_of_type (lists_of gctx.entry) (elements (lists_of gctx.entry) length) self.now.part.ty r.0 ≡ Some (part_of r.1))) }
+            ((m : ℕ) → self.now.next ≤ m → m ≤ largest_u32
+            → part_of_type (lists_of gctx.entry) (elements (lists_of gctx.entry) length) self.now.part.ty m ≡ None)
+            (λ r. (r.0 ≡ self.now.next) × (r.0 ≤ largest_u32)
+            × (part_of_type (lists_of gctx.entry) (elements (lists_of gctx.entry) length) self.now.part.ty r.0
+            ≡ Some (part_of r.1))) }
     {
         let index = u32::try_from(self.next).ok()?;
         let part = part_at(&gctx.types[self.part.ty].inner, index, length, gctx)?;
@@ -110,7 +114,8 @@ impl Place {
         requires references { GlobalReferencesOk (lists_of gctx) }
         ensures place { IsPlace (lists_of gctx.entry) (elements (lists_of gctx.entry) length) self.new }
         ensures ty { self.new.ty ≡ self.old.ty }
-        ensures ok { IfOk result (λ step. Steps (lists_of gctx.entry) (elements (lists_of gctx.entry) length) self.old self.new step) }
+        ensures ok { IfOk result (λ step. Steps (lists_of gctx.entry) (elements (lists_of gctx.entry) length) self.old
+            self.new step) }
         ensures err { OnErr result (IsUnmoved self.old self.new) }
     {
         let Some((index, part)) = self.next_part(length, gctx) else {
@@ -190,7 +195,8 @@ impl<'a> Leaves<'a> {
         requires { IsCursor self.old }
         ensures cursor { IsCursor self.new }
         ensures begun { self.new.is_begun ≡ true }
-        ensures leaf { MatchOption result (ComesOn self.old self.new) (λ leaf. IsNext self.old self.new (bytes_of leaf)) }
+        ensures leaf { MatchOption result (ComesOn self.old self.new)
+            (λ leaf. IsNext self.old self.new (bytes_of leaf)) }
     {
         if self.is_begun {
             return None;
@@ -211,7 +217,8 @@ impl<'a> Leaves<'a> {
     pub fn next(&mut self) -> Result<Option<Leaf>, OutOfMemory>
         requires { IsCursor self.old }
         ensures cursor { IsCursor self.new }
-        ensures ok { IfOk result (λ found. MatchOption found (IsAtEnd self.old self.new) (λ leaf. IsNext self.old self.new (bytes_of leaf))) }
+        ensures ok { IfOk result (λ found. MatchOption found (IsAtEnd self.old self.new)
+            (λ leaf. IsNext self.old self.new (bytes_of leaf))) }
         ensures err { OnErr result (YieldsSame self.old self.new) }
     {
         if let Some(leaf) = self.begin() {

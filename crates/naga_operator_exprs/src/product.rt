@@ -60,7 +60,8 @@ fn vector_times(size: VectorSize, scalar: Scalar, right: &TypeInner) -> bool
 
 /// Whether a matrix on the left and a value of a type on the right multiply, widths aside.
 fn matrix_times(columns: VectorSize, right: &TypeInner) -> bool
-    ensures { (rows : VectorSize) (scalar : Scalar) → result ≡ rule.forms_multiply (form.Matrix columns rows scalar) right.now }
+    ensures { (rows : VectorSize) (scalar : Scalar)
+        → result ≡ rule.forms_multiply (form.Matrix columns rows scalar) right.now }
 {
     match right {
         TypeInner::Scalar(other) => other.kind == ScalarKind::Float,
@@ -85,7 +86,8 @@ fn matrix_times(columns: VectorSize, right: &TypeInner) -> bool
 
 /// Whether a cooperative matrix on the left and a value of a type on the right multiply, widths aside.
 fn cooperative_matrix_times(scalar: Scalar, right: &TypeInner) -> bool
-    ensures { (columns rows : CooperativeSize) (role : CooperativeRole) → result ≡ rule.forms_multiply (form.CooperativeMatrix columns rows scalar role) right.now }
+    ensures { (columns rows : CooperativeSize) (role : CooperativeRole)
+        → result ≡ rule.forms_multiply (form.CooperativeMatrix columns rows scalar role) right.now }
 {
     match right {
         TypeInner::Scalar(other) => *other == scalar,

@@ -72,7 +72,8 @@ impl<W: Write> Counted<W> {
         requires some { 0 < length buf.now }
         requires count { self.old.failed < largest_u64 }
         ensures bound { IfSome result (λ n. (0 < n) × (n ≤ length buf.now)) }
-        ensures bytes { MatchOption result (Keeps (W.contents self.old.inner) (W.contents self.new.inner)) (λ n. Appends (W.contents self.old.inner) (W.contents self.new.inner) (take n buf.now)) }
+        ensures bytes { MatchOption result (Keeps (W.contents self.old.inner) (W.contents self.new.inner))
+            (λ n. Appends (W.contents self.old.inner) (W.contents self.new.inner) (take n buf.now)) }
         ensures count { OnSome result (self.new.failed ≡ self.old.failed) }
         ensures failure { IfNone result (self.new.failed ≡ self.old.failed + 1) }
     {

@@ -161,7 +161,8 @@ fn add_layout(text: &mut String, layout: LayoutCompatibility) -> Result<(), Allo
 
 /// Adds the index of a type and its flags.
 fn add_flags(text: &mut String, handle: Handle<TypeTag>, flags: TypeFlags) -> Result<(), AllocError>
-    ensures { OnOk result (string_bytes text.new ≡ string_bytes text.old ++ (codes "T" ++ (decimal handle ++ (codes " " ++ (hex_byte flags.0 ++ codes " "))))) }
+    ensures { OnOk result (string_bytes text.new
+        ≡ string_bytes text.old ++ (codes "T" ++ (decimal handle ++ (codes " " ++ (hex_byte flags.0 ++ codes " "))))) }
 {
     let index = handle.index();
     let bits = flags.bits();
@@ -263,8 +264,10 @@ fn validate(
     contents: &Contents,
 ) -> Result<ModuleInfo, WithSpan<ValidationError>>
     ensures { UnlessOutOfMemory (λ e. inner_of e ≡ error.OutOfMemory) result
-        (λ info. Accepts plain_resolves contents.now.«module» (settings_of validator.old contents.now.resolved) validator.new.infos info.lists)
-        (λ e. Refuses plain_resolves contents.now.«module» (settings_of validator.old contents.now.resolved) (inner_of e)) }
+        (λ info. Accepts plain_resolves contents.now.«module» (settings_of validator.old contents.now.resolved)
+        validator.new.infos info.lists)
+        (λ e. Refuses plain_resolves contents.now.«module» (settings_of validator.old contents.now.resolved)
+        (inner_of e)) }
 {
     if contents.resolved {
         validator.validate_resolved_overrides(&contents.module)

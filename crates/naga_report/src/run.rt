@@ -45,7 +45,8 @@ fn read_all<R: Read>(alloc: Global, reader: &mut Counted<R>) -> Result<Vec<u8>, 
     ensures bytes { IfOk result (λ v. IfSome (R.remaining reader.old.inner) (λ input. v.items ≡ input)) }
     ensures end { OnOk result (IsAtEnd (R.remaining reader.new.inner)) }
     ensures count { OnOk result (reader.new.failed ≡ reader.old.failed) }
-    ensures err { IfErr result (λ e. ((e ≡ RunFault.OutOfMemory) × (reader.new.failed ≡ reader.old.failed)) ⊎ ((e ≡ RunFault.Read) × (reader.new.failed ≡ reader.old.failed + 1))) }
+    ensures err { IfErr result (λ e. ((e ≡ RunFault.OutOfMemory) × (reader.new.failed ≡ reader.old.failed))
+        ⊎ ((e ≡ RunFault.Read) × (reader.new.failed ≡ reader.old.failed + 1))) }
 {
     let mut input = Vec::new(alloc);
     let mut buf = [0; 4096];
@@ -107,12 +108,17 @@ pub fn run<R: Read, W: Write>(
     ensures report { IfOk result (λ outcome. IfSome (R.remaining reader.old.inner) (λ input.
         Reports input outcome (W.contents writer.old.inner) (W.contents writer.new.inner))) }
     ensures end { OnOk result (IsAtEnd (R.remaining reader.new.inner)) }
-    ensures no_failure { OnOk result ((reader.new.failed ≡ reader.old.failed) × (writer.new.failed ≡ writer.old.failed)) }
+    ensures no_failure { OnOk result
+        ((reader.new.failed ≡ reader.old.failed) × (writer.new.failed ≡ writer.old.failed)) }
     // Each fault has its cause, and leaves a beginning of a report or nothing.
-    ensures read { IsErrOf result RunFault.Read → (reader.new.failed ≡ reader.old.failed + 1) × (writer.new.failed ≡ writer.old.failed) }
-    ensures write { IsErrOf result RunFault.Write → (reader.new.failed ≡ reader.old.failed) × (writer.new.failed ≡ writer.old.failed + 1) }
-    ensures memory { IsErrOf result RunFault.OutOfMemory → (reader.new.failed ≡ reader.old.failed) × (writer.new.failed ≡ writer.old.failed) }
-    ensures nothing { IsErrOf result RunFault.Read ⊎ IsErrOf result RunFault.OutOfMemory → Keeps (W.contents writer.old.inner) (W.contents writer.new.inner) }
+    ensures read { IsErrOf result RunFault.Read → (reader.new.failed ≡ reader.old.failed + 1)
+        × (writer.new.failed ≡ writer.old.failed) }
+    ensures write { IsErrOf result RunFault.Write → (reader.new.failed ≡ reader.old.failed)
+        × (writer.new.failed ≡ writer.old.failed + 1) }
+    ensures memory { IsErrOf result RunFault.OutOfMemory → (reader.new.failed ≡ reader.old.failed)
+        × (writer.new.failed ≡ writer.old.failed) }
+    ensures nothing { IsErrOf result RunFault.Read ⊎ IsErrOf result RunFault.OutOfMemory
+        → Keeps (W.contents writer.old.inner) (W.contents writer.new.inner) }
     ensures beginning { IsErrOf result RunFault.Write → IfSome (R.remaining reader.old.inner) (λ input.
         BeginsReport input (W.contents writer.old.inner) (W.contents writer.new.inner)) }
 {

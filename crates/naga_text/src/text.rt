@@ -221,7 +221,8 @@ fn read_lines(alloc: Global, lines: &[&[u8]]) -> Result<Contents, TextError>
 /// - `OutOfMemory` if a request for memory was refused.
 pub fn read_text(alloc: Global, text: &[u8]) -> Result<Contents, TextError>
     // What is read is what the text says, and a line that is named is the first that can't be read.
-    ensures text { UnlessOutOfMemory (λ e. e ≡ TextError.OutOfMemory) result (IsText (lines_of text.now)) (λ e. NamesLine e (IsFirstUnreadable (lines_of text.now))) }
+    ensures text { UnlessOutOfMemory (λ e. e ≡ TextError.OutOfMemory) result (IsText (lines_of text.now))
+        (λ e. NamesLine e (IsFirstUnreadable (lines_of text.now))) }
     // What the text says is read.
     ensures only { (contents : Contents) → IsText (lines_of text.now) contents →
         UnlessOutOfMemory (λ e. e ≡ TextError.OutOfMemory) result (λ read. read ≡ contents) (λ _. ⊥) }

@@ -94,7 +94,8 @@ pub(crate) fn validate_array<'a>(
     requires before { base < handle }
     requires there { IfSome (pending size.now) (λ o. o < length gctx.overrides.now) }
     requires references { GlobalReferencesOk (lists_of gctx) }
-    ensures { result ≡ first_error_or (rule.array_checks (surroundings ctx.entry gctx.entry) handle base size.now) (rule.array_info (surroundings ctx.entry gctx.entry) handle base size.now stride) }
+    ensures { result ≡ first_error_or (rule.array_checks (surroundings ctx.entry gctx.entry) handle base size.now)
+        (rule.array_info (surroundings ctx.entry gctx.entry) handle base size.now stride) }
 {
     let elements = TypeFlags::DATA
         .union(TypeFlags::SIZED)
@@ -126,7 +127,8 @@ pub(crate) fn validate_binding_array<'a>(
 ) -> Result<TypeInfo, TypeError>
     requires known { base < length ctx.infos.now.infos }
     requires there { base < length gctx.types.now }
-    ensures { result ≡ first_error_or (rule.binding_array_checks (surroundings ctx.entry gctx.entry) base) (shared (bit_and (flags_at (surroundings ctx.entry gctx.entry) base) (form.binding_array_flags size)) 1) }
+    ensures { result ≡ first_error_or (rule.binding_array_checks (surroundings ctx.entry gctx.entry) base)
+        (shared (bit_and (flags_at (surroundings ctx.entry gctx.entry) base) (form.binding_array_flags size)) 1) }
 {
     let flags = ctx.infos.get(base).flags;
     let inner = &gctx.types[base].inner;

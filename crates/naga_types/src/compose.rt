@@ -113,7 +113,8 @@ impl Wanted<'_> {
         requires wanted { WantedExists types.now self.now }
         requires components { ComponentsExist types.now components.now }
         requires parts { AllPartsExist types.now }
-        ensures { result ≡ ok_unless (rule.first_component_type_error (fits types.now self.now) (resolutions_of components.now)) tt }
+        ensures { result ≡ ok_unless (rule.first_component_type_error (fits types.now self.now)
+            (resolutions_of components.now)) tt }
     {
         for index in 0..components.len() {
             if !self.fits(index, components.get(index, types), types) {
@@ -134,7 +135,9 @@ impl Wanted<'_> {
         requires wanted { WantedExists types.now self.now }
         requires components { ComponentsExist types.now components.now }
         requires parts { AllPartsExist types.now }
-        ensures { result ≡ first_error_or (rule.component_count_error (length (resolutions_of components.now)) expected ∷ rule.first_component_type_error (fits types.now self.now) (resolutions_of components.now) ∷ []) tt }
+        ensures { result ≡ first_error_or
+            (rule.component_count_error (length (resolutions_of components.now)) expected
+            ∷ rule.first_component_type_error (fits types.now self.now) (resolutions_of components.now) ∷ []) tt }
     {
         check_count(components.len() as u64, expected)?;
         self.check_each(components, types)
@@ -252,7 +255,8 @@ fn check_parts(
     types: &UniqueArena,
 ) -> Result<(), ComposeError>
     requires components { ComponentsExist types.now components.now }
-    ensures { result ≡ ok_unless (rule.component_count_error (rule.all_parts types.now (resolutions_of components.now)) (sizes.components size)) tt }
+    ensures { result ≡ ok_unless (rule.component_count_error
+        (rule.all_parts types.now (resolutions_of components.now)) (sizes.components size)) tt }
 {
     let given = all_parts(components, types);
     check_count(u64::from(given), u64::from(size.components()))

@@ -19,8 +19,10 @@ pub fn validate_atomic_compare_exchange_struct<P: FnOnce(&TypeInner) -> bool>(
     scalar_predicate: P,
 ) -> bool
     requires exist { All (λ (m : member.StructMember). m.ty < length types.now) members.now }
-    requires callable { ForSome (old_value_form types.now members.now) (λ inner. FnOnceTakesAt P.FnOnce scalar_predicate inner) }
-    ensures accepted { IfSome (old_value_form types.now members.now) (λ inner. FnOnceReturnsAt P.FnOnce scalar_predicate inner result) }
+    requires callable { ForSome (old_value_form types.now members.now)
+        (λ inner. FnOnceTakesAt P.FnOnce scalar_predicate inner) }
+    ensures accepted { IfSome (old_value_form types.now members.now)
+        (λ inner. FnOnceReturnsAt P.FnOnce scalar_predicate inner result) }
     ensures others { IfNone (old_value_form types.now members.now) (result ≡ false) }
 {
     members.len() == 2

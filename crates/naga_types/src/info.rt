@@ -34,7 +34,12 @@ pub struct TypeInfo {
 impl TypeInfo {
     /// The info of a type with one alignment in both address spaces, which immediates may hold.
     pub fn new(flags: TypeFlags, alignment: Alignment) -> TypeInfo
-        ensures { result ≡ record { flags = flags; uniform_layout = Ok alignment; storage_layout = Ok alignment; immediates_compatibility = Ok tt } }
+        ensures { result ≡ record {
+          flags = flags;
+          uniform_layout = Ok alignment;
+          storage_layout = Ok alignment;
+          immediates_compatibility = Ok tt;
+        } }
     {
         TypeInfo {
             flags,

@@ -58,7 +58,8 @@ struct Sources {
 impl Sources {
     /// Notes a source of blending, if a member is one.
     fn note(&mut self, capabilities: Capabilities, member: &StructMember) -> Result<(), TypeError>
-        ensures checks { result ≡ first_error_or (rule.source_checks capabilities.0 (is_noted self.old) (rule.source_of member.now.binding)) tt }
+        ensures checks { result ≡ first_error_or
+            (rule.source_checks capabilities.0 (is_noted self.old) (rule.source_of member.now.binding)) tt }
         ensures noted { OnOk result (self.new ≡ with_member self.old member.now) }
     {
         let Some(
@@ -137,7 +138,8 @@ impl StructType<'_> {
     fn check_place(&self, index: usize, member: &StructMember) -> Result<(), TypeError>
         requires known { MembersKnown self.now }
         requires member { slice_get self.now.members.now index ≡ Some member.now }
-        ensures { result ≡ first_error_or (rule.place_checks (surroundings_of self.now) self.now.members.now self.now.span index member.now) tt }
+        ensures { result ≡ first_error_or
+            (rule.place_checks (surroundings_of self.now) self.now.members.now self.now.span index member.now) tt }
     {
         let offset = member.offset;
         if offset != 0 && u64::from(offset) < self.end_before(index) {
@@ -166,7 +168,8 @@ impl StructType<'_> {
     ) -> Result<(), TypeError>
         requires known { MembersKnown self.now }
         requires member { slice_get self.now.members.now index ≡ Some member.now }
-        ensures { IsRuleResult (ok_unless (rule.member_size_error (surroundings_of self.now) self.now.members.now index member.now) tt) result }
+        ensures { IsRuleResult (ok_unless
+            (rule.member_size_error (surroundings_of self.now) self.now.members.now index member.now) tt) result }
     {
         let is_array = matches!(self.gctx.types[member.ty].inner, TypeInner::Array { .. });
         let is_last = index + 1 == self.members.len();
@@ -191,7 +194,9 @@ impl StructType<'_> {
         requires known { MembersKnown self.now }
         requires member { slice_get self.now.members.now index ≡ Some member.now }
         requires noted { sources.old ≡ sources_of (take index self.now.members.now) }
-        ensures checks { IsRuleResult (first_error_or (rule.member_checks (surroundings_of self.now) self.now.members.now self.now.span (index, member.now)) tt) result }
+        ensures checks { IsRuleResult (first_error_or
+            (rule.member_checks (surroundings_of self.now) self.now.members.now self.now.span (index, member.now)) tt)
+            result }
         ensures noted { OnOk result (sources.new ≡ sources_of (take (index + 1) self.now.members.now)) }
     {
         let data = TypeFlags::DATA.union(TypeFlags::CREATION_RESOLVED);
@@ -206,7 +211,9 @@ impl StructType<'_> {
     /// Checks all members, and returns the sources of blending.
     fn check_members(&self, alloc: Global) -> Result<Sources, TypeError>
         requires { MembersKnown self.now }
-        ensures { IsRuleResult (first_error_or (rule.member_errors (surroundings_of self.now) self.now.members.now self.now.span) (sources_of self.now.members.now)) result }
+        ensures { IsRuleResult (first_error_or
+            (rule.member_errors (surroundings_of self.now) self.now.members.now self.now.span)
+            (sources_of self.now.members.now)) result }
     {
         let mut sources = Sources {
             first: None,
@@ -247,7 +254,8 @@ impl StructType<'_> {
         requires first { first < self.now.handle }
         requires second { second < self.now.handle }
         requires references { GlobalReferencesOk (surroundings_of self.now).lists }
-        ensures { result ≡ first_error_or (rule.pair_checks (surroundings_of self.now) self.now.members.now (Some first) (Some second)) tt }
+        ensures { result ≡ first_error_or
+            (rule.pair_checks (surroundings_of self.now) self.now.members.now (Some first) (Some second)) tt }
     {
         if let Some(location) = self.other_location() {
             return Err(VaryingError::InvalidBlendSrcWithOtherBindings { location });
@@ -272,7 +280,8 @@ impl StructType<'_> {
         requires known { MembersKnown self.now }
         requires sources { sources.now ≡ sources_of self.now.members.now }
         requires references { GlobalReferencesOk (surroundings_of self.now).lists }
-        ensures { result ≡ first_error_or (rule.pair_checks (surroundings_of self.now) self.now.members.now sources.now.first sources.now.second) tt }
+        ensures { result ≡ first_error_or
+            (rule.pair_checks (surroundings_of self.now) self.now.members.now sources.now.first sources.now.second) tt }
     {
         match (sources.first, sources.second) {
             (None, None) => Ok(()),
@@ -301,7 +310,8 @@ impl StructType<'_> {
     /// Whether a member begins at 0, below the end of the one before it.
     fn restarts_at_zero(&self) -> bool
         requires { MembersKnown self.now }
-        ensures { result ≡ list_any (rule.restarts_at_zero (surroundings_of self.now) self.now.members.now) (enumerate_from 0 self.now.members.now) }
+        ensures { result ≡ list_any (rule.restarts_at_zero (surroundings_of self.now) self.now.members.now)
+            (enumerate_from 0 self.now.members.now) }
     {
         for index in 0..self.members.len() {
             if self.members[index].offset == 0 && self.end_before(index) > 0 {
@@ -351,7 +361,8 @@ impl StructType<'_> {
     ) -> Result<(), (Handle<TypeTag>, Disalignment)>
         requires known { MembersKnown self.now }
         requires before { member.now.ty < self.now.handle }
-        ensures { result ≡ ok_unless (layouts.member_layout_error (surroundings_of self.now) (layout_in space) self.now.handle (index, member.now)) tt }
+        ensures { result ≡ ok_unless (layouts.member_layout_error (surroundings_of self.now) (layout_in space)
+            self.now.handle (index, member.now)) tt }
     {
         let info = self.info(member);
         if !info.flags.contains(TypeFlags::HOST_SHAREABLE) {
@@ -374,7 +385,9 @@ impl StructType<'_> {
     /// Checks so all members.
     fn check_layouts(&self, space: SharedSpace) -> Result<(), (Handle<TypeTag>, Disalignment)>
         requires { MembersKnown self.now }
-        ensures { result ≡ first_error_or (layouts.member_layout_errors (surroundings_of self.now) (layout_in space) self.now.handle self.now.members.now) tt }
+        ensures { result ≡ first_error_or
+            (layouts.member_layout_errors (surroundings_of self.now) (layout_in space) self.now.handle
+            self.now.members.now) tt }
     {
         for index in 0..self.members.len() {
             self.check_layout(space, index, &self.members[index])?;
@@ -385,7 +398,8 @@ impl StructType<'_> {
     /// The greatest alignment of the members.
     fn greatest_alignment(&self, space: SharedSpace) -> Alignment
         requires { MembersKnown self.now }
-        ensures { result ≡ layouts.greatest_alignment (surroundings_of self.now) (layout_in space) self.now.members.now }
+        ensures { result ≡ layouts.greatest_alignment (surroundings_of self.now) (layout_in space)
+            self.now.members.now }
     {
         let mut greatest = Alignment::ONE;
         for member in self.members {
@@ -415,7 +429,8 @@ impl StructType<'_> {
     /// The layout in the storage address space.
     fn storage_layout(&self) -> LayoutCompatibility
         requires { MembersKnown self.now }
-        ensures { result ≡ layouts.storage_layout_of (surroundings_of self.now) self.now.handle self.now.members.now self.now.span }
+        ensures { result ≡ layouts.storage_layout_of (surroundings_of self.now) self.now.handle self.now.members.now
+            self.now.span }
     {
         self.check_span()?;
         self.check_layouts(SharedSpace::Storage)?;
@@ -479,7 +494,8 @@ impl StructType<'_> {
     /// Checks that all members have fixed sizes.
     fn check_sizes(&self) -> Result<(), (Handle<TypeTag>, Disalignment)>
         requires { MembersKnown self.now }
-        ensures { result ≡ first_error_or (layouts.unsized_errors (surroundings_of self.now) self.now.handle self.now.members.now) tt }
+        ensures { result ≡ first_error_or
+            (layouts.unsized_errors (surroundings_of self.now) self.now.handle self.now.members.now) tt }
     {
         for index in 0..self.members.len() {
             let info = self.info(&self.members[index]);
@@ -494,7 +510,8 @@ impl StructType<'_> {
     /// The layout in the uniform address space (WGSL "Address Space Layout Constraints").
     fn uniform_layout(&self) -> LayoutCompatibility
         requires { MembersKnown self.now }
-        ensures { result ≡ layouts.uniform_layout_of (surroundings_of self.now) self.now.handle self.now.members.now self.now.span }
+        ensures { result ≡ layouts.uniform_layout_of (surroundings_of self.now) self.now.handle self.now.members.now
+            self.now.span }
     {
         self.check_span()?;
         if let Some(error) = self.last_in_room() {

@@ -101,7 +101,8 @@ impl Model for Layouter {
 fn limited_size(inner: &TypeInner, gctx: GlobalCtx<'_>) -> Result<u32, LayoutErrorInner>
     requires exist { ReferencesExist (lists_of gctx) inner.now }
     requires references { GlobalReferencesOk (lists_of gctx) }
-    ensures { MatchResult result (λ size. (size_rule (lists_of gctx.entry) inner.now ≡ Ok tt) × (size ≡ size_of (lists_of gctx.entry) inner.now))
+    ensures { MatchResult result (λ size. (size_rule (lists_of gctx.entry) inner.now ≡ Ok tt)
+        × (size ≡ size_of (lists_of gctx.entry) inner.now))
         (λ e. size_rule (lists_of gctx.entry) inner.now ≡ Err e) }
 {
     if let TypeInner::Array { size, stride, .. } = inner {
@@ -160,10 +161,12 @@ impl Layouter {
     ///   has a layout, as have all types before it.
     pub fn update(&mut self, gctx: GlobalCtx<'_>) -> Result<(), LayoutError>
         requires { GlobalReferencesOk (lists_of gctx) }
-        ensures layouts { UnlessOutOfMemory (λ e. e.inner ≡ LayoutErrorInner.OutOfMemory) result (λ _. AreLayouts (lists_of gctx.entry) self.new)
+        ensures layouts { UnlessOutOfMemory (λ e. e.inner ≡ LayoutErrorInner.OutOfMemory) result
+            (λ _. AreLayouts (lists_of gctx.entry) self.new)
             (λ e. IsFirstError (layout_results (lists_of gctx.entry)) e.ty e.inner) }
         ensures place { IfErr result (λ e. e.ty < length gctx.entry.types.now) }
-        ensures memory { IfErr result (λ e. e.inner ≡ LayoutErrorInner.OutOfMemory → slice_get (layout_results (lists_of gctx.entry)) e.ty ≡ Some (Ok tt)) }
+        ensures memory { IfErr result (λ e. e.inner ≡ LayoutErrorInner.OutOfMemory
+            → slice_get (layout_results (lists_of gctx.entry)) e.ty ≡ Some (Ok tt)) }
         ensures before { IfErr result (λ e. All IsOk (take e.ty (layout_results (lists_of gctx.entry)))) }
         ensures cleared { OnErr result (self.new ≡ []) }
     {
@@ -182,8 +185,10 @@ impl Layouter {
         requires laid_out { PartsLaidOut self.old inner.now }
         requires exist { ReferencesExist (lists_of gctx) inner.now }
         requires references { GlobalReferencesOk (lists_of gctx) }
-        ensures { UnlessOutOfMemory (λ e. (e ≡ LayoutErrorInner.OutOfMemory) × (layout_rule (lists_of gctx.entry) inner.now ≡ Ok tt)) result
-            (λ _. (layout_rule (lists_of gctx.entry) inner.now ≡ Ok tt) × (self.new ≡ self.old ++ layout_of_inner (lists_of gctx.entry) self.old inner.now ∷ []))
+        ensures { UnlessOutOfMemory (λ e. (e ≡ LayoutErrorInner.OutOfMemory)
+            × (layout_rule (lists_of gctx.entry) inner.now ≡ Ok tt)) result
+            (λ _. (layout_rule (lists_of gctx.entry) inner.now ≡ Ok tt)
+            × (self.new ≡ self.old ++ layout_of_inner (lists_of gctx.entry) self.old inner.now ∷ []))
             (λ e. layout_rule (lists_of gctx.entry) inner.now ≡ Err e) }
     {
         let layout = self.layout_of(inner, gctx)?;
@@ -200,7 +205,8 @@ impl Layouter {
         requires laid_out { PartsLaidOut self.now inner.now }
         requires exist { ReferencesExist (lists_of gctx) inner.now }
         requires references { GlobalReferencesOk (lists_of gctx) }
-        ensures { MatchResult result (λ layout. (layout_rule (lists_of gctx.entry) inner.now ≡ Ok tt) × (layout ≡ layout_of_inner (lists_of gctx.entry) self.now inner.now))
+        ensures { MatchResult result (λ layout. (layout_rule (lists_of gctx.entry) inner.now ≡ Ok tt)
+            × (layout ≡ layout_of_inner (lists_of gctx.entry) self.now inner.now))
             (λ e. layout_rule (lists_of gctx.entry) inner.now ≡ Err e) }
     {
         let Some(alignment) = self.alignment_of(inner) else {

@@ -359,7 +359,8 @@ fn math_of(
     third: Option<&TypeInner>,
     fourth: Option<&TypeInner>,
 ) -> Result<TypeResolution, ResolveError>
-    ensures { let seen = option_map (λ t. t.now) in result ≡ spec.value_of (math_type fun first.now (seen second.entry) (seen third.entry) (seen fourth.entry)) }
+    ensures { let seen = option_map (λ t. t.now) in result
+        ≡ spec.value_of (math_type fun first.now (seen second.entry) (seen third.entry) (seen fourth.entry)) }
 {
     let inner = match (second, third, fourth) {
         (None, None, None) => result_type(fun, &[first]),

@@ -101,7 +101,8 @@ pub(crate) fn size_unless_array(inner: &TypeInner) -> u32
 pub fn try_size(inner: &TypeInner, gctx: GlobalCtx<'_>) -> Option<u32>
     requires exist { ReferencesExist (lists_of gctx) inner.now }
     requires references { GlobalReferencesOk (lists_of gctx) }
-    ensures value { MatchOption result (largest_u32 < size_of (lists_of gctx.entry) inner.now) (λ size. size ≡ size_of (lists_of gctx.entry) inner.now) }
+    ensures value { MatchOption result (largest_u32 < size_of (lists_of gctx.entry) inner.now)
+        (λ size. size ≡ size_of (lists_of gctx.entry) inner.now) }
     ensures fits { OnSome result (SizeFits (lists_of gctx.entry) inner.now) }
 {
     if let TypeInner::Array { size, stride, .. } = inner {

@@ -224,7 +224,8 @@ impl<T: Typing> Validator<T> {
     /// `OutOfMemory` if memory was refused. After each of them the validator is as after `reset`.
     pub fn validate(&mut self, module: &Module) -> Result<ModuleInfo, WithSpan<ValidationError>>
         ensures result { UnlessOutOfMemory (λ e. inner_of e ≡ ValidationError.OutOfMemory) result
-            (λ info. Accepts (T.resolves self.old.typing) «module».now (settings_of self.old false) self.new.infos info.lists)
+            (λ info. Accepts (T.resolves self.old.typing) «module».now (settings_of self.old false) self.new.infos
+            info.lists)
             (λ e. Refuses (T.resolves self.old.typing) «module».now (settings_of self.old false) (inner_of e)) }
         ensures types { OnOk result (AreValidTypes «module».now (settings_of self.old false) self.new.infos) }
         ensures leaves { OnOk result (AllLeavesAreSeparate (global_lists «module».now) self.new.infos) }
@@ -245,9 +246,12 @@ impl<T: Typing> Validator<T> {
         module: &Module,
     ) -> Result<ModuleInfo, WithSpan<ValidationError>>
         ensures result { UnlessOutOfMemory (λ e. inner_of e ≡ ValidationError.OutOfMemory) result
-            (λ info. Accepts (T.resolves self.old.typing) «module».now (settings_of self.old true) self.new.infos info.lists)
+            (λ info. Accepts (T.resolves self.old.typing) «module».now (settings_of self.old true) self.new.infos
+            info.lists)
             (λ e. Refuses (T.resolves self.old.typing) «module».now (settings_of self.old true) (inner_of e)) }
-        ensures unresolved { IfOk result (λ info. Accepts (T.resolves self.old.typing) «module».now (settings_of self.old false) self.new.infos info.lists) }
+        ensures unresolved { IfOk result
+            (λ info. Accepts (T.resolves self.old.typing) «module».now (settings_of self.old false) self.new.infos
+            info.lists) }
         ensures types { OnOk result (AreValidTypes «module».now (settings_of self.old true) self.new.infos) }
         ensures leaves { OnOk result (AllLeavesAreSeparate (global_lists «module».now) self.new.infos) }
         ensures cleared { OnErr result (self.new.infos ≡ []) }
@@ -263,8 +267,10 @@ impl<T: Typing> Validator<T> {
         overrides_resolved: bool,
     ) -> Result<ModuleInfo, WithSpan<ValidationError>>
         ensures result { UnlessOutOfMemory (λ e. inner_of e ≡ ValidationError.OutOfMemory) result
-            (λ info. Accepts (T.resolves self.old.typing) «module».now (settings_of self.old overrides_resolved) self.new.infos info.lists)
-            (λ e. Refuses (T.resolves self.old.typing) «module».now (settings_of self.old overrides_resolved) (inner_of e)) }
+            (λ info. Accepts (T.resolves self.old.typing) «module».now (settings_of self.old overrides_resolved)
+            self.new.infos info.lists)
+            (λ e. Refuses (T.resolves self.old.typing) «module».now (settings_of self.old overrides_resolved)
+            (inner_of e)) }
         ensures cleared { OnErr result (self.new.infos ≡ []) }
         ensures settings { self.new ≡ record self.old { infos = self.new.infos } }
     {
@@ -282,8 +288,10 @@ impl<T: Typing> Validator<T> {
         overrides_resolved: bool,
     ) -> Result<ModuleInfo, WithSpan<ValidationError>>
         ensures result { UnlessOutOfMemory (λ e. inner_of e ≡ ValidationError.OutOfMemory) result
-            (λ info. Accepts (T.resolves self.old.typing) «module».now (settings_of self.old overrides_resolved) self.new.infos info.lists)
-            (λ e. Refuses (T.resolves self.old.typing) «module».now (settings_of self.old overrides_resolved) (inner_of e)) }
+            (λ info. Accepts (T.resolves self.old.typing) «module».now (settings_of self.old overrides_resolved)
+            self.new.infos info.lists)
+            (λ e. Refuses (T.resolves self.old.typing) «module».now (settings_of self.old overrides_resolved)
+            (inner_of e)) }
         ensures settings { self.new ≡ record self.old { infos = self.new.infos } }
     {
         if let Err(fault) = validate_module_handles(self.alloc, module) {
@@ -393,7 +401,8 @@ impl<T: Typing> Validator<T> {
 /// Computes the layouts of a module's types.
 fn lay_out(layouter: &mut Layouter, module: &Module) -> Result<(), WithSpan<ValidationError>>
     requires { HandlesAccepted «module».now }
-    ensures { UnlessOutOfMemory (λ e. inner_of e ≡ ValidationError.OutOfMemory) result (λ _. IsLaidOut «module».now layouter.new)
+    ensures { UnlessOutOfMemory (λ e. inner_of e ≡ ValidationError.OutOfMemory) result
+        (λ _. IsLaidOut «module».now layouter.new)
         (λ e. (resolves : Resolves) (settings : state.Settings) → Refuses resolves «module».now settings (inner_of e)) }
 {
     let Err(error) = layouter.update(to_ctx(module)) else {
@@ -418,7 +427,8 @@ fn validate_types(
 ) -> Result<ModuleInfo, WithSpan<ValidationError>>
     requires { IsLaidOut «module».now layouter.now }
     ensures { UnlessOutOfMemory (λ e. inner_of e ≡ ValidationError.OutOfMemory) result
-        (λ info. AreValidTypes «module».now settings infos.new.infos × (info.lists ≡ lists_of (record { infos = infos.new.infos; resolutions = [] })))
+        (λ info. AreValidTypes «module».now settings infos.new.infos
+        × (info.lists ≡ lists_of (record { infos = infos.new.infos; resolutions = [] })))
         (λ e. (resolves : Resolves) → Refuses resolves «module».now settings (inner_of e)) }
 {
     let mut mod_info = ModuleInfo::new(alloc);
@@ -465,7 +475,8 @@ fn type_info_of(
     requires exists { handle < length «module».now.types }
     requires known { handle ≤ length infos.now.infos }
     requires laid_out { IsLaidOut «module».now layouter.now }
-    ensures { IfSome (rule_at (surroundings_by (global_lists «module».now) settings.capabilities settings.resolved layouter.now infos.now.infos) handle) (λ rule. IsRuleResult rule result) }
+    ensures { IfSome (rule_at (surroundings_by (global_lists «module».now) settings.capabilities settings.resolved
+        layouter.now infos.now.infos) handle) (λ rule. IsRuleResult rule result) }
 {
     let ctx = TypeContext {
         capabilities: settings.capabilities,
@@ -507,7 +518,8 @@ fn resolve_expressions<T: Typing>(
         (λ _. AreResolved (T.resolves typing.now) «module».now mod_info.new.lists.const_expression_types)
         (λ e. IsFirstUnresolved (T.resolves typing.now) «module».now (inner_of e)) }
     ensures exist { OnOk result (All (TypesExist «module».now.types) mod_info.new.lists.const_expression_types) }
-    ensures others { mod_info.new.lists ≡ record mod_info.old.lists { const_expression_types = mod_info.new.lists.const_expression_types } }
+    ensures others { mod_info.new.lists
+        ≡ record mod_info.old.lists { const_expression_types = mod_info.new.lists.const_expression_types } }
 {
     for (handle, expression) in module.global_expressions.iter() {
         match typing.resolve(alloc, module, expression, mod_info.const_expression_types()) {

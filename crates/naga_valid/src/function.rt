@@ -78,8 +78,18 @@ impl<T: Typing> Validator<T> {
         requires flags { length «module».now.types ≤ length mod_info.now.lists.type_flags }
         requires calls { CallsBefore function.now (length mod_info.now.lists.functions) }
         ensures { UnlessOutOfMemory (λ e. e ≡ FunctionError.OutOfMemory) result
-            (λ info. IsFunctionAccepted (function_surroundings (T.resolves self.now.typing) (record { accepts = T.accepts_types self.now.typing; least_arguments = T.least_arguments self.now.typing }) self.now overrides_resolved «module».now function.now mod_info.now.lists) info)
-            (λ e. RefusesFunction (function_surroundings (T.resolves self.now.typing) (record { accepts = T.accepts_types self.now.typing; least_arguments = T.least_arguments self.now.typing }) self.now overrides_resolved «module».now function.now mod_info.now.lists) e) }
+            (λ info. IsFunctionAccepted (function_surroundings (T.resolves self.now.typing)
+            (record {
+              accepts = T.accepts_types self.now.typing;
+              least_arguments = T.least_arguments self.now.typing;
+            }) self.now overrides_resolved «module».now
+            function.now mod_info.now.lists) info)
+            (λ e. RefusesFunction (function_surroundings (T.resolves self.now.typing)
+            (record {
+              accepts = T.accepts_types self.now.typing;
+              least_arguments = T.least_arguments self.now.typing;
+            }) self.now overrides_resolved «module».now
+            function.now mod_info.now.lists) e) }
     {
         match infer_types(self.alloc, module, function, &self.typing) {
             Ok(mut info) => {
@@ -126,10 +136,25 @@ impl<T: Typing> Validator<T> {
         info: &FunctionInfo,
         overrides_resolved: bool,
     ) -> Result<ShaderStages, FunctionError>
-        requires { CanCheckRules (function_surroundings (T.resolves self.now.typing) (record { accepts = T.accepts_types self.now.typing; least_arguments = T.least_arguments self.now.typing }) self.now overrides_resolved «module».now function.now mod_info.now.lists) info.now.types }
+        requires { CanCheckRules (function_surroundings (T.resolves self.now.typing)
+            (record {
+              accepts = T.accepts_types self.now.typing;
+              least_arguments = T.least_arguments self.now.typing;
+            }) self.now overrides_resolved «module».now
+            function.now mod_info.now.lists) info.now.types }
         ensures { UnlessOutOfMemory (λ e. e ≡ FunctionError.OutOfMemory) result
-            (λ common. AllowInCommon (function_surroundings (T.resolves self.now.typing) (record { accepts = T.accepts_types self.now.typing; least_arguments = T.least_arguments self.now.typing }) self.now overrides_resolved «module».now function.now mod_info.now.lists) info.now.types common)
-            (λ e. IsFirstBreachAs (function_surroundings (T.resolves self.now.typing) (record { accepts = T.accepts_types self.now.typing; least_arguments = T.least_arguments self.now.typing }) self.now overrides_resolved «module».now function.now mod_info.now.lists) info.now.types e) }
+            (λ common. AllowInCommon (function_surroundings (T.resolves self.now.typing)
+            (record {
+              accepts = T.accepts_types self.now.typing;
+              least_arguments = T.least_arguments self.now.typing;
+            }) self.now overrides_resolved «module».now
+            function.now mod_info.now.lists) info.now.types common)
+            (λ e. IsFirstBreachAs (function_surroundings (T.resolves self.now.typing)
+            (record {
+              accepts = T.accepts_types self.now.typing;
+              least_arguments = T.least_arguments self.now.typing;
+            }) self.now overrides_resolved «module».now
+            function.now mod_info.now.lists) info.now.types e) }
     {
         let kinds = ExpressionKindTracker::from_arena(self.alloc, &function.expressions)?;
         let mut stages = ShaderStages::all();

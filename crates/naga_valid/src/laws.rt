@@ -114,7 +114,8 @@ pub fn uniform_ok<T: Typing>(
 )
     requires accepted { AreValidTypes «module».now (settings_of validator.now resolved) validator.now.infos }
     ensures { IfSome (slice_get validator.now.infos ty) (λ info. IsForHosts info
-        → HaveLeafAlignments (global_lists «module».now) ty × HasUniformByLeaves (global_lists «module».now) validator.now.infos ty info) }
+        → HaveLeafAlignments (global_lists «module».now) ty
+        × HasUniformByLeaves (global_lists «module».now) validator.now.infos ty info) }
 {}
 
 /// Members may be used for all that their struct may, but for being passed on between stages: each
@@ -128,7 +129,8 @@ pub fn struct_flags<T: Typing>(
     ty: Handle<TypeTag>,
 )
     requires accepted { AreValidTypes «module».now (settings_of validator.now resolved) validator.now.infos }
-    ensures { IfSome (slice_get validator.now.infos ty) (λ info. MembersHaveFlags (global_lists «module».now) validator.now.infos ty info) }
+    ensures { IfSome (slice_get validator.now.infos ty)
+        (λ info. MembersHaveFlags (global_lists «module».now) validator.now.infos ty info) }
 {}
 
 /// The slots of immediate data that a type without arrays uses are those of its leaves. `slots` are the
@@ -150,8 +152,10 @@ pub fn slots_of_leaves<T: Typing>(
     slots: ImmediateSlots,
 )
     requires accepted { AreValidTypes «module».now (settings_of validator.now resolved) validator.now.infos }
-    ensures { IfSome (slice_get validator.now.infos ty) (λ info. IsForHosts info → HasNoArray (global_lists «module».now) ty
-        → (inner : TypeInner) → inner_at (global_lists «module».now) ty ≡ Some inner → IsSetOf (UsesSlot (global_lists «module».now) inner offset) slots
+    ensures { IfSome (slice_get validator.now.infos ty)
+        (λ info. IsForHosts info → HasNoArray (global_lists «module».now) ty
+        → (inner : TypeInner) → inner_at (global_lists «module».now) ty ≡ Some inner
+        → IsSetOf (UsesSlot (global_lists «module».now) inner offset) slots
         → HasSlotsOfLeaves (global_lists «module».now) length ty offset slots) }
 {}
 
@@ -190,7 +194,8 @@ pub fn functions<T: Typing>(
     resolved: bool,
     mod_info: &ModuleInfo,
 )
-    requires accepted { Accepts (T.resolves validator.now.typing) «module».now (settings_of validator.now resolved) validator.now.infos mod_info.now.lists }
+    requires accepted { Accepts (T.resolves validator.now.typing) «module».now (settings_of validator.now resolved)
+        validator.now.infos mod_info.now.lists }
     ensures handles { HandlesAccepted «module».now }
     ensures flags { length «module».now.types ≤ length mod_info.now.lists.type_flags }
     ensures in_order { AreFunctionsReadyInOrder «module».now }

@@ -172,8 +172,12 @@ fn validate_expressions<T: Typing>(
 ) -> Result<(), WithSpan<ValidationError>>
     requires { AreFilledWithKinds «module».now mod_info.now.lists kinds.now }
     ensures { MatchResult result
-        (λ _. All IsOk (rule.results_of (rule.expression_result (rule.const_surroundings ctx.entry.capabilities ctx.entry.overrides_resolved «module».now mod_info.now.lists kinds.now)) «module».now.global_expressions))
-        (λ e. IsFirstValueError (rule.results_of (rule.expression_result (rule.const_surroundings ctx.entry.capabilities ctx.entry.overrides_resolved «module».now mod_info.now.lists kinds.now)) «module».now.global_expressions) (inner_of e)) }
+        (λ _. All IsOk (rule.results_of
+        (rule.expression_result (rule.const_surroundings ctx.entry.capabilities ctx.entry.overrides_resolved
+        «module».now mod_info.now.lists kinds.now)) «module».now.global_expressions))
+        (λ e. IsFirstValueError (rule.results_of
+        (rule.expression_result (rule.const_surroundings ctx.entry.capabilities ctx.entry.overrides_resolved
+        «module».now mod_info.now.lists kinds.now)) «module».now.global_expressions) (inner_of e)) }
 {
     for (handle, _) in module.global_expressions.iter() {
         if let Err(source) = validate_const_expression(
@@ -199,8 +203,10 @@ fn validate_constants(
 ) -> Result<(), WithSpan<ValidationError>>
     requires { AreFilledWithKinds «module».now mod_info.now.lists kinds.now }
     ensures { UnlessOutOfMemory (λ e. inner_of e ≡ ValidationError.OutOfMemory) result
-        (λ _. All IsOk (rule.results_of (rule.constant_result «module».now mod_info.now.lists kinds.now) «module».now.constants))
-        (λ e. IsFirstValueError (rule.results_of (rule.constant_result «module».now mod_info.now.lists kinds.now) «module».now.constants) (inner_of e)) }
+        (λ _. All IsOk (rule.results_of (rule.constant_result «module».now mod_info.now.lists kinds.now)
+        «module».now.constants))
+        (λ e. IsFirstValueError (rule.results_of (rule.constant_result «module».now mod_info.now.lists kinds.now)
+        «module».now.constants) (inner_of e)) }
 {
     for (handle, constant) in module.constants.iter() {
         if let Err(source) = validate_constant(constant, module, mod_info, kinds) {
@@ -226,8 +232,11 @@ fn validate_overrides(
 ) -> Result<(), WithSpan<ValidationError>>
     requires { AreFilled «module».now mod_info.now.lists }
     ensures { UnlessOutOfMemory (λ e. inner_of e ≡ ValidationError.OutOfMemory) result
-        (λ _. All IsOk (rule.results_of (rule.override_result overrides_resolved «module».now mod_info.now.lists) «module».now.overrides))
-        (λ e. IsFirstValueError (rule.results_of (rule.override_result overrides_resolved «module».now mod_info.now.lists) «module».now.overrides) (inner_of e)) }
+        (λ _. All IsOk (rule.results_of (rule.override_result overrides_resolved «module».now mod_info.now.lists)
+        «module».now.overrides))
+        (λ e. IsFirstValueError (rule.results_of
+        (rule.override_result overrides_resolved «module».now mod_info.now.lists) «module».now.overrides)
+        (inner_of e)) }
 {
     ids.clear()?;
     for (handle, over) in module.overrides.iter() {
@@ -261,8 +270,12 @@ pub fn validate_values<T: Typing>(
 ) -> Result<(), WithSpan<ValidationError>>
     requires { AreFilled «module».now mod_info.now.lists }
     ensures { UnlessOutOfMemory (λ e. inner_of e ≡ ValidationError.OutOfMemory) result
-        (λ _. (results : List (Result (Unit {0}) error.ValidationError)) × AreValueResults ctx.entry.capabilities ctx.entry.overrides_resolved «module».now mod_info.now.lists results × All IsOk results)
-        (λ e. (results : List (Result (Unit {0}) error.ValidationError)) × AreValueResults ctx.entry.capabilities ctx.entry.overrides_resolved «module».now mod_info.now.lists results × IsFirstValueError results (inner_of e)) }
+        (λ _. (results : List (Result (Unit {0}) error.ValidationError))
+        × AreValueResults ctx.entry.capabilities ctx.entry.overrides_resolved «module».now mod_info.now.lists
+        results × All IsOk results)
+        (λ e. (results : List (Result (Unit {0}) error.ValidationError))
+        × AreValueResults ctx.entry.capabilities ctx.entry.overrides_resolved «module».now mod_info.now.lists
+        results × IsFirstValueError results (inner_of e)) }
 {
     let kinds = ExpressionKindTracker::from_arena(alloc, &module.global_expressions)?;
     validate_expressions(ctx, module, mod_info, &kinds)?;
