@@ -1,6 +1,7 @@
 //! The widths that scalars may have.
 
 ghost use Rattle.std.specs.Prelude.{◌≡◌};
+ghost use Rattle.naga_flags.specs.ErrorNames.{immediate_error_name, width_error_name};
 ghost use Rattle.naga_flags.specs.Width.{width_rule};
 
 use crate::flags::Capabilities;
@@ -29,11 +30,35 @@ pub enum WidthError {
     Abstract,
 }
 
+impl WidthError {
+    /// The name of the variant.
+    pub fn name(&self) -> &'static str
+        ensures { result.now ≡ width_error_name self.now }
+    {
+        match self {
+            WidthError::Invalid(..) => "Invalid",
+            WidthError::MissingCapability { .. } => "MissingCapability",
+            WidthError::Abstract => "Abstract",
+        }
+    }
+}
+
 /// Why immediates may not hold a type (naga).
 #[derive(Clone, Copy, Debug, PartialEq)]
 pub enum ImmediateError {
     /// The scalar, of which the type is made, has 16 bits.
     InvalidScalar(Scalar),
+}
+
+impl ImmediateError {
+    /// The name of the variant.
+    pub fn name(&self) -> &'static str
+        ensures { result.now ≡ immediate_error_name self.now }
+    {
+        match self {
+            ImmediateError::InvalidScalar(_) => "InvalidScalar",
+        }
+    }
 }
 
 impl fmt::Display for ImmediateError {
@@ -46,6 +71,8 @@ impl fmt::Display for ImmediateError {
         }
     }
 }
+
+impl std::error::Error for ImmediateError {}
 
 /// Whether immediates may hold a type.
 pub type ImmediateCompatibility = Result<(), ImmediateError>;

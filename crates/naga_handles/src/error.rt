@@ -1,6 +1,7 @@
 //! What is wrong with a module's handles.
 
 ghost use Rattle.std.specs.Prelude.{◌≡◌};
+ghost use Rattle.naga_handles.specs.ErrorNames.{handle_error_name, validation_fault_name};
 
 use naga_ir::handle::{BadHandle, Handle, Kind};
 use naga_ir::memory::OutOfMemory;
@@ -21,6 +22,19 @@ pub enum InvalidHandleError {
     /// It is a range of expressions to emit that goes back, or ends after the last expression.
     #[error("{0}")]
     BadRange(BadRangeError),
+}
+
+impl InvalidHandleError {
+    /// The name of the variant.
+    pub fn name(&self) -> &'static str
+        ensures { result.now ≡ handle_error_name self.now }
+    {
+        match self {
+            InvalidHandleError::BadHandle(_) => "BadHandle",
+            InvalidHandleError::ForwardDependency(_) => "ForwardDependency",
+            InvalidHandleError::BadRange(_) => "BadRange",
+        }
+    }
 }
 
 impl From<BadHandle> for InvalidHandleError {
@@ -135,6 +149,19 @@ pub enum ValidationFault {
     /// A request for memory was refused, and nothing was decided about the module.
     #[error("Out of memory")]
     OutOfMemory,
+}
+
+impl ValidationFault {
+    /// The name of the variant.
+    pub fn name(&self) -> &'static str
+        ensures { result.now ≡ validation_fault_name self.now }
+    {
+        match self {
+            ValidationFault::Invalid(_) => "Invalid",
+            ValidationFault::MissingMember { .. } => "MissingMember",
+            ValidationFault::OutOfMemory => "OutOfMemory",
+        }
+    }
 }
 
 impl From<InvalidHandleError> for ValidationFault {

@@ -7,6 +7,8 @@
 -- Surroundings.IsReady, AreSound, IsReadySomewhere: what has to be known of an expression that is validated
 -- Results.IsRuleResult: what a call returns, out of memory aside
 -- Stages.every_stage: the stages that may use most expressions
+-- ErrorNames.literal_error_name, const_expression_error_name, expression_error_name: the name of each variant of an error
+pub mod ErrorNames
 pub mod FunctionTypes
 pub mod ModuleInfo
 pub mod Results

@@ -1,5 +1,8 @@
 //! Why expressions are refused.
 
+ghost use Rattle.std.specs.Prelude.{◌≡◌};
+ghost use Rattle.naga_info.specs.ErrorNames.{const_expression_error_name, literal_error_name};
+
 use naga_flags::width::WidthError;
 use naga_ir::handle::Handle;
 use naga_ir::tags::ExpressionTag;
@@ -13,6 +16,17 @@ pub enum LiteralError {
     /// The width of its scalar is not allowed.
     #[error("{0}")]
     Width(WidthError),
+}
+
+impl LiteralError {
+    /// The name of the variant.
+    pub fn name(&self) -> &'static str
+        ensures { result.now ≡ literal_error_name self.now }
+    {
+        match self {
+            LiteralError::Width(_) => "Width",
+        }
+    }
 }
 
 impl From<WidthError> for LiteralError {
@@ -50,6 +64,23 @@ pub enum ConstExpressionError {
     /// Never returned: a width is refused inside `Literal`.
     #[error("{0}")]
     Width(WidthError),
+}
+
+impl ConstExpressionError {
+    /// The name of the variant, as naga spells it: `Type_` is `Type`.
+    pub fn name(&self) -> &'static str
+        ensures { result.now ≡ const_expression_error_name self.now }
+    {
+        match self {
+            ConstExpressionError::NonConstOrOverride => "NonConstOrOverride",
+            ConstExpressionError::NonFullyEvaluatedConst => "NonFullyEvaluatedConst",
+            ConstExpressionError::Compose(_) => "Compose",
+            ConstExpressionError::InvalidSplatType(_) => "InvalidSplatType",
+            ConstExpressionError::Type_(_) => "Type",
+            ConstExpressionError::Literal(_) => "Literal",
+            ConstExpressionError::Width(_) => "Width",
+        }
+    }
 }
 
 impl From<ComposeError> for ConstExpressionError {

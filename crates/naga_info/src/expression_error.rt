@@ -1,5 +1,8 @@
 //! Why an expression of a function is refused.
 
+ghost use Rattle.std.specs.Prelude.{◌≡◌};
+ghost use Rattle.naga_info.specs.ErrorNames.{expression_error_name};
+
 use crate::const_expression_error::LiteralError;
 use naga_flags::flags::Capabilities;
 use naga_ir::expression::{BinaryOperator, MathFunction, SwizzleComponent, UnaryOperator};
@@ -184,6 +187,80 @@ pub enum ExpressionError {
     DivideByZero,
     /// A request for memory was refused, for the types or the text in an error.
     OutOfMemory,
+}
+
+impl ExpressionError {
+    /// The name of the variant, as naga spells it: `Type_` is `Type`.
+    pub fn name(&self) -> &'static str
+        ensures { result.now ≡ expression_error_name self.now }
+    {
+        match self {
+            Self::NotInScope => "NotInScope",
+            Self::InvalidBaseType(_) => "InvalidBaseType",
+            Self::InvalidIndexType(_) => "InvalidIndexType",
+            Self::NegativeIndex(_) => "NegativeIndex",
+            Self::IndexOutOfBounds(..) => "IndexOutOfBounds",
+            Self::FunctionArgumentDoesntExist(_) => "FunctionArgumentDoesntExist",
+            Self::InvalidPointerType(_) => "InvalidPointerType",
+            Self::InvalidArrayType(_) => "InvalidArrayType",
+            Self::InvalidRayQueryType(_) => "InvalidRayQueryType",
+            Self::InvalidSplatType(_) => "InvalidSplatType",
+            Self::InvalidVectorType(_) => "InvalidVectorType",
+            Self::InvalidSwizzleComponent(..) => "InvalidSwizzleComponent",
+            Self::Compose(_) => "Compose",
+            Self::InvalidZeroValue(_) => "InvalidZeroValue",
+            Self::IndexableLength(_) => "IndexableLength",
+            Self::InvalidUnaryOperandType(..) => "InvalidUnaryOperandType",
+            Self::InvalidBinaryOperandTypes { .. } => "InvalidBinaryOperandTypes",
+            Self::SelectValuesTypeMismatch { .. } => "SelectValuesTypeMismatch",
+            Self::SelectConditionNotABool { .. } => "SelectConditionNotABool",
+            Self::InvalidBooleanVector(_) => "InvalidBooleanVector",
+            Self::InvalidFloatArgument(_) => "InvalidFloatArgument",
+            Self::Type_(_) => "Type",
+            Self::ExpectedGlobalVariable => "ExpectedGlobalVariable",
+            Self::ExpectedGlobalOrArgument => "ExpectedGlobalOrArgument",
+            Self::ExpectedBindingArrayType(_) => "ExpectedBindingArrayType",
+            Self::ExpectedImageType(_) => "ExpectedImageType",
+            Self::ExpectedSamplerType(_) => "ExpectedSamplerType",
+            Self::InvalidImageClass(_) => "InvalidImageClass",
+            Self::InvalidImageFormat(_) => "InvalidImageFormat",
+            Self::InvalidImageStorageAccess(_) => "InvalidImageStorageAccess",
+            Self::InvalidDerivative => "InvalidDerivative",
+            Self::InvalidImageArrayIndex => "InvalidImageArrayIndex",
+            Self::InvalidImageSampleSelector => "InvalidImageSampleSelector",
+            Self::MissingImageSampleSelector => "MissingImageSampleSelector",
+            Self::InvalidImageLevelSelector => "InvalidImageLevelSelector",
+            Self::MissingImageLevelSelector => "MissingImageLevelSelector",
+            Self::InvalidImageArrayIndexType(_) => "InvalidImageArrayIndexType",
+            Self::InvalidImageOtherIndexType(_) => "InvalidImageOtherIndexType",
+            Self::InvalidImageCoordinateType(..) => "InvalidImageCoordinateType",
+            Self::ComparisonSamplingMismatch { .. } => "ComparisonSamplingMismatch",
+            Self::InvalidSampleOffsetExprType => "InvalidSampleOffsetExprType",
+            Self::InvalidSampleOffset(..) => "InvalidSampleOffset",
+            Self::InvalidDepthReference(_) => "InvalidDepthReference",
+            Self::InvalidDepthSampleLevel => "InvalidDepthSampleLevel",
+            Self::InvalidGatherLevel => "InvalidGatherLevel",
+            Self::InvalidGatherComponent(_) => "InvalidGatherComponent",
+            Self::InvalidGatherDimension(_) => "InvalidGatherDimension",
+            Self::InvalidSampleLevelExactType(_) => "InvalidSampleLevelExactType",
+            Self::InvalidSampleLevelBiasType(_) => "InvalidSampleLevelBiasType",
+            Self::InvalidSampleLevelBiasDimension(_) => "InvalidSampleLevelBiasDimension",
+            Self::InvalidSampleLevelGradientType(..) => "InvalidSampleLevelGradientType",
+            Self::InvalidSampleClampCoordinateToEdge(_) => "InvalidSampleClampCoordinateToEdge",
+            Self::InvalidCastArgument => "InvalidCastArgument",
+            Self::WrongArgumentCount(_) => "WrongArgumentCount",
+            Self::InvalidArgumentType(..) => "InvalidArgumentType",
+            Self::InvalidWorkGroupUniformLoadResultType(_) =>
+                "InvalidWorkGroupUniformLoadResultType",
+            Self::MissingCapabilities(_) => "MissingCapabilities",
+            Self::Literal(_) => "Literal",
+            Self::UnsupportedWidth(..) => "UnsupportedWidth",
+            Self::InvalidCooperativeOperand(_) => "InvalidCooperativeOperand",
+            Self::ShiftAmountTooLarge { .. } => "ShiftAmountTooLarge",
+            Self::DivideByZero => "DivideByZero",
+            Self::OutOfMemory => "OutOfMemory",
+        }
+    }
 }
 
 impl fmt::Display for ExpressionError {

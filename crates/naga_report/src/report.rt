@@ -6,15 +6,14 @@ ghost use Rattle.naga_typing.specs.PlainTyping.{plain_resolves};
 ghost use Rattle.naga_valid.specs.Accepted.{Accepts, Refuses};
 ghost use Rattle.naga_valid.specs.State.{settings_of};
 ghost use Rattle.naga_valid.specs.declared.error.ValidationError.TheVariants as error;
-ghost use Rattle.naga_report.specs.Report.{IsReport, IsReportOn, accepted_text, const_expression_error_name, constant_error_name, disalignment_name, handle_error_name, hex_byte, layout_error_name, layout_text, override_error_name, refused_line, refused_text, type_error_name, type_line};
+ghost use Rattle.naga_report.specs.Report.{IsReport, IsReportOn, accepted_text, hex_byte, layout_text, refused_line, refused_text, type_line};
 ghost use Rattle.std.specs.Prelude.{◌≡◌, ◌++◌, IfOk, OnOk, codes, decimal, length, string_bytes};
 
 use bitflags::Flags;
 use naga_text::text::{Contents, TextError, read_text};
 use naga_valid::{
-    ConstExpressionError, ConstantError, Disalignment, Handle, InvalidHandleError,
-    LayoutCompatibility, LayoutErrorInner, Module, ModuleInfo, OverrideError, TypeError, TypeFlags,
-    TypeInfo, TypeTag, ValidationError, Validator, WithSpan,
+    Handle, LayoutCompatibility, Module, ModuleInfo, TypeFlags, TypeInfo, TypeTag, ValidationError,
+    Validator, WithSpan,
 };
 use std::alloc::{AllocError, Global};
 
@@ -38,114 +37,6 @@ pub struct Report {
     pub outcome: Outcome,
 }
 
-/// The name of the reason why a type can't be laid out for an address space.
-fn disalignment_name(disalignment: Disalignment) -> &'static str
-    ensures { result.now ≡ disalignment_name disalignment }
-{
-    match disalignment {
-        Disalignment::ArrayStride { .. } => "ArrayStride",
-        Disalignment::StructSpan { .. } => "StructSpan",
-        Disalignment::MemberOffset { .. } => "MemberOffset",
-        Disalignment::MemberOffsetAfterStruct { .. } => "MemberOffsetAfterStruct",
-        Disalignment::UnsizedMember { .. } => "UnsizedMember",
-        Disalignment::NonHostShareable => "NonHostShareable",
-    }
-}
-
-/// The name of what is wrong with a handle or a range.
-fn handle_error_name(error: &InvalidHandleError) -> &'static str
-    ensures { result.now ≡ handle_error_name error.now }
-{
-    match error {
-        InvalidHandleError::BadHandle(_) => "BadHandle",
-        InvalidHandleError::ForwardDependency(_) => "ForwardDependency",
-        InvalidHandleError::BadRange(_) => "BadRange",
-    }
-}
-
-/// The name of the reason why a type has no layout.
-fn layout_error_name(error: LayoutErrorInner) -> &'static str
-    ensures { result.now ≡ layout_error_name error }
-{
-    match error {
-        LayoutErrorInner::TooLarge => "TooLarge",
-        LayoutErrorInner::NonPowerOfTwoWidth => "NonPowerOfTwoWidth",
-        LayoutErrorInner::OutOfMemory => "OutOfMemory",
-    }
-}
-
-/// The name of the rule that a type breaks.
-fn type_error_name(error: &TypeError) -> &'static str
-    ensures { result.now ≡ type_error_name error.now }
-{
-    match error {
-        TypeError::MissingCapability(_) => "MissingCapability",
-        TypeError::InvalidAtomicWidth(..) => "InvalidAtomicWidth",
-        TypeError::InvalidPointerBase(_) => "InvalidPointerBase",
-        TypeError::InvalidPointerToUnsized { .. } => "InvalidPointerToUnsized",
-        TypeError::InvalidData(_) => "InvalidData",
-        TypeError::InvalidArrayBaseType(_) => "InvalidArrayBaseType",
-        TypeError::MatrixElementNotFloat => "MatrixElementNotFloat",
-        TypeError::UnsupportedSpecializedArrayLength(_) => "UnsupportedSpecializedArrayLength",
-        TypeError::UnsupportedImageType { .. } => "UnsupportedImageType",
-        TypeError::InvalidArrayStride { .. } => "InvalidArrayStride",
-        TypeError::InvalidDynamicArray(..) => "InvalidDynamicArray",
-        TypeError::BindingArrayBaseTypeNotStruct(_) => "BindingArrayBaseTypeNotStruct",
-        TypeError::BindingArrayBaseExternalTextures => "BindingArrayBaseExternalTextures",
-        TypeError::MemberOverlap { .. } => "MemberOverlap",
-        TypeError::MemberOutOfBounds { .. } => "MemberOutOfBounds",
-        TypeError::EmptyStruct => "EmptyStruct",
-        TypeError::InvalidBlendSrc(_) => "InvalidBlendSrc",
-        TypeError::WidthError(_) => "WidthError",
-        TypeError::UnresolvedOverride(_) => "UnresolvedOverride",
-        TypeError::InvalidArraySize(_) => "InvalidArraySize",
-        TypeError::OutOfMemory => "OutOfMemory",
-    }
-}
-
-/// The name of the rule that a global expression breaks.
-fn const_expression_error_name(error: &ConstExpressionError) -> &'static str
-    ensures { result.now ≡ const_expression_error_name error.now }
-{
-    match error {
-        ConstExpressionError::NonConstOrOverride => "NonConstOrOverride",
-        ConstExpressionError::NonFullyEvaluatedConst => "NonFullyEvaluatedConst",
-        ConstExpressionError::Compose(_) => "Compose",
-        ConstExpressionError::InvalidSplatType(_) => "InvalidSplatType",
-        ConstExpressionError::Type_(_) => "Type",
-        ConstExpressionError::Literal(_) => "Literal",
-        ConstExpressionError::Width(_) => "Width",
-    }
-}
-
-/// The name of the rule that a constant breaks.
-fn constant_error_name(error: &ConstantError) -> &'static str
-    ensures { result.now ≡ constant_error_name error.now }
-{
-    match error {
-        ConstantError::InitializerExprType => "InitializerExprType",
-        ConstantError::InvalidType => "InvalidType",
-        ConstantError::NonConstructibleType => "NonConstructibleType",
-    }
-}
-
-/// The name of the rule that an override breaks.
-fn override_error_name(error: &OverrideError) -> &'static str
-    ensures { result.now ≡ override_error_name error.now }
-{
-    match error {
-        OverrideError::MissingNameAndID => "MissingNameAndID",
-        OverrideError::DuplicateID => "DuplicateID",
-        OverrideError::InitializerExprType => "InitializerExprType",
-        OverrideError::InvalidType => "InvalidType",
-        OverrideError::NonConstructibleType => "NonConstructibleType",
-        OverrideError::TypeNotScalar => "TypeNotScalar",
-        OverrideError::NotAllowed => "NotAllowed",
-        OverrideError::UninitializedOverride => "UninitializedOverride",
-        OverrideError::ConstExpression { .. } => "ConstExpression",
-    }
-}
-
 /// Adds the alignment of a layout in bytes, or the name of the reason why there is none.
 fn add_layout(text: &mut String, layout: LayoutCompatibility) -> Result<(), AllocError>
     ensures { OnOk result (string_bytes text.new ≡ string_bytes text.old ++ layout_text layout) }
@@ -155,7 +46,7 @@ fn add_layout(text: &mut String, layout: LayoutCompatibility) -> Result<(), Allo
             let alignment = alignment.get();
             write!(text, "{alignment}")
         }
-        Err((_, disalignment)) => text.push_str(disalignment_name(disalignment)),
+        Err((_, disalignment)) => text.push_str(disalignment.name()),
     }
 }
 
@@ -220,38 +111,26 @@ pub fn report_refused(alloc: Global, error: &ValidationError) -> Result<String, 
 {
     match error {
         ValidationError::InvalidHandle(error) => {
-            let name = handle_error_name(error);
+            let name = error.name();
             format!(in alloc; "refused handle {name}\n")
         }
         ValidationError::Layouter(error) => {
-            let name = layout_error_name(error.inner);
-            refused_line(alloc, "layout T", error.ty.index(), name)
+            refused_line(alloc, "layout T", error.ty.index(), error.inner.name())
         }
         ValidationError::Type_ { handle, source, .. } => {
-            refused_line(alloc, "type T", handle.index(), type_error_name(source))
+            refused_line(alloc, "type T", handle.index(), source.name())
         }
         ValidationError::ConstExpression { handle, source } => {
-            let name = const_expression_error_name(source);
-            refused_line(alloc, "expression G", handle.index(), name)
+            refused_line(alloc, "expression G", handle.index(), source.name())
         }
         ValidationError::ArraySizeError { handle } => {
             refused_line(alloc, "expression G", handle.index(), "ArraySizeError")
         }
         ValidationError::Constant { handle, source, .. } => {
-            refused_line(
-                alloc,
-                "constant C",
-                handle.index(),
-                constant_error_name(source),
-            )
+            refused_line(alloc, "constant C", handle.index(), source.name())
         }
         ValidationError::Override { handle, source, .. } => {
-            refused_line(
-                alloc,
-                "override O",
-                handle.index(),
-                override_error_name(source),
-            )
+            refused_line(alloc, "override O", handle.index(), source.name())
         }
         ValidationError::Corrupted => String::from_str(alloc, "refused module Corrupted\n"),
         ValidationError::OutOfMemory => String::from_str(alloc, "refused memory\n"),

@@ -6,7 +6,9 @@
 -- Text.has_content, module_of, contents_of: which lines say something, and what lines say together
 -- Text.AreConsistent: which lines can make one text
 -- Text.IsText, IsFirstUnreadable: what a text says, or its first line that can't be read
+-- ErrorNames.text_error_name: the name of each variant of an error
 pub mod Bytes
+pub mod ErrorNames
 pub mod Forms
 pub mod Tables
 pub mod Text

@@ -7,6 +7,7 @@ ghost use Rattle.naga_text.specs.declared.text.Contents.{Contents};
 ghost use Rattle.naga_text.specs.declared.text.TextError.TheVariants as error;
 ghost use Rattle.naga_text.specs.steps.SoFar.{AreRead, IsAdded, IsNewItem, IsNewType, IsReadNext, IsSetOnce, ReadSoFar, finished};
 ghost use Rattle.std.specs.Prelude.{◌≡◌, ◌∷◌, ◌++◌, IfErr, IfOk, None, Ok, [], map};
+ghost use Rattle.naga_text.specs.ErrorNames.{text_error_name};
 
 use crate::line::{Line, read_line};
 use crate::pieces::pieces;
@@ -47,6 +48,18 @@ pub enum TextError {
     Line(usize),
     /// A request for memory was refused.
     OutOfMemory,
+}
+
+impl TextError {
+    /// The name of the variant.
+    pub fn name(&self) -> &'static str
+        ensures { result.now ≡ text_error_name self.now }
+    {
+        match self {
+            TextError::Line(_) => "Line",
+            TextError::OutOfMemory => "OutOfMemory",
+        }
+    }
 }
 
 impl From<AllocError> for TextError {

@@ -10,8 +10,10 @@
 -- HostLeaves.LeavesAreSeparate: the leaves of a type that hosts may share are aligned, end by its size, and share no byte, and its layouts are multiples of their alignments
 -- RuleResults.IsRuleResult: what a call returns by a rule, out of memory aside
 -- Composing.compose_rule: whether a value of a type may be composed of components
+-- ErrorNames.disalignment_name, varying_error_name, type_error_name, compose_error_name: the name of each variant of an error
 pub mod AcceptedTypes
 pub mod Composing
+pub mod ErrorNames
 pub mod Exchange
 pub mod FormFlags
 pub mod HostLayouts

@@ -1,6 +1,7 @@
 //! Why a type is refused, why it has no layout that hosts may share, and why a value can't be composed.
 
 ghost use Rattle.std.specs.Prelude.{◌≡◌, codes, if◌then◌else◌};
+ghost use Rattle.naga_types.specs.ErrorNames.{compose_error_name, disalignment_name, type_error_name, varying_error_name};
 ghost use Rattle.naga_types.specs.Layouts as layouts;
 
 use naga_flags::flags::Capabilities;
@@ -50,6 +51,22 @@ pub enum Disalignment {
     NonHostShareable,
 }
 
+impl Disalignment {
+    /// The name of the variant.
+    pub fn name(&self) -> &'static str
+        ensures { result.now ≡ disalignment_name self.now }
+    {
+        match self {
+            Disalignment::ArrayStride { .. } => "ArrayStride",
+            Disalignment::StructSpan { .. } => "StructSpan",
+            Disalignment::MemberOffset { .. } => "MemberOffset",
+            Disalignment::MemberOffsetAfterStruct { .. } => "MemberOffsetAfterStruct",
+            Disalignment::UnsizedMember { .. } => "UnsizedMember",
+            Disalignment::NonHostShareable => "NonHostShareable",
+        }
+    }
+}
+
 impl fmt::Display for Disalignment {
     ghost use Rattle.std.specs.Prelude.{Some};
     ghost use Rattle.naga_types.specs.Texts.{text_of};
@@ -90,6 +107,8 @@ impl fmt::Display for Disalignment {
     }
 }
 
+impl std::error::Error for Disalignment {}
+
 /// Why the members of a struct can't be the two sources of blending (WGSL "blend_src"): the variants of
 /// naga's `VaryingError` that structs give.
 #[derive(Clone, Debug, PartialEq, Drop, Error)]
@@ -128,6 +147,23 @@ pub enum VaryingError {
         /// The index of the source that exists.
         present_blend_src: u32,
     },
+}
+
+impl VaryingError {
+    /// The name of the variant.
+    pub fn name(&self) -> &'static str
+        ensures { result.now ≡ varying_error_name self.now }
+    {
+        match self {
+            VaryingError::InvalidBlendSrcIndex { .. } => "InvalidBlendSrcIndex",
+            VaryingError::BindingCollisionBlendSrc { .. } => "BindingCollisionBlendSrc",
+            VaryingError::InvalidBlendSrcWithOtherBindings { .. } =>
+                "InvalidBlendSrcWithOtherBindings",
+            VaryingError::BlendSrcOutputTypeMismatch { .. } => "BlendSrcOutputTypeMismatch",
+            VaryingError::NotIOShareableType(_) => "NotIOShareableType",
+            VaryingError::IncompleteBlendSrcUsage { .. } => "IncompleteBlendSrcUsage",
+        }
+    }
 }
 
 /// Why a type is refused: naga's `TypeError`. A handle names the type at fault, an `index` a
@@ -223,6 +259,37 @@ pub enum TypeError {
     OutOfMemory,
 }
 
+impl TypeError {
+    /// The name of the variant.
+    pub fn name(&self) -> &'static str
+        ensures { result.now ≡ type_error_name self.now }
+    {
+        match self {
+            TypeError::MissingCapability(_) => "MissingCapability",
+            TypeError::InvalidAtomicWidth(..) => "InvalidAtomicWidth",
+            TypeError::InvalidPointerBase(_) => "InvalidPointerBase",
+            TypeError::InvalidPointerToUnsized { .. } => "InvalidPointerToUnsized",
+            TypeError::InvalidData(_) => "InvalidData",
+            TypeError::InvalidArrayBaseType(_) => "InvalidArrayBaseType",
+            TypeError::MatrixElementNotFloat => "MatrixElementNotFloat",
+            TypeError::UnsupportedSpecializedArrayLength(_) => "UnsupportedSpecializedArrayLength",
+            TypeError::UnsupportedImageType { .. } => "UnsupportedImageType",
+            TypeError::InvalidArrayStride { .. } => "InvalidArrayStride",
+            TypeError::InvalidDynamicArray(..) => "InvalidDynamicArray",
+            TypeError::BindingArrayBaseTypeNotStruct(_) => "BindingArrayBaseTypeNotStruct",
+            TypeError::BindingArrayBaseExternalTextures => "BindingArrayBaseExternalTextures",
+            TypeError::MemberOverlap { .. } => "MemberOverlap",
+            TypeError::MemberOutOfBounds { .. } => "MemberOutOfBounds",
+            TypeError::EmptyStruct => "EmptyStruct",
+            TypeError::InvalidBlendSrc(_) => "InvalidBlendSrc",
+            TypeError::WidthError(_) => "WidthError",
+            TypeError::UnresolvedOverride(_) => "UnresolvedOverride",
+            TypeError::InvalidArraySize(_) => "InvalidArraySize",
+            TypeError::OutOfMemory => "OutOfMemory",
+        }
+    }
+}
+
 /// What images are called in an error.
 fn images(arrayed: &bool) -> &'static str
     ensures { result.now ≡ (if arrayed.now then codes "Arrayed images" else codes "Images") }
@@ -272,6 +339,19 @@ pub enum ComposeError {
         /// The place of the component, from 0.
         index: u32,
     },
+}
+
+impl ComposeError {
+    /// The name of the variant, as naga spells it: `Type_` is `Type`.
+    pub fn name(&self) -> &'static str
+        ensures { result.now ≡ compose_error_name self.now }
+    {
+        match self {
+            ComposeError::Type_(_) => "Type",
+            ComposeError::ComponentCount { .. } => "ComponentCount",
+            ComposeError::ComponentType { .. } => "ComponentType",
+        }
+    }
 }
 
 /// A number as errors give it: the greatest `u32` in place of any above.

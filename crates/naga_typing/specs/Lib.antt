@@ -12,8 +12,10 @@
 -- PlainTyping.plain_resolves: what `PlainTyping` resolves
 -- FullTyping.full_resolves: what `FullTyping` resolves
 -- Math.signature: what each mathematical function takes and returns, by `PlainTyping`
+-- ErrorNames.resolve_error_name, layout_error_name, indexable_length_error_name, const_value_error_name: the name of each variant of an error
 pub mod Constants
 pub mod Context
+pub mod ErrorNames
 pub mod FullLaws
 pub mod FullTyping
 pub mod Index

@@ -7,6 +7,7 @@ ghost use Rattle.naga_ir.specs.References.{named_type};
 ghost use Rattle.naga_typing.specs.Constants as spec;
 ghost use Rattle.naga_typing.specs.Constants.{NamedItemsExist, index_of};
 ghost use Rattle.naga_typing.specs.Context.{lists_of};
+ghost use Rattle.naga_typing.specs.ErrorNames.{const_value_error_name};
 
 use naga_ir::arena::Arena;
 use naga_ir::expression::{Expression, Literal};
@@ -55,6 +56,19 @@ pub enum ConstValueError {
     /// Its type is none of `u16`, `u32`, `i16` and `i32`.
     #[error("The constant is not a whole number of 16 or 32 bits")]
     InvalidType,
+}
+
+impl ConstValueError {
+    /// The name of the variant.
+    pub fn name(&self) -> &'static str
+        ensures { result.now ≡ const_value_error_name self.now }
+    {
+        match self {
+            ConstValueError::NonConst => "NonConst",
+            ConstValueError::Negative => "Negative",
+            ConstValueError::InvalidType => "InvalidType",
+        }
+    }
 }
 
 /// The number that an index constant gives: a number of elements, or the index of one.

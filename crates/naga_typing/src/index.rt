@@ -4,6 +4,7 @@ ghost use Rattle.std.specs.Prelude.{◌≡◌};
 ghost use Rattle.naga_ir.specs.Handles.{GlobalReferencesOk};
 ghost use Rattle.naga_ir.specs.ItemReferences.{global_lists};
 ghost use Rattle.naga_typing.specs.Context.{ReferencesExist, lists_of};
+ghost use Rattle.naga_typing.specs.ErrorNames.{indexable_length_error_name};
 ghost use Rattle.naga_typing.specs.Index.{IsLength, LengthOfArray, PointsTo, length_of, pending_length, resolved_length};
 ghost use Rattle.naga_typing.specs.steps.Index.{HasNoArraySize};
 
@@ -34,6 +35,18 @@ pub enum IndexableLengthError {
     /// above 0.
     #[error("Array length is not a positive constant")]
     InvalidArrayLength,
+}
+
+impl IndexableLengthError {
+    /// The name of the variant.
+    pub fn name(&self) -> &'static str
+        ensures { result.now ≡ indexable_length_error_name self.now }
+    {
+        match self {
+            IndexableLengthError::TypeNotIndexable => "TypeNotIndexable",
+            IndexableLengthError::InvalidArrayLength => "InvalidArrayLength",
+        }
+    }
 }
 
 /// How many elements of a value can be indexed, before overrides have their values: the components of

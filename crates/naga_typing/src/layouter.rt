@@ -8,6 +8,7 @@ ghost use Rattle.naga_ir.specs.Handles.{GlobalReferencesOk};
 ghost use Rattle.naga_ir.specs.declared.types.StructMember as member;
 ghost use Rattle.naga_ir.specs.Sizes as sizes;
 ghost use Rattle.naga_typing.specs.Context.{ReferencesExist, lists_of};
+ghost use Rattle.naga_typing.specs.ErrorNames.{layout_error_name};
 ghost use Rattle.naga_typing.specs.Layout as spec;
 ghost use Rattle.naga_typing.specs.Layout.{AreLayouts, alignment_at, greatest, layout_of_inner, layout_results, layout_rule, size_of, size_rule, width_of};
 ghost use Rattle.naga_typing.specs.steps.Layout.{PartsLaidOut};
@@ -49,6 +50,19 @@ pub enum LayoutErrorInner {
     /// A request for memory was refused.
     #[error("Out of memory")]
     OutOfMemory,
+}
+
+impl LayoutErrorInner {
+    /// The name of the variant.
+    pub fn name(&self) -> &'static str
+        ensures { result.now ≡ layout_error_name self.now }
+    {
+        match self {
+            LayoutErrorInner::TooLarge => "TooLarge",
+            LayoutErrorInner::NonPowerOfTwoWidth => "NonPowerOfTwoWidth",
+            LayoutErrorInner::OutOfMemory => "OutOfMemory",
+        }
+    }
 }
 
 impl From<OutOfMemory> for LayoutErrorInner {

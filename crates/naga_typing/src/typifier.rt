@@ -2,6 +2,7 @@
 
 ghost use Rattle.std.specs.Prelude.{◌≡◌, ◌↔◌, IfOk, IsFalse, IsOk, IsTrue, OnErr, Some, unwrap_or};
 ghost use Rattle.naga_ir.specs.TypeWords.{IsNoStruct, IsStruct};
+ghost use Rattle.naga_typing.specs.ErrorNames.{resolve_error_name};
 ghost use Rattle.naga_typing.specs.Resolutions as spec;
 ghost use Rattle.naga_typing.specs.Resolutions.{AllPartsExist, AreSameTypes, IsStructValue, PartsExist, TypesExist, inner_in};
 ghost use Rattle.naga_typing.specs.Sameness.{are_same};
@@ -87,6 +88,19 @@ pub enum ResolveError {
     /// A request for memory was refused.
     #[error("Out of memory")]
     OutOfMemory,
+}
+
+impl ResolveError {
+    /// The name of the variant.
+    pub fn name(&self) -> &'static str
+        ensures { result.now ≡ resolve_error_name self.now }
+    {
+        match self {
+            ResolveError::IncompatibleOperands => "IncompatibleOperands",
+            ResolveError::NotResolvable => "NotResolvable",
+            ResolveError::OutOfMemory => "OutOfMemory",
+        }
+    }
 }
 
 impl From<OutOfMemory> for ResolveError {

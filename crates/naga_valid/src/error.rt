@@ -1,5 +1,8 @@
 //! Why a module is refused.
 
+ghost use Rattle.std.specs.Prelude.{◌≡◌};
+ghost use Rattle.naga_valid.specs.ErrorNames.{constant_error_name, override_error_name, validation_error_name};
+
 use naga_handles::error::{FwdDepError, InvalidHandleError, ValidationFault};
 use naga_info::const_expression_error::ConstExpressionError;
 use naga_ir::handle::{BadHandle, Handle};
@@ -23,6 +26,19 @@ pub enum ConstantError {
     /// The type of the constant is not constructible (WGSL "Constructible Types").
     #[error("The type is not constructible")]
     NonConstructibleType,
+}
+
+impl ConstantError {
+    /// The name of the variant.
+    pub fn name(&self) -> &'static str
+        ensures { result.now ≡ constant_error_name self.now }
+    {
+        match self {
+            ConstantError::InitializerExprType => "InitializerExprType",
+            ConstantError::InvalidType => "InvalidType",
+            ConstantError::NonConstructibleType => "NonConstructibleType",
+        }
+    }
 }
 
 /// Why an override is refused.
@@ -59,6 +75,25 @@ pub enum OverrideError {
         handle: Handle<ExpressionTag>,
         source: ConstExpressionError,
     },
+}
+
+impl OverrideError {
+    /// The name of the variant.
+    pub fn name(&self) -> &'static str
+        ensures { result.now ≡ override_error_name self.now }
+    {
+        match self {
+            OverrideError::MissingNameAndID => "MissingNameAndID",
+            OverrideError::DuplicateID => "DuplicateID",
+            OverrideError::InitializerExprType => "InitializerExprType",
+            OverrideError::InvalidType => "InvalidType",
+            OverrideError::NonConstructibleType => "NonConstructibleType",
+            OverrideError::TypeNotScalar => "TypeNotScalar",
+            OverrideError::NotAllowed => "NotAllowed",
+            OverrideError::UninitializedOverride => "UninitializedOverride",
+            OverrideError::ConstExpression { .. } => "ConstExpression",
+        }
+    }
 }
 
 /// Why a module is refused.
@@ -110,6 +145,25 @@ pub enum ValidationError {
     /// A request for memory was refused, and nothing was decided about the module.
     #[error("Out of memory")]
     OutOfMemory,
+}
+
+impl ValidationError {
+    /// The name of the variant, as naga spells it: `Type_` is `Type`.
+    pub fn name(&self) -> &'static str
+        ensures { result.now ≡ validation_error_name self.now }
+    {
+        match self {
+            ValidationError::InvalidHandle(_) => "InvalidHandle",
+            ValidationError::Layouter(_) => "Layouter",
+            ValidationError::Type_ { .. } => "Type",
+            ValidationError::ConstExpression { .. } => "ConstExpression",
+            ValidationError::ArraySizeError { .. } => "ArraySizeError",
+            ValidationError::Constant { .. } => "Constant",
+            ValidationError::Override { .. } => "Override",
+            ValidationError::Corrupted => "Corrupted",
+            ValidationError::OutOfMemory => "OutOfMemory",
+        }
+    }
 }
 
 impl From<InvalidHandleError> for ValidationError {
