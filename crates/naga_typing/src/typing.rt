@@ -17,7 +17,7 @@ use std::alloc::Global;
 
 /// A rule for the types of expressions, as naga's `ResolveContext::resolve` and the overloads of its
 /// math functions are one. Generic code is proved for every implementation, only by its laws.
-pub trait Typing {
+pub trait Typing: Drop {
     ghost resolves: { Self → modules.Module → expression.Expression → List resolution.TypeResolution → Result resolution.TypeResolution error.ResolveError };
 
     ghost accepts_types: { Self → math.MathFunction → List inner.TypeInner → Bool };
