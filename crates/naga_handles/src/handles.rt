@@ -3,10 +3,10 @@
 ghost use Rattle.std.specs.Prelude.{◌≡◌, ◌↔◌, ℕ, IfErr, IfOk, IsTrue, List, ◌∷◌, None, OnOk, map, option_to_list};
 ghost use Rattle.std.specs.List.{enumerate_from, flat_map};
 ghost use Rattle.std.specs.Fn.{FnReturnsAt};
-ghost use Rattle.naga_ir.specs.ItemReferences.{body_references, constant_references, entry_point_references, global_variable_references, local_references, local_variable_references, override_references, signature_references};
+ghost use Rattle.naga_ir.specs.ItemReferences.{body_references, constant_references, entry_point_references, global_lists, global_variable_references, local_references, local_variable_references, override_references, signature_references};
 ghost use Rattle.naga_ir.specs.References as spec;
 ghost use Rattle.naga_ir.specs.ItemReferences as item;
-ghost use Rattle.naga_ir.specs.Handles.{HandlesAccepted, function_counts, module_counts};
+ghost use Rattle.naga_ir.specs.Handles.{GlobalReferencesOk, HandlesAccepted, function_counts, module_counts};
 ghost use Rattle.naga_ir.specs.Operands.{present};
 ghost use Rattle.naga_ir.specs.declared.reference.Reference.TheVariants as to;
 ghost use Rattle.naga_ir.specs.FirstError.{ChecksEach};
@@ -44,6 +44,9 @@ use std::alloc::Global;
 /// and all global expressions before it name only types that precede the type. The rule is naga's
 /// (`Validator::validate_module_handles`), with the references that naga leaves unchecked.
 ///
+/// The calls on types and global expressions, as `leaf_at`, `Layouter::update` and
+/// `ImmediateSlots::from_type`, require `GlobalReferencesOk`, which holds of a module that is accepted.
+///
 /// The cost is linear in the module.
 ///
 /// # Errors
@@ -54,9 +57,10 @@ use std::alloc::Global;
 /// comments. `MissingMember` is of a comment on a member. `OutOfMemory` if memory was refused, which
 /// can only be if the module has overrides or a `MissingMember` is due.
 pub fn validate_module_handles(alloc: Global, module: &Module) -> Result<(), ValidationFault>
-    ensures { UnlessOutOfMemory (λ fault. (fault ≡ ValidationFault.OutOfMemory) × NeedsMemory «module».now) result
+    ensures result { UnlessOutOfMemory (λ fault. (fault ≡ ValidationFault.OutOfMemory) × NeedsMemory «module».now) result
         (λ _. HandlesAccepted «module».now)
         (λ fault. IsFault «module».now fault × (HandlesAccepted «module».now → ⊥)) }
+    ensures references { OnOk result (GlobalReferencesOk (global_lists «module».now)) }
 {
     validate_all_handles(alloc, module)
 }

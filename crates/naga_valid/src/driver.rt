@@ -7,7 +7,7 @@ ghost use Rattle.naga_exprs.specs.ConstExpression.{literal_rule};
 ghost use Rattle.naga_exprs.specs.ExpressionRule.{IsExpressionResult};
 ghost use Rattle.naga_exprs.specs.Math.{math_typing};
 ghost use Rattle.naga_flags.specs.Width.{width_rule};
-ghost use Rattle.naga_ir.specs.Handles.{HandlesAccepted};
+ghost use Rattle.naga_ir.specs.Handles.{GlobalReferencesOk, HandlesAccepted};
 ghost use Rattle.naga_ir.specs.ItemReferences.{global_lists};
 ghost use Rattle.naga_info.specs.Surroundings.{IsReady};
 ghost use Rattle.naga_types.specs.AcceptedTypes.{IsLaidOut, surroundings_by, rule_at};
@@ -229,6 +229,7 @@ impl<T: Typing> Validator<T> {
             (λ e. Refuses (T.resolves self.old.typing) «module».now (settings_of self.old false) (inner_of e)) }
         ensures types { OnOk result (AreValidTypes «module».now (settings_of self.old false) self.new.infos) }
         ensures leaves { OnOk result (AllLeavesAreSeparate (global_lists «module».now) self.new.infos) }
+        ensures references { OnOk result (GlobalReferencesOk (global_lists «module».now)) }
         ensures cleared { OnErr result (self.new.infos ≡ []) }
         ensures settings { self.new ≡ record self.old { infos = self.new.infos } }
     {
@@ -254,6 +255,7 @@ impl<T: Typing> Validator<T> {
             info.lists) }
         ensures types { OnOk result (AreValidTypes «module».now (settings_of self.old true) self.new.infos) }
         ensures leaves { OnOk result (AllLeavesAreSeparate (global_lists «module».now) self.new.infos) }
+        ensures references { OnOk result (GlobalReferencesOk (global_lists «module».now)) }
         ensures cleared { OnErr result (self.new.infos ≡ []) }
         ensures settings { self.new ≡ record self.old { infos = self.new.infos } }
     {

@@ -1,5 +1,6 @@
 use Rattle.std.proofs.Common.{true, subst, sym}
 use Rattle.std.proofs.lemmas.Result.{MatchResult-weaker}
+use Rattle.naga_ir.proofs.Handles.{global_references_ok}
 use Rattle.naga_ir.specs.ItemReferences.{global_lists}
 use Rattle.naga_types.proofs.HostLeaves.{leaves_of_accepted}
 use Rattle.naga_types.specs.HostLeaves.{AllLeavesAreSeparate}
@@ -20,4 +21,10 @@ returns-clause-leaves g c =
     let m = c.args.module.now in
     MatchResult-weaker c.validate_impl.result c.validate_impl.ensures.result
     (λ info h. let types = h.accepted.known.types in subst (AllLeavesAreSeparate (global_lists m)) (sym h.infos_are) (leaves_of_accepted m c.args.self.now.capabilities true types.layouts h.facts.infos types.accepted))
+    (λ e h. tt)
+
+pub returns-clause-references : goal.returns-clause-references
+returns-clause-references g c =
+    MatchResult-weaker c.validate_impl.result c.validate_impl.ensures.result
+    (λ info h. global_references_ok c.args.module.now h.accepted.known.types.accepted.laid_out.handles)
     (λ e h. tt)
