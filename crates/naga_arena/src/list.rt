@@ -5,13 +5,20 @@ ghost use Rattle.std.specs.List.{AllZip};
 
 use crate::memory::OutOfMemory;
 use std::alloc::{AllocError, Global};
+use std::fmt;
 use std::hash::{Hash, Hasher};
 use std::marker::Model;
 
 /// A `Vec` inside a value of a module, such as the members of a struct. Contracts see its items.
-#[derive(Debug, Drop)]
+#[derive(Drop)]
 pub struct List<T> {
     items: Vec<T>,
+}
+
+impl<T: fmt::Debug> fmt::Debug for List<T> {
+    fn fmt<W: fmt::Write>(&self, f: &mut fmt::Formatter<W>) -> fmt::Result {
+        self.items.fmt(f)
+    }
 }
 
 impl<T> Model for List<T> {

@@ -9,9 +9,15 @@ use std::hash::{Hash, Hasher};
 use std::marker::Model;
 
 /// A text of a module, as the name of a type. Contracts see its bytes.
-#[derive(Debug, Drop)]
+#[derive(Drop)]
 pub struct Text {
     text: String,
+}
+
+impl fmt::Debug for Text {
+    fn fmt<W: fmt::Write>(&self, f: &mut fmt::Formatter<W>) -> fmt::Result {
+        write!(f, "{:?}", self.as_str())
+    }
 }
 
 impl Model for Text {
@@ -123,9 +129,15 @@ impl fmt::Display for Text {
 }
 
 /// A text of the program itself, as the name of a capability. Contracts see its bytes.
-#[derive(Debug, Drop)]
+#[derive(Drop)]
 pub struct StaticText {
     text: &'static str,
+}
+
+impl fmt::Debug for StaticText {
+    fn fmt<W: fmt::Write>(&self, f: &mut fmt::Formatter<W>) -> fmt::Result {
+        write!(f, "{:?}", self.as_str())
+    }
 }
 
 impl Model for StaticText {

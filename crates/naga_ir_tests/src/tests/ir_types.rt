@@ -232,8 +232,7 @@ fn a_copy_is_equal_and_stays_as_it_was(rt: HostRuntime) {
     assert_same(&rt, "the old copy", &(copy == ty), &false);
     let scalar = ty.inner.try_clone().expect(&rt, "memory");
     assert_same(&rt, "a scalar", &scalar, &TypeInner::Scalar(F32));
-    let expected =
-        "Struct { members: List { items: [StructMember { name: Some(Text { text: \"position\" }), \
-        ty: [0], binding: None, offset: 16 }] }, span: 32 }";
+    let expected = "Struct { members: [StructMember { name: Some(\"position\"), \
+        ty: [0], binding: None, offset: 16 }], span: 32 }";
     assert_debugged(&rt, &copy.inner, expected);
 }

@@ -37,16 +37,16 @@ fn types_name_a_scalar_a_base_and_an_override(rt: HostRuntime) {
 
 const MODULE: &str =
     "Module { types: [], special_types: SpecialTypes { ray_desc: None, ray_intersection: \
-    None, ray_vertex_return: None, others: List { items: [] } }, constants: Arena { data: \
+    None, ray_vertex_return: None, others: [] }, constants: Arena { data: \
     [], span_info: [], kind: PhantomData<_> }, overrides: Arena { data: [], span_info: \
     [], kind: PhantomData<_> }, global_variables: Arena { data: [], span_info: [], kind: \
     PhantomData<_> }, global_expressions: Arena { data: [], span_info: [], kind: \
     PhantomData<_> }, functions: Arena { data: [], span_info: [], kind: PhantomData<_> }, \
-    entry_points: List { items: [] }, diagnostic_filters: Arena { data: [], span_info: \
+    entry_points: [], diagnostic_filters: Arena { data: [], span_info: \
     [], kind: PhantomData<_> }, diagnostic_filter_leaf: None, doc_comments: DocComments { \
-    module: List { items: [] }, types: List { items: [] }, struct_members: List { items: \
-    [] }, entry_points: List { items: [] }, functions: List { items: [] }, constants: \
-    List { items: [] }, global_variables: List { items: [] } } }";
+    module: [], types: [], struct_members: [], \
+    entry_points: [], functions: [], constants: \
+    [], global_variables: [] } }";
 
 #[test]
 fn blocks_and_modules_are_shown_by_their_fields(rt: HostRuntime) {

@@ -4,7 +4,7 @@ use naga_valid::{ExpressionError, FunctionError, Handle};
 use std::process::Abort;
 
 #[test]
-fn errors_of_functions_read_so(rt: HostRuntime) {
+fn texts_of_errors_of_functions(rt: HostRuntime) {
     for (error, want) in [
         (
             FunctionError::Expression {

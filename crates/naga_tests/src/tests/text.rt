@@ -96,14 +96,14 @@ const ROWS: &[(&str, &str)] = &[
     ),
     (
         "type struct 48 0:0 1:16:3 2:32:4:1",
-        "Type { name: None, inner: Struct { members: List { items: [StructMember { name: None, ty: [0], binding: \
+        "Type { name: None, inner: Struct { members: [StructMember { name: None, ty: [0], binding: \
         None, offset: 0 }, StructMember { name: None, ty: [1], binding: Some(Location { location: 3, \
         blend_src: None }), offset: 16 }, StructMember { name: None, ty: [2], binding: Some(Location { \
-        location: 4, blend_src: Some(1) }), offset: 32 }] }, span: 48 } }\n",
+        location: 4, blend_src: Some(1) }), offset: 32 }], span: 48 } }\n",
     ),
     (
         "type struct 0",
-        "Type { name: None, inner: Struct { members: List { items: [] }, span: 0 } }\n",
+        "Type { name: None, inner: Struct { members: [], span: 0 } }\n",
     ),
     (
         "type scalar sint 255\ntype scalar uint 0\ntype scalar bool 1\n",
@@ -160,13 +160,10 @@ const ROWS: &[(&str, &str)] = &[
     ("expr const 0", "Constant([0])\n"),
     ("expr override 4294967294", "Override([4294967294])\n"),
     ("expr zero 03", "ZeroValue([3])\n"),
-    (
-        "expr compose 0",
-        "Compose { ty: [0], components: List { items: [] } }\n",
-    ),
+    ("expr compose 0", "Compose { ty: [0], components: [] }\n"),
     (
         "expr compose 1 2 3 3",
-        "Compose { ty: [1], components: List { items: [[2], [3], [3]] } }\n",
+        "Compose { ty: [1], components: [[2], [3], [3]] }\n",
     ),
     (
         "expr splat 2 7\nexpr splat 04 8",
@@ -272,7 +269,7 @@ const ROWS: &[(&str, &str)] = &[
     ),
     (
         "doc 3 4294967294\ndoc 3 4294967294",
-        "(([3], 4294967294), List { items: [] })\n(([3], 4294967294), List { items: [] })\n",
+        "(([3], 4294967294), [])\n(([3], 4294967294), [])\n",
     ),
     (
         "const 0 0\nflags 1\nexpr lit bool 1\ndoc 0 1\noverride 0 - -\n\n# no line\nconst 0 1\ntype scalar bool \
@@ -280,7 +277,7 @@ const ROWS: &[(&str, &str)] = &[
         "Type { name: None, inner: Scalar(Scalar { kind: Bool, width: 1 }) \
         }\nLiteral(Bool(true))\nZeroValue([0])\nConstant { name: None, ty: [0], init: [0] }\nConstant { \
         name: None, ty: [0], init: [1] }\nOverride { name: None, id: None, ty: [0], init: None }\n(([0], \
-        1), List { items: [] })\n",
+        1), [])\n",
     ),
 ];
 

@@ -23,7 +23,7 @@ Composing 1's component type is not expected
 ";
 
 #[test]
-fn errors_of_widths_and_compositions_read_so(rt: HostRuntime) {
+fn texts_of_errors_of_widths_and_compositions(rt: HostRuntime) {
     assert_lines(
         &rt,
         &[
@@ -74,7 +74,7 @@ Override-sized array type [11] does not have a positive size
 ";
 
 #[test]
-fn errors_of_types_read_so(rt: HostRuntime) {
+fn texts_of_errors_of_types(rt: HostRuntime) {
     assert_lines(
         &rt,
         &[

@@ -117,7 +117,7 @@ fn nothing_is_known_of_an_empty_module(rt: HostRuntime) -> Result<(), Fail> {
     assert_same(
         &rt,
         &shown.as_str(),
-        &"ModuleInfo { type_flags: [], functions: [], entry_points: List { items: [] }, const_expression_types: [] }",
+        &"ModuleInfo { type_flags: [], functions: [], entry_points: [], const_expression_types: [] }",
     );
     Ok(())
 }
