@@ -30,7 +30,7 @@ The Float scalar width 3 is not supported
 ";
 
 #[test]
-fn errors_of_literals_and_global_expressions_read_so(rt: HostRuntime) {
+fn texts_of_errors_of_literals_and_global_expressions(rt: HostRuntime) {
     let width = WidthError::Invalid(ScalarKind::Float, 3);
     assert_lines(
         &rt,
@@ -78,7 +78,7 @@ Out of memory
 ";
 
 #[test]
-fn errors_of_accesses_and_values_read_so(rt: HostRuntime) {
+fn texts_of_errors_of_accesses_and_values(rt: HostRuntime) {
     assert_lines(
         &rt,
         &[
@@ -126,7 +126,7 @@ Min is not supported for Width 8 Sint arguments yet, see https://github.com/gfx-
 ";
 
 #[test]
-fn errors_of_operators_and_functions_read_so(rt: HostRuntime) {
+fn texts_of_errors_of_operators_and_functions(rt: HostRuntime) {
     assert_lines(
         &rt,
         &[
@@ -181,7 +181,7 @@ Cannot textureLoad from a mipmapped image without specifying a level.
 ";
 
 #[test]
-fn errors_of_images_read_so(rt: HostRuntime) {
+fn texts_of_errors_of_images(rt: HostRuntime) {
     let access = StorageAccess {
         load: true,
         store: false,
@@ -229,7 +229,7 @@ Sample level (gradient) of [3] doesn't match the image dimension Cube
 ";
 
 #[test]
-fn errors_of_samples_read_so(rt: HostRuntime) {
+fn texts_of_errors_of_samples(rt: HostRuntime) {
     let what = String::from_str(rt.alloc(), "a gather").expect(&rt, "memory");
     let dim = ImageDimension::Cube;
     assert_lines(

@@ -130,7 +130,7 @@ Only the blend source 1 is there, and not the other one
 ";
 
 #[test]
-fn errors_of_structs_read_so(rt: HostRuntime) {
+fn texts_of_errors_of_structs(rt: HostRuntime) {
     let name = String::from_str(rt.alloc(), "lights").expect(&rt, "memory");
     assert_lines(
         &rt,
@@ -183,7 +183,7 @@ The type is not host-shareable
 ";
 
 #[test]
-fn errors_of_layouts_read_so(rt: HostRuntime) {
+fn texts_of_errors_of_layouts(rt: HostRuntime) {
     let alignment = aligned(&rt, 16);
     assert_lines(
         &rt,
@@ -248,7 +248,7 @@ The constant is not a whole number of 16 or 32 bits
 ";
 
 #[test]
-fn errors_of_the_typing_layer_read_so(rt: HostRuntime) {
+fn texts_of_errors_of_the_typing_layer(rt: HostRuntime) {
     assert_lines(
         &rt,
         &[

@@ -232,7 +232,7 @@ Out of memory
 ";
 
 #[test]
-fn refusals_read_so(rt: HostRuntime) {
+fn texts_of_refusals(rt: HostRuntime) {
     let missing_function = BadHandle {
         kind: StaticText::new("Function"),
         index: 5,
@@ -288,7 +288,7 @@ Override is uninitialized
 ";
 
 #[test]
-fn errors_of_constants_and_overrides_read_so(rt: HostRuntime) {
+fn texts_of_errors_of_constants_and_overrides(rt: HostRuntime) {
     assert_lines(
         &rt,
         &[
