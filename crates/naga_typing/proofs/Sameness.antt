@@ -69,6 +69,6 @@ pub same_decides : (types : List «Type») (lhs rhs : TypeResolution) → Decide
 unfolding are_same
 same_decides types lhs rhs = found_decides types lhs rhs _ _
 
--- a bool that decides the relation is this one
+-- a bool that decides the relation is that one
 pub same_types : (types : List «Type») (lhs rhs : TypeResolution) (result : Bool) → IsTrue result ↔ AreSameTypes types lhs rhs → result ≡ are_same types lhs rhs
 same_types types lhs rhs result says = same_from_decides result (are_same types lhs rhs) says (same_decides types lhs rhs)

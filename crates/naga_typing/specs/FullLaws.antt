@@ -8,6 +8,8 @@ use Rattle.naga_ir.proofs.ModuleItems.{ray_intersection_exists, ray_vertex_retur
 use Rattle.naga_ir.specs.Handles.{ExistsGlobally, HandlesAccepted}
 use Rattle.naga_ir.specs.ItemReferences.{GlobalLists, global_lists}
 use Rattle.naga_ir.specs.References.{named_type}
+use Rattle.naga_ir.specs.declared.expression.BinaryOperator.{BinaryOperator}
+use Rattle.naga_ir.specs.declared.expression.BinaryOperator.TheVariants.{Multiply}
 use Rattle.naga_ir.specs.declared.expression.Expression.{Expression}
 use Rattle.naga_ir.specs.declared.expression.Expression.TheVariants as form
 use Rattle.naga_ir.specs.declared.expression.ImageQuery.{ImageQuery as Query}
@@ -28,13 +30,14 @@ use Rattle.naga_ir.specs.declared.types.ImageClass.TheVariants.{Depth, Sampled, 
 use Rattle.naga_ir.specs.declared.types.ImageDimension.{ImageDimension}
 use Rattle.naga_ir.specs.declared.types.ImageDimension.TheVariants.{D1}
 use Rattle.naga_ir.specs.declared.types.Scalar.{Scalar as ScalarType}
+use Rattle.naga_ir.specs.declared.types.ScalarKind.{ScalarKind}
 use Rattle.naga_ir.specs.declared.types.StructMember.{StructMember}
 use Rattle.naga_ir.specs.declared.types.TypeInner.{TypeInner}
-use Rattle.naga_ir.specs.declared.types.TypeInner.TheVariants.{Vector, Matrix, Array, BindingArray, Struct, Atomic, Pointer, ValuePointer, Image}
+use Rattle.naga_ir.specs.declared.types.TypeInner.TheVariants.{Scalar, Vector, Matrix, CooperativeMatrix, Array, BindingArray, Struct, Atomic, Pointer, ValuePointer, Image}
 use Rattle.naga_ir.specs.declared.types.VectorSize.{VectorSize}
-use Rattle.naga_typing.specs.FullTyping.{at_target, declared, extent_of, full_resolves, gathered_of, load_of, loaded, member_pointer, part_at, part_in, part_pointer, query_of, reference_to, result_of, sample_in, sample_of, texel_of, type_of_variable}
-use Rattle.naga_typing.specs.PlainLaws.{IsLawfulResult, all_parts_exist, lawful as plain_result, lawful_named, lawful_operand, lawful_same, of_element, of_part, of_scalar, of_vector, plain_lawful}
-use Rattle.naga_typing.specs.PlainTyping.{ResolveResult, of_form}
+use Rattle.naga_typing.specs.FullTyping.{at_target, declared, extent_of, full_binary_of, full_cast_of, full_product_of, full_resolves, gathered_of, load_of, loaded, member_pointer, part_at, part_in, part_pointer, query_of, reference_to, result_of, sample_in, sample_of, texel_of, type_of_variable}
+use Rattle.naga_typing.specs.PlainLaws.{IsLawfulResult, all_parts_exist, lawful as plain_result, lawful_binary, lawful_named, lawful_operand, lawful_same, of_cast, of_element, of_matrix, of_part, of_product, of_scalar, of_vector, plain_lawful}
+use Rattle.naga_typing.specs.PlainTyping.{ResolveResult, of_form, same_type}
 use Rattle.naga_typing.specs.Resolutions.{AllPartsExist, PartsExist}
 use Rattle.naga_typing.specs.Typings.{CanResolve, IsLawful}
 use Rattle.naga_typing.specs.declared.typifier.TypeResolution.{TypeResolution}
@@ -137,6 +140,14 @@ module _ (g : GlobalLists) (types_ok : AllPartsExist g.types) where
   of_query (Size level) _ = tt
   of_query _ inner = of_scalar g _
 
+  of_full_product : (left right : ResolveResult) (x y : TypeInner) → IsLawfulResult g left → IsLawfulResult g right → IsLawfulResult g (full_product_of left right x y)
+  of_full_product left right (Scalar s) (CooperativeMatrix columns rows scalar role) l r = r
+  of_full_product left right x y l r = of_product g left right x y l r
+
+  of_full_cast : (kind : ScalarKind) (convert : Option ℕ) (inner : TypeInner) → IsLawfulResult g (full_cast_of kind convert inner)
+  of_full_cast kind convert (Matrix columns rows scalar) = of_matrix g columns rows _
+  of_full_cast kind convert inner = of_cast g kind convert inner
+
 module _ (m : Module) (handles : HandlesAccepted m) where
   abbrev g : GlobalLists
   g = global_lists m
@@ -162,6 +173,17 @@ module _ (m : Module) (handles : HandlesAccepted m) where
       by_function None at = tt
       by_function (Some f) at = by_result f.result (result_type_exists m handles k f at)
 
+module _ (m : Module) (x : Expression) (earlier : List TypeResolution) (can : CanResolve m x earlier) where
+  lawful_full_binary : (op : BinaryOperator) (left right : ℕ) → IsLawfulResult (global_lists m) (full_binary_of m.types earlier op left right)
+  lawful_full_binary Multiply left right =
+      lawful_operand m x earlier can left _
+      (λ a a_exist.
+      lawful_operand m x earlier can right _
+      (λ b b_exist.
+      of_full_product (global_lists m) (types_ok m can.handles) (same_type (slice_get earlier left)) (same_type (slice_get earlier right)) a b (lawful_same m x earlier can left)
+      (lawful_same m x earlier can right)))
+  lawful_full_binary op left right = lawful_binary m x earlier can op left right
+
 -- each result of `FullTyping` keeps the laws
 lawful : (m : Module) (x : Expression) (earlier : List TypeResolution) → CanResolve m x earlier → IsLawfulResult (global_lists m) (full_resolves m x earlier)
 unfolding full_resolves named_type
@@ -177,6 +199,9 @@ lawful m (form.ImageLoad image coordinate array_index sample level) earlier can 
     lawful_operand m _ earlier can image (sample_in None) (λ inner exist. of_sample_in (global_lists m) (types_ok m can.handles) None inner)
 lawful m (form.ImageQuery image query) earlier can =
     lawful_operand m _ earlier can image (query_of query) (λ inner exist. of_query (global_lists m) (types_ok m can.handles) query inner)
+lawful m (form.Binary op left right) earlier can = lawful_full_binary m (form.Binary op left right) earlier can op left right
+lawful m (form.As expr kind convert) earlier can =
+    lawful_operand m (form.As expr kind convert) earlier can expr (full_cast_of kind convert) (λ inner exist. of_full_cast (global_lists m) (types_ok m can.handles) kind convert inner)
 lawful m (form.CallResult f) earlier can = of_call m can.handles f
 lawful m (form.AtomicResult ty comparison) earlier can = lawful_named m (form.AtomicResult ty comparison) earlier can ty refl
 lawful m (form.WorkGroupUniformLoadResult ty) earlier can = lawful_named m (form.WorkGroupUniformLoadResult ty) earlier can ty refl

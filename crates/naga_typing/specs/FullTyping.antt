@@ -1,5 +1,7 @@
 -- The types that `FullTyping` resolves.
 use Rattle.std.specs.Prelude.{ℕ, List, Option, Some, None, Ok, Err, option_and_then, option_map, slice_get}
+use Rattle.naga_ir.specs.declared.expression.BinaryOperator.{BinaryOperator}
+use Rattle.naga_ir.specs.declared.expression.BinaryOperator.TheVariants.{Multiply}
 use Rattle.naga_ir.specs.declared.expression.Expression.{Expression}
 use Rattle.naga_ir.specs.declared.expression.Expression.TheVariants as form
 use Rattle.naga_ir.specs.declared.expression.ImageQuery.{ImageQuery as Query}
@@ -22,7 +24,7 @@ use Rattle.naga_ir.specs.declared.types.TypeInner.{TypeInner}
 use Rattle.naga_ir.specs.declared.types.TypeInner.TheVariants.{Scalar, Vector, Matrix, CooperativeMatrix, Atomic, Pointer, ValuePointer, Array, Struct, Image, Sampler, AccelerationStructure, RayQuery, BindingArray}
 use Rattle.naga_ir.specs.declared.types.VectorSize.TheVariants.{Bi, Tri, Quad}
 use Rattle.naga_typing.specs.Math.{f32_scalar, of_components, u32_scalar}
-use Rattle.naga_typing.specs.PlainTyping.{ResolveResult, bool_scalar, element_of, of_form, part_of, plain_resolves, same_type}
+use Rattle.naga_typing.specs.PlainTyping.{ResolveResult, binary_of, bool_scalar, cast_of, cast_scalar, element_of, of_form, part_of, plain_resolves, product_of, same_type}
 use Rattle.naga_typing.specs.Resolutions.{inner_in, operand}
 use Rattle.naga_typing.specs.declared.typifier.ResolveError.TheVariants.{IncompatibleOperands, NotResolvable}
 use Rattle.naga_typing.specs.declared.typifier.TypeResolution.{TypeResolution}
@@ -201,7 +203,27 @@ query_of NumLevels inner = Ok (Value (Scalar u32_scalar))
 query_of NumLayers inner = Ok (Value (Scalar u32_scalar))
 query_of NumSamples inner = Ok (Value (Scalar u32_scalar))
 
--- the type of an expression; if operands alone decide, the one that `PlainTyping` resolves
+-- the type of the product of `x` and `y`, whose types are `left` and `right`: the type of a cooperative matrix that a scalar is multiplied by, and else the one that `PlainTyping` resolves
+abbrev pub full_product_of : ResolveResult → ResolveResult → TypeInner → TypeInner → ResolveResult
+full_product_of left right (Scalar s) (CooperativeMatrix columns rows scalar role) = right
+full_product_of left right x y = product_of left right x y
+
+-- the type of the product of the operands `left` and `right`
+abbrev pub full_product : List «Type» → List TypeResolution → ℕ → ℕ → ResolveResult
+full_product types earlier left right =
+    of_form (operand types earlier left) (λ x. of_form (operand types earlier right) (λ y. full_product_of (same_type (slice_get earlier left)) (same_type (slice_get earlier right)) x y))
+
+-- the type of the result of the operator `op` on the operands `left` and `right`
+abbrev pub full_binary_of : List «Type» → List TypeResolution → BinaryOperator → ℕ → ℕ → ResolveResult
+full_binary_of types earlier Multiply left right = full_product types earlier left right
+full_binary_of types earlier op left right = binary_of types earlier op left right
+
+-- the type of `inner` converted to `kind`, and to the width `convert` if one is given: a matrix keeps its kind
+abbrev pub full_cast_of : ScalarKind → Option ℕ → TypeInner → ResolveResult
+full_cast_of kind convert (Matrix columns rows scalar) = Ok (Value (Matrix columns rows (cast_scalar scalar.kind convert scalar)))
+full_cast_of kind convert inner = cast_of kind convert inner
+
+-- the type of an expression; if operands alone decide, mostly the one that `PlainTyping` resolves
 unfoldable pub full_resolves : Module → Expression → List TypeResolution → ResolveResult
 full_resolves m (form.Literal value) earlier = plain_resolves m (form.Literal value) earlier
 full_resolves m (form.Constant c) earlier = plain_resolves m (form.Constant c) earlier
@@ -213,10 +235,10 @@ full_resolves m (form.Swizzle size vector pattern) earlier = plain_resolves m (f
 full_resolves m (form.Unary op expr) earlier = plain_resolves m (form.Unary op expr) earlier
 full_resolves m (form.Derivative expr) earlier = plain_resolves m (form.Derivative expr) earlier
 full_resolves m (form.Select condition accept reject) earlier = plain_resolves m (form.Select condition accept reject) earlier
-full_resolves m (form.Binary op left right) earlier = plain_resolves m (form.Binary op left right) earlier
+full_resolves m (form.Binary op left right) earlier = full_binary_of m.types earlier op left right
 full_resolves m (form.Relational fun argument) earlier = plain_resolves m (form.Relational fun argument) earlier
 full_resolves m (form.Math fun arg arg1 arg2 arg3) earlier = plain_resolves m (form.Math fun arg arg1 arg2 arg3) earlier
-full_resolves m (form.As expr kind convert) earlier = plain_resolves m (form.As expr kind convert) earlier
+full_resolves m (form.As expr kind convert) earlier = of_form (operand m.types earlier expr) (full_cast_of kind convert)
 full_resolves m (form.ArrayLength expr) earlier = plain_resolves m (form.ArrayLength expr) earlier
 full_resolves m (form.Access base index) earlier = of_form (operand m.types earlier base) (part_in m.types None)
 full_resolves m (form.AccessIndex base index) earlier = of_form (operand m.types earlier base) (part_in m.types (Some index))

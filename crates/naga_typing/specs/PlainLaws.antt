@@ -32,7 +32,7 @@ use Rattle.naga_ir.specs.declared.types.TypeInner.TheVariants.{Scalar, Vector, M
 use Rattle.naga_ir.specs.declared.types.VectorSize.{VectorSize}
 use Rattle.naga_ir.proofs.PartLemmas.{base_is, members_are}
 use Rattle.naga_typing.specs.Math.{argument_type, arguments, has_no_gap, math_type, result_type, scalar_type, signature, transposed}
-use Rattle.naga_typing.specs.PlainTyping.{ResolveResult, binary_of, cast_of, element_of, math_of, of_form, part_of, plain_resolves, product_of, relational_of, same_type, splat_of, swizzle_of, truths_of, type_of_constant, type_of_member, type_of_override, value_of}
+use Rattle.naga_typing.specs.PlainTyping.{ResolveResult, binary_of, cast_of, element_of, math_of, of_form, part_of, plain_resolves, product_of, relational_of, same_type, splat_of, swizzle_of, bools_of, type_of_constant, type_of_member, type_of_override, value_of}
 use Rattle.naga_typing.specs.Resolutions.{AllPartsExist, IsProperResolution, PartsExist, ResolutionExists, TypesExist, inner_in, operand}
 use Rattle.naga_typing.specs.Typings.{CanResolve, IsLawful, counts_in_sight}
 use Rattle.naga_typing.specs.declared.typifier.ResolveError.TheVariants.{IncompatibleOperands, NotResolvable, OutOfMemory}
@@ -59,7 +59,7 @@ module _ (g : GlobalLists) where
   unfolding parts size_override
   of_vector size scalar = (All-nil (ExistsGlobally g), tt)
 
-  of_matrix : (columns rows : VectorSize) (scalar : ScalarType) → IsLawfulResult g (Ok (Value (Matrix columns rows scalar)))
+  pub of_matrix : (columns rows : VectorSize) (scalar : ScalarType) → IsLawfulResult g (Ok (Value (Matrix columns rows scalar)))
   unfolding parts size_override
   of_matrix columns rows scalar = (All-nil (ExistsGlobally g), tt)
 
@@ -91,12 +91,12 @@ module _ (g : GlobalLists) where
   of_swizzle size (Vector of_size scalar) = of_vector size scalar
   of_swizzle size _ = tt
 
-  of_truths : (inner : TypeInner) → IsLawfulResult g (truths_of inner)
-  of_truths (Scalar scalar) = of_scalar _
-  of_truths (Vector size scalar) = of_vector size _
-  of_truths _ = tt
+  of_bools : (inner : TypeInner) → IsLawfulResult g (bools_of inner)
+  of_bools (Scalar scalar) = of_scalar _
+  of_bools (Vector size scalar) = of_vector size _
+  of_bools _ = tt
 
-  of_cast : (kind : ScalarKind) (convert : Option ℕ) (inner : TypeInner) → IsLawfulResult g (cast_of kind convert inner)
+  pub of_cast : (kind : ScalarKind) (convert : Option ℕ) (inner : TypeInner) → IsLawfulResult g (cast_of kind convert inner)
   of_cast kind convert (Scalar scalar) = of_scalar _
   of_cast kind convert (Vector size scalar) = of_vector size _
   of_cast kind convert (Matrix columns rows scalar) = of_matrix columns rows _
@@ -105,8 +105,8 @@ module _ (g : GlobalLists) where
   of_relational : (fun : RelationalFunction) (inner : TypeInner) → IsLawfulResult g (relational_of fun inner)
   of_relational OfAll inner = of_scalar _
   of_relational Any inner = of_scalar _
-  of_relational IsNan inner = of_truths inner
-  of_relational IsInf inner = of_truths inner
+  of_relational IsNan inner = of_bools inner
+  of_relational IsInf inner = of_bools inner
 
   of_value : (inner : Option TypeInner) → IfSome inner (IsLawfulForm g) → IsLawfulResult g (value_of inner)
   of_value None h = tt
@@ -152,7 +152,7 @@ module _ (g : GlobalLists) where
       let types = arguments first second third fourth in
       of_value (math_type fun first second third fourth) (of_choice (has_no_gap second third fourth) (result_type fun types) (of_result_type fun types))
 
-  of_product : (left right : ResolveResult) (x y : TypeInner) → IsLawfulResult g left → IsLawfulResult g right → IsLawfulResult g (product_of left right x y)
+  pub of_product : (left right : ResolveResult) (x y : TypeInner) → IsLawfulResult g left → IsLawfulResult g right → IsLawfulResult g (product_of left right x y)
   of_product left right (Scalar s) (Vector size scalar) l r = r
   of_product left right (Scalar s) (Matrix columns rows scalar) l r = r
   of_product left right (Matrix columns rows scalar) (Vector size s) l r = of_vector rows scalar
@@ -207,13 +207,13 @@ module _ (m : Module) (x : Expression) (earlier : List TypeResolution) (can : Ca
       by_operand None at = tt
       by_operand (Some r) at = (all_at (ResolutionExists g) earlier e r can.earlier_exist at, all_at IsProperResolution earlier e r can.earlier_proper at)
 
-  lawful_binary : (op : BinaryOperator) (left right : ℕ) → IsLawfulResult g (binary_of m.types earlier op left right)
-  lawful_binary Equal left right = lawful_operand left truths_of (λ inner exist. of_truths g inner)
-  lawful_binary NotEqual left right = lawful_operand left truths_of (λ inner exist. of_truths g inner)
-  lawful_binary Less left right = lawful_operand left truths_of (λ inner exist. of_truths g inner)
-  lawful_binary LessEqual left right = lawful_operand left truths_of (λ inner exist. of_truths g inner)
-  lawful_binary Greater left right = lawful_operand left truths_of (λ inner exist. of_truths g inner)
-  lawful_binary GreaterEqual left right = lawful_operand left truths_of (λ inner exist. of_truths g inner)
+  pub lawful_binary : (op : BinaryOperator) (left right : ℕ) → IsLawfulResult g (binary_of m.types earlier op left right)
+  lawful_binary Equal left right = lawful_operand left bools_of (λ inner exist. of_bools g inner)
+  lawful_binary NotEqual left right = lawful_operand left bools_of (λ inner exist. of_bools g inner)
+  lawful_binary Less left right = lawful_operand left bools_of (λ inner exist. of_bools g inner)
+  lawful_binary LessEqual left right = lawful_operand left bools_of (λ inner exist. of_bools g inner)
+  lawful_binary Greater left right = lawful_operand left bools_of (λ inner exist. of_bools g inner)
+  lawful_binary GreaterEqual left right = lawful_operand left bools_of (λ inner exist. of_bools g inner)
   lawful_binary Multiply left right =
       lawful_operand left _
       (λ x x_exist. lawful_operand right _ (λ y y_exist. of_product g (same_type (slice_get earlier left)) (same_type (slice_get earlier right)) x y (lawful_same left) (lawful_same right)))

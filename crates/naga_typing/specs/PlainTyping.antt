@@ -127,22 +127,22 @@ swizzle_of size (AccelerationStructure vertex_return) = Err IncompatibleOperands
 swizzle_of size (RayQuery vertex_return) = Err IncompatibleOperands
 swizzle_of size (BindingArray base of_size) = Err IncompatibleOperands
 
--- bools in the shape of a scalar or a vector
-abbrev pub truths_of : TypeInner → ResolveResult
-truths_of (Scalar scalar) = Ok (Value (Scalar bool_scalar))
-truths_of (Vector size scalar) = Ok (Value (Vector size bool_scalar))
-truths_of (Matrix columns rows scalar) = Err IncompatibleOperands
-truths_of (CooperativeMatrix columns rows scalar role) = Err IncompatibleOperands
-truths_of (Atomic scalar) = Err IncompatibleOperands
-truths_of (Pointer base space) = Err IncompatibleOperands
-truths_of (ValuePointer size scalar space) = Err IncompatibleOperands
-truths_of (Array base size stride) = Err IncompatibleOperands
-truths_of (Struct members span) = Err IncompatibleOperands
-truths_of (Image dim arrayed class) = Err IncompatibleOperands
-truths_of (Sampler comparison) = Err IncompatibleOperands
-truths_of (AccelerationStructure vertex_return) = Err IncompatibleOperands
-truths_of (RayQuery vertex_return) = Err IncompatibleOperands
-truths_of (BindingArray base size) = Err IncompatibleOperands
+-- bools in the shape of `inner`, a scalar or a vector
+abbrev pub bools_of : TypeInner → ResolveResult
+bools_of (Scalar scalar) = Ok (Value (Scalar bool_scalar))
+bools_of (Vector size scalar) = Ok (Value (Vector size bool_scalar))
+bools_of (Matrix columns rows scalar) = Err IncompatibleOperands
+bools_of (CooperativeMatrix columns rows scalar role) = Err IncompatibleOperands
+bools_of (Atomic scalar) = Err IncompatibleOperands
+bools_of (Pointer base space) = Err IncompatibleOperands
+bools_of (ValuePointer size scalar space) = Err IncompatibleOperands
+bools_of (Array base size stride) = Err IncompatibleOperands
+bools_of (Struct members span) = Err IncompatibleOperands
+bools_of (Image dim arrayed class) = Err IncompatibleOperands
+bools_of (Sampler comparison) = Err IncompatibleOperands
+bools_of (AccelerationStructure vertex_return) = Err IncompatibleOperands
+bools_of (RayQuery vertex_return) = Err IncompatibleOperands
+bools_of (BindingArray base size) = Err IncompatibleOperands
 
 -- a scalar converted to a kind, and to a width if one is given
 abbrev pub cast_scalar : ScalarKind → Option ℕ → ScalarType → ScalarType
@@ -181,12 +181,12 @@ product types earlier left right =
 
 -- the type of the result of an operator on two operands
 abbrev pub binary_of : List «Type» → List TypeResolution → BinaryOperator → ℕ → ℕ → ResolveResult
-binary_of types earlier Equal left right = of_form (operand types earlier left) truths_of
-binary_of types earlier NotEqual left right = of_form (operand types earlier left) truths_of
-binary_of types earlier Less left right = of_form (operand types earlier left) truths_of
-binary_of types earlier LessEqual left right = of_form (operand types earlier left) truths_of
-binary_of types earlier Greater left right = of_form (operand types earlier left) truths_of
-binary_of types earlier GreaterEqual left right = of_form (operand types earlier left) truths_of
+binary_of types earlier Equal left right = of_form (operand types earlier left) bools_of
+binary_of types earlier NotEqual left right = of_form (operand types earlier left) bools_of
+binary_of types earlier Less left right = of_form (operand types earlier left) bools_of
+binary_of types earlier LessEqual left right = of_form (operand types earlier left) bools_of
+binary_of types earlier Greater left right = of_form (operand types earlier left) bools_of
+binary_of types earlier GreaterEqual left right = of_form (operand types earlier left) bools_of
 binary_of types earlier Multiply left right = product types earlier left right
 binary_of types earlier Add left right = same_type (slice_get earlier left)
 binary_of types earlier Subtract left right = same_type (slice_get earlier left)
@@ -204,8 +204,8 @@ binary_of types earlier ShiftRight left right = same_type (slice_get earlier lef
 abbrev pub relational_of : RelationalFunction → TypeInner → ResolveResult
 relational_of All inner = Ok (Value (Scalar bool_scalar))
 relational_of Any inner = Ok (Value (Scalar bool_scalar))
-relational_of IsNan inner = truths_of inner
-relational_of IsInf inner = truths_of inner
+relational_of IsNan inner = bools_of inner
+relational_of IsInf inner = bools_of inner
 
 -- a type as a result, if there is one
 abbrev pub value_of : Option TypeInner → ResolveResult

@@ -54,7 +54,7 @@ pub enum ConstValueError {
     #[error("The constant is negative")]
     Negative,
     /// Its type is none of `u16`, `u32`, `i16` and `i32`.
-    #[error("The constant is not a whole number of 16 or 32 bits")]
+    #[error("The constant is not an integer of 16 or 32 bits")]
     InvalidType,
 }
 

@@ -1,19 +1,22 @@
 //! A typing that supports nearly all variants of expressions.
 
-ghost use Rattle.std.specs.Prelude.{◌≡◌, ◌<◌, Ok, length};
+ghost use Rattle.std.specs.Prelude.{◌≡◌, ◌<◌, All, Ok, length};
+ghost use Rattle.naga_ir.specs.ItemReferences.{global_lists};
 ghost use Rattle.naga_ir.specs.declared.expression.Expression.TheVariants as form;
 ghost use Rattle.naga_typing.specs.FullTyping as spec;
-ghost use Rattle.naga_typing.specs.Resolutions.{PartsExist};
+ghost use Rattle.naga_typing.specs.Resolutions.{IsProperResolution, PartsExist, ResolutionExists};
 ghost use Rattle.naga_typing.specs.Typings.{CanResolve};
 
 use crate::math::{accepts, argument_count};
-use crate::plain_typing::{self, element_of, operand, part_of, same_type, scalar, vector};
+use crate::plain_typing::{
+    self, binary_of, cast_of, element_of, operand, part_of, product, same_type, scalar, vector,
+};
 use crate::typifier::{ResolveError, TypeResolution};
 use crate::typing::Typing;
-use naga_ir::expression::{Expression, ImageQuery, MathFunction, SwizzleComponent};
+use naga_ir::expression::{BinaryOperator, Expression, ImageQuery, MathFunction, SwizzleComponent};
 use naga_ir::handle::Handle;
 use naga_ir::ir::{Function, Module};
-use naga_ir::tags::TypeTag;
+use naga_ir::tags::{ExpressionTag, TypeTag};
 use naga_ir::types::{
     AddressSpace, ImageClass, ImageDimension, Scalar, ScalarKind, TypeInner, VectorSize,
 };
@@ -22,7 +25,9 @@ use std::alloc::Global;
 
 /// A typing that supports all variants whose types follow from a module and from their operands.
 ///
-/// Where operands alone decide, it resolves what `PlainTyping` does. Beside that it supports
+/// Where operands alone decide, it resolves what `PlainTyping` does, except that a scalar times a
+/// cooperative matrix has the type of the matrix, and that a matrix which is converted keeps its kind and
+/// changes only its width. It also supports
 ///
 /// - variables of the module, which are pointers to their types, or of those types themselves in the
 ///   address space `Handle`;
@@ -325,6 +330,64 @@ fn query_of(query: ImageQuery, image: &TypeInner) -> Result<TypeResolution, Reso
     }
 }
 
+/// The type of the product of two operands. A cooperative matrix that a scalar is multiplied by keeps its
+/// type.
+fn full_product(
+    module: &Module,
+    earlier: &[TypeResolution],
+    left: Handle<ExpressionTag>,
+    right: Handle<ExpressionTag>,
+) -> Result<TypeResolution, ResolveError>
+    requires left_earlier { left < length earlier.now }
+    requires right_earlier { right < length earlier.now }
+    requires exist { All (ResolutionExists (global_lists «module».now)) earlier.now }
+    requires proper { All IsProperResolution earlier.now }
+    ensures { result ≡ spec.full_product «module».now.types earlier.now left right }
+{
+    match (
+        operand(module, earlier, left),
+        operand(module, earlier, right),
+    ) {
+        (TypeInner::Scalar(_), TypeInner::CooperativeMatrix { .. }) => same_type(earlier, right),
+        _ => product(module, earlier, left, right),
+    }
+}
+
+/// The type of the result of an operator on two operands.
+fn full_binary_of(
+    module: &Module,
+    earlier: &[TypeResolution],
+    op: BinaryOperator,
+    left: Handle<ExpressionTag>,
+    right: Handle<ExpressionTag>,
+) -> Result<TypeResolution, ResolveError>
+    requires left_earlier { left < length earlier.now }
+    requires right_earlier { right < length earlier.now }
+    requires exist { All (ResolutionExists (global_lists «module».now)) earlier.now }
+    requires proper { All IsProperResolution earlier.now }
+    ensures { result ≡ spec.full_binary_of «module».now.types earlier.now op left right }
+{
+    match op {
+        BinaryOperator::Multiply => full_product(module, earlier, left, right),
+        _ => binary_of(module, earlier, op, left, right),
+    }
+}
+
+/// The type of a scalar, vector or matrix converted to another kind, and to another width, in bytes, if
+/// one is given. A matrix keeps its kind.
+fn full_cast_of(
+    kind: ScalarKind,
+    convert: Option<u8>,
+    inner: &TypeInner,
+) -> Result<TypeResolution, ResolveError>
+    ensures { result ≡ spec.full_cast_of kind convert inner.now }
+{
+    match *inner {
+        TypeInner::Matrix { scalar, .. } => cast_of(scalar.kind, convert, inner),
+        _ => cast_of(kind, convert, inner),
+    }
+}
+
 impl Typing for FullTyping {
     ghost use Rattle.naga_typing.specs.FullLaws.{full_lawful};
     ghost use Rattle.naga_typing.specs.FullTyping.{full_resolves};
@@ -382,10 +445,8 @@ fn resolve_full(
         | Expression::Unary { .. }
         | Expression::Derivative { .. }
         | Expression::Select { .. }
-        | Expression::Binary { .. }
         | Expression::Relational { .. }
         | Expression::Math { .. }
-        | Expression::As { .. }
         | Expression::ArrayLength(_) => plain_typing::resolve(module, expression, earlier),
         Expression::Access { base, .. } => part_in(types, None, operand(module, earlier, base)),
         Expression::AccessIndex { base, index } => {
@@ -402,6 +463,12 @@ fn resolve_full(
         ),
         Expression::ImageLoad { image, .. } => sample_in(None, operand(module, earlier, image)),
         Expression::ImageQuery { image, query } => query_of(query, operand(module, earlier, image)),
+        Expression::Binary { op, left, right } => full_binary_of(module, earlier, op, left, right),
+        Expression::As {
+            expr,
+            kind,
+            convert,
+        } => full_cast_of(kind, convert, operand(module, earlier, expr)),
         Expression::CallResult(function) => declared(result_of(&module.functions[function])),
         Expression::AtomicResult { ty, .. }
         | Expression::WorkGroupUniformLoadResult { ty }

@@ -126,8 +126,8 @@ fn swizzle_of(size: VectorSize, inner: &TypeInner) -> Result<TypeResolution, Res
 }
 
 /// The type of as many bools as a scalar or a vector has components.
-fn truths_of(inner: &TypeInner) -> Result<TypeResolution, ResolveError>
-    ensures { result ≡ spec.truths_of inner.now }
+fn bools_of(inner: &TypeInner) -> Result<TypeResolution, ResolveError>
+    ensures { result ≡ spec.bools_of inner.now }
 {
     match *inner {
         TypeInner::Scalar(_) => scalar(Scalar::BOOL),
@@ -149,7 +149,7 @@ fn truths_of(inner: &TypeInner) -> Result<TypeResolution, ResolveError>
 
 /// The type of a scalar, vector or matrix converted to another kind, and to another width, in bytes, if
 /// one is given.
-fn cast_of(
+pub(crate) fn cast_of(
     kind: ScalarKind,
     convert: Option<u8>,
     inner: &TypeInner,
@@ -192,7 +192,7 @@ fn relational_of(fun: RelationalFunction, inner: &TypeInner) -> Result<TypeResol
 {
     match fun {
         RelationalFunction::All | RelationalFunction::Any => scalar(Scalar::BOOL),
-        RelationalFunction::IsNan | RelationalFunction::IsInf => truths_of(inner),
+        RelationalFunction::IsNan | RelationalFunction::IsInf => bools_of(inner),
     }
 }
 
@@ -222,7 +222,7 @@ pub(crate) fn same_type(
 }
 
 /// The type of the product of two operands.
-fn product(
+pub(crate) fn product(
     module: &Module,
     earlier: &[TypeResolution],
     left: Handle<ExpressionTag>,
@@ -265,7 +265,7 @@ fn product(
 }
 
 /// The type of the result of an operator on two operands.
-fn binary_of(
+pub(crate) fn binary_of(
     module: &Module,
     earlier: &[TypeResolution],
     op: BinaryOperator,
@@ -284,7 +284,7 @@ fn binary_of(
         | BinaryOperator::Less
         | BinaryOperator::LessEqual
         | BinaryOperator::Greater
-        | BinaryOperator::GreaterEqual => truths_of(operand(module, earlier, left)),
+        | BinaryOperator::GreaterEqual => bools_of(operand(module, earlier, left)),
         BinaryOperator::Multiply => product(module, earlier, left, right),
         BinaryOperator::Add
         | BinaryOperator::Subtract

@@ -127,7 +127,7 @@ pub fn compare_types(lhs: &TypeResolution, rhs: &TypeResolution, types: &UniqueA
     compare_types_inner(lhs, rhs, types)
 }
 
-/// `compare_types` by the relation, from which its bool is proved.
+/// `compare_types` by the relation, from which the bool that it returns is proved.
 fn compare_types_inner(lhs: &TypeResolution, rhs: &TypeResolution, types: &UniqueArena) -> bool
     requires lhs_exists { TypesExist types.now lhs.now }
     requires rhs_exists { TypesExist types.now rhs.now }

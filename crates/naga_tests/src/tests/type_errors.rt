@@ -244,7 +244,7 @@ Array length is not a positive constant
 
 const INDICES: &str = "The expression is not a constant
 The constant is negative
-The constant is not a whole number of 16 or 32 bits
+The constant is not an integer of 16 or 32 bits
 ";
 
 #[test]

@@ -1,5 +1,5 @@
 use Rattle.naga_typing.proofs.CanResolve.{function_exists, global_variable_exists, operand_parts_exist, operands_earlier}
-use Rattle.naga_typing.proofs.FormOperands.{image_of_load, image_of_query, image_of_sample, of_access, of_access_index, of_load, summand_of_product}
+use Rattle.naga_typing.proofs.FormOperands.{image_of_load, image_of_query, image_of_sample, left_of_binary, of_access, of_access_index, of_as, of_load, right_of_binary, summand_of_product}
 use Rattle.naga_typing.proofs.full_typing.resolve_full.Goals as goal
 
 pub operand-requires-clause-earlier : goal.operand-requires-clause-earlier
@@ -31,6 +31,15 @@ operand-requires-in-ImageLoad-clause-earlier c = operands_earlier _ _ _ c.requir
 
 pub operand-requires-in-ImageQuery-clause-earlier : goal.operand-requires-in-ImageQuery-clause-earlier
 operand-requires-in-ImageQuery-clause-earlier c = operands_earlier _ _ _ c.requires _ (image_of_query _ _ _ c.in-ImageQuery.is)
+
+pub full_binary_of-requires-clause-left_earlier : goal.full_binary_of-requires-clause-left_earlier
+full_binary_of-requires-clause-left_earlier c = operands_earlier _ _ _ c.requires _ (left_of_binary _ _ _ _ c.in-Binary.is)
+
+pub full_binary_of-requires-clause-right_earlier : goal.full_binary_of-requires-clause-right_earlier
+full_binary_of-requires-clause-right_earlier c = operands_earlier _ _ _ c.requires _ (right_of_binary _ _ _ _ c.in-Binary.is)
+
+pub operand-requires-in-As-clause-earlier : goal.operand-requires-in-As-clause-earlier
+operand-requires-in-As-clause-earlier c = operands_earlier _ _ _ c.requires _ (of_as _ _ _ _ c.in-As.is)
 
 pub index-requires : goal.index-requires
 index-requires c = function_exists _ _ _ c.requires _ c.in-CallResult.is
