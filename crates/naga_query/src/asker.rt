@@ -9,7 +9,7 @@ use crate::answers::modules::{
     add_error, add_fault, add_handles, add_not_applicable, add_order, check_handles,
 };
 use crate::answers::overloads::add_overloads;
-use crate::answers::shaders::add_callable;
+use crate::answers::shaders::{add_callable, add_callables};
 use crate::answers::slots::{add_of_type, add_range, add_size, add_through};
 use crate::answers::texts::{add_read, add_run, add_unreadable, bytes_of};
 use crate::answers::types::{
@@ -306,6 +306,7 @@ fn add_on_case(
         Query::Function(asked) => {
             add_on_function(&mut sessions.full, answer, asked, &words, draft)
         }
+        Query::Callables => add_callables(&mut sessions.full, answer, draft),
         Query::Change(asked) => add_on_change(sessions, answer, asked, resolved.as_str(), case),
     }
 }

@@ -72,6 +72,7 @@ pub enum Query {
     Handle(HandleQuery),
     Accepted(AcceptedQuery),
     Function(FunctionQuery),
+    Callables,
     Change(ChangeQuery),
 }
 
@@ -109,6 +110,7 @@ pub fn query_of(word: &[u8]) -> Option<Query> {
         ),
         ("function", Query::Function(FunctionQuery::Function)),
         ("entry", Query::Function(FunctionQuery::EntryPoint)),
+        ("callables", Query::Callables),
         ("functions", Query::Change(ChangeQuery::Functions)),
         ("form", Query::Change(ChangeQuery::Form)),
         ("typing", Query::Change(ChangeQuery::Typing)),
@@ -125,6 +127,7 @@ pub fn needs_module(query: Query) -> bool {
         | Query::Handle(_)
         | Query::Accepted(_)
         | Query::Function(_)
+        | Query::Callables
         | Query::Change(_) => true,
     }
 }

@@ -6,8 +6,8 @@ ghost use Rattle.naga_query.specs.Accepted.{IsAcceptedBy, IsAcceptedModule};
 use naga_module_text::draft::Draft;
 use naga_module_text::settings::Settings;
 use naga_valid::{
-    Capabilities, FullTyping, Module, ModuleInfo, PlainTyping, Typing, ValidationError,
-    ValidationFlags, Validator, WithSpan, laws,
+    Capabilities, FullTyping, FunctionsError, Module, ModuleInfo, PlainTyping, Typing,
+    ValidationError, ValidationFlags, Validator, WithSpan, laws,
 };
 use std::alloc::Global;
 
@@ -83,6 +83,20 @@ impl<T: Typing + Copy> Session<T> {
         let info = validate_module(&mut self.validator, &draft.module, resolved)?;
         laws::functions(&draft.module, &self.validator, resolved, &info);
         Ok(info)
+    }
+
+    /// Validates the module of a case with all its functions and entry points, under its settings.
+    pub fn validate_functions(
+        &mut self,
+        draft: &Draft,
+    ) -> Result<Result<(), FunctionsError>, WithSpan<ValidationError>> {
+        self.set(draft.settings);
+        let resolved = draft.settings.resolved();
+        let mut info = validate_module(&mut self.validator, &draft.module, resolved)?;
+        Ok(
+            self.validator
+                .validate_functions(&draft.module, &mut info, resolved),
+        )
     }
 }
 

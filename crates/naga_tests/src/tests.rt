@@ -15,6 +15,7 @@ mod handle_errors;
 mod large;
 mod laws;
 mod layouts;
+mod library;
 mod module_infos;
 mod packing;
 mod refused_memory;

@@ -1,3 +1,4 @@
+mod AllFunctions
 mod FirstErrors
 mod FunctionLaws
 mod FunctionRules

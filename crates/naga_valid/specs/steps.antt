@@ -1,4 +1,5 @@
 -- What only private functions promise one another.
+pub mod AllFunctions
 pub mod Functions
 pub mod Ids
 pub mod KnownValues

@@ -1,9 +1,14 @@
 //! The expressions of a function: their types and their rules (naga's valid/function.rs).
 
-ghost use Rattle.std.specs.Prelude.{◌≡◌, ◌≤◌, length};
+ghost use Rattle.std.specs.Prelude.{◌≡◌, ◌≤◌, [], IfErr, OnErr, OnOk, Some, length};
 ghost use Rattle.naga_arena.specs.Memory.{UnlessOutOfMemory};
 ghost use Rattle.naga_ir.specs.Handles.{FunctionReferencesOk, HandlesAccepted};
+ghost use Rattle.naga_valid.specs.Accepted.{Accepts};
+ghost use Rattle.naga_valid.specs.AllFunctions.{AddsInfos, AreInfosInOrder, HaveInfos, IsNext, IsNextRefused, IsThere, ValidatesFunctions, function_of};
+ghost use Rattle.naga_valid.specs.ErrorNames.{function_error_name};
 ghost use Rattle.naga_valid.specs.Functions.{CallsBefore, IsFunctionAccepted, RefusesFunction, function_surroundings};
+ghost use Rattle.naga_valid.specs.State.{settings_of};
+ghost use Rattle.naga_valid.specs.steps.AllFunctions.{HaveFunctionInfos, IsInfoAdded, with_info};
 ghost use Rattle.naga_valid.specs.steps.Functions.{AllowInCommon, CanCheckRules, IsFirstBreachAs};
 
 use crate::driver::Validator;
@@ -15,7 +20,7 @@ use naga_info::module_info::{FunctionInfo, ModuleInfo};
 use naga_ir::handle::Handle;
 use naga_ir::ir::{Function, Module};
 use naga_ir::memory::OutOfMemory;
-use naga_ir::tags::ExpressionTag;
+use naga_ir::tags::{ExpressionTag, FunctionTag};
 use naga_typing::expression_kind::ExpressionKindTracker;
 use naga_typing::typifier::ResolveError;
 use naga_typing::typing::Typing;
@@ -35,6 +40,18 @@ pub enum FunctionError {
     OutOfMemory,
 }
 
+impl FunctionError {
+    /// The name of the variant.
+    pub fn name(&self) -> &'static str
+        ensures { result.now ≡ function_error_name self.now }
+    {
+        match self {
+            FunctionError::Expression { .. } => "Expression",
+            FunctionError::OutOfMemory => "OutOfMemory",
+        }
+    }
+}
+
 impl From<OutOfMemory> for FunctionError {
     ghost use Rattle.std.specs.Prelude.{◌≡◌};
     ghost use Rattle.naga_valid.specs.declared.function.FunctionError.TheVariants as variant;
@@ -43,6 +60,47 @@ impl From<OutOfMemory> for FunctionError {
 
     fn from(_: OutOfMemory) -> FunctionError {
         FunctionError::OutOfMemory
+    }
+}
+
+/// A function of a module, or one of its entry points.
+#[derive(Clone, Copy, Debug, PartialEq, Eq)]
+pub enum Callable {
+    Function(Handle<FunctionTag>),
+    /// The entry point of this index.
+    EntryPoint(usize),
+}
+
+impl Callable {
+    /// The function, or the function of the entry point.
+    pub fn function(self, module: &Module) -> &Function
+        requires { IsThere «module».now self }
+        ensures { function_of «module».now self ≡ Some result.now }
+    {
+        match self {
+            Callable::Function(handle) => &module.functions[handle],
+            Callable::EntryPoint(index) => &module.entry_points.as_slice()[index].function,
+        }
+    }
+}
+
+/// The first function or entry point of a module that is refused, and why.
+#[derive(Debug, PartialEq, Drop, Error)]
+#[error("{at:?}: {source}")]
+pub struct FunctionsError {
+    pub at: Callable,
+    /// `OutOfMemory` if memory was refused, and nothing was decided about this function or entry point.
+    pub source: FunctionError,
+}
+
+/// Adds what is known of a function or entry point.
+fn add_info(mod_info: &mut ModuleInfo, at: Callable, info: FunctionInfo) -> Result<(), OutOfMemory>
+    ensures added { OnOk result (mod_info.new.lists ≡ with_info mod_info.old.lists at info) }
+    ensures refused { OnErr result (mod_info.new.lists ≡ mod_info.old.lists) }
+{
+    match at {
+        Callable::Function(_) => mod_info.push_function(info),
+        Callable::EntryPoint(_) => mod_info.push_entry_point(info),
     }
 }
 
@@ -64,7 +122,7 @@ impl<T: Typing> Validator<T> {
     ///
     /// - `Expression` for the first expression that breaks its rule, with the error of its rule, or that
     ///   keeps it and has no type, with `ExpressionError::Type_`. Such a function isn't accepted with any
-    ///   types.
+    ///   types. The error has none either: `infer_types` returns the types before the first missing one.
     /// - `OutOfMemory` if memory was refused.
     pub fn validate_function_expressions(
         &self,
@@ -178,5 +236,111 @@ impl<T: Typing> Validator<T> {
             }
         }
         Ok(stages)
+    }
+
+    /// Validates the expressions of all functions of an accepted module, and then those of all entry points,
+    /// each as `validate_function_expressions` does, and adds what is known of each to `mod_info`. `mod_info`
+    /// is what `validate` or `validate_resolved_overrides` returned for this module, with the same
+    /// `overrides_resolved`, and the validator has validated no other module since.
+    ///
+    /// # Errors
+    ///
+    /// The first function that is refused, or else the first entry point. `mod_info` then has the infos of all
+    /// before it. The same holds if memory was refused.
+    pub fn validate_functions(
+        &self,
+        module: &Module,
+        mod_info: &mut ModuleInfo,
+        overrides_resolved: bool,
+    ) -> Result<(), FunctionsError>
+        requires { Accepts (T.resolves self.now.typing) «module».now (settings_of self.now overrides_resolved) self.now.infos mod_info.old.lists }
+        ensures { ValidatesFunctions (function_surroundings (T.resolves self.now.typing) (record { accepts = T.accepts_types self.now.typing; least_arguments = T.least_arguments self.now.typing }) self.now overrides_resolved «module».now) «module».now mod_info.old.lists mod_info.new.lists result }
+    {
+        self.validate_each_function(module, mod_info, overrides_resolved)?;
+        self.validate_each_entry_point(module, mod_info, overrides_resolved)
+    }
+
+    /// Validates the functions in order, and adds what is known of each.
+    ///
+    /// # Errors
+    ///
+    /// The first function that is refused.
+    fn validate_each_function(
+        &self,
+        module: &Module,
+        mod_info: &mut ModuleInfo,
+        overrides_resolved: bool,
+    ) -> Result<(), FunctionsError>
+        requires handles { HandlesAccepted «module».now }
+        requires flags { length «module».now.types ≤ length mod_info.old.lists.type_flags }
+        requires functions { mod_info.old.lists.functions ≡ [] }
+        requires entry_points { mod_info.old.lists.entry_points ≡ [] }
+        ensures { AddsInfos (function_surroundings (T.resolves self.now.typing) (record { accepts = T.accepts_types self.now.typing; least_arguments = T.least_arguments self.now.typing }) self.now overrides_resolved «module».now) «module».now (HaveFunctionInfos «module».now) mod_info.old.lists mod_info.new.lists result }
+    {
+        for index in 0..module.functions.len() {
+            let at = Callable::Function(Handle::new(index as u32));
+            self.validate_next(module, mod_info, at, overrides_resolved)?;
+        }
+        Ok(())
+    }
+
+    /// Validates the entry points in order, and adds what is known of each.
+    ///
+    /// # Errors
+    ///
+    /// The first entry point that is refused.
+    fn validate_each_entry_point(
+        &self,
+        module: &Module,
+        mod_info: &mut ModuleInfo,
+        overrides_resolved: bool,
+    ) -> Result<(), FunctionsError>
+        requires handles { HandlesAccepted «module».now }
+        requires flags { length «module».now.types ≤ length mod_info.old.lists.type_flags }
+        requires functions { HaveFunctionInfos «module».now mod_info.old.lists }
+        requires in_order { AreInfosInOrder (function_surroundings (T.resolves self.now.typing) (record { accepts = T.accepts_types self.now.typing; least_arguments = T.least_arguments self.now.typing }) self.now overrides_resolved «module».now) «module».now mod_info.old.lists }
+        ensures { ValidatesFunctions (function_surroundings (T.resolves self.now.typing) (record { accepts = T.accepts_types self.now.typing; least_arguments = T.least_arguments self.now.typing }) self.now overrides_resolved «module».now) «module».now mod_info.old.lists mod_info.new.lists result }
+    {
+        for index in 0..module.entry_points.as_slice().len() {
+            self.validate_next(
+                module,
+                mod_info,
+                Callable::EntryPoint(index),
+                overrides_resolved,
+            )?;
+        }
+        Ok(())
+    }
+
+    /// Validates the first function or entry point without an info, and adds what is known of it.
+    ///
+    /// # Errors
+    ///
+    /// That it is refused, or that memory was.
+    fn validate_next(
+        &self,
+        module: &Module,
+        mod_info: &mut ModuleInfo,
+        at: Callable,
+        overrides_resolved: bool,
+    ) -> Result<(), FunctionsError>
+        requires handles { HandlesAccepted «module».now }
+        requires flags { length «module».now.types ≤ length mod_info.old.lists.type_flags }
+        requires next { IsNext «module».now mod_info.old.lists at }
+        ensures added { OnOk result (IsInfoAdded (function_surroundings (T.resolves self.now.typing) (record { accepts = T.accepts_types self.now.typing; least_arguments = T.least_arguments self.now.typing }) self.now overrides_resolved «module».now) «module».now at mod_info.old.lists mod_info.new.lists) }
+        ensures same { OnErr result (mod_info.new.lists ≡ mod_info.old.lists) }
+        ensures refused { IfErr result (IsNextRefused (function_surroundings (T.resolves self.now.typing) (record { accepts = T.accepts_types self.now.typing; least_arguments = T.least_arguments self.now.typing }) self.now overrides_resolved «module».now) «module».now mod_info.old.lists) }
+    {
+        let function = at.function(module);
+        match self.validate_function_expressions(module, mod_info, function, overrides_resolved) {
+            Ok(info) => match add_info(mod_info, at, info) {
+                Ok(()) => Ok(()),
+                Err(OutOfMemory) => Err(FunctionsError {
+                    at,
+                    source: FunctionError::OutOfMemory,
+                }),
+            },
+            Err(source) => Err(FunctionsError { at, source }),
+        }
     }
 }

@@ -12,11 +12,14 @@ pub mod laws;
 mod override_ids;
 mod values;
 
+pub use bitflags::Flags;
 pub use driver::Validator;
 pub use error::ConstantError;
 pub use error::OverrideError;
 pub use error::ValidationError;
+pub use function::Callable;
 pub use function::FunctionError;
+pub use function::FunctionsError;
 pub use naga_exprs::const_expression::validate_const_expression;
 pub use naga_exprs::const_expression::validate_literal;
 pub use naga_exprs::expression::validate_expression;

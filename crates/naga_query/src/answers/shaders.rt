@@ -12,7 +12,8 @@ use bitflags::Flags;
 use naga_module_text::declarations::Callable;
 use naga_module_text::draft::Draft;
 use naga_valid::{
-    FullTyping, FunctionError, FunctionInfo, ModuleInfo, OutOfMemory, TypeResolution,
+    Callable as ModuleCallable, FullTyping, FunctionError, FunctionInfo, FunctionsError,
+    ModuleInfo, OutOfMemory, TypeResolution,
 };
 use std::alloc::AllocError;
 
@@ -138,6 +139,29 @@ pub fn add_callable(
 ) -> Result<(), OutOfMemory> {
     match session.validate(draft) {
         Ok(mut info) => add_after_others(session, answer, draft, &mut info, callable),
+        Err(error) => add_error(answer, &error),
+    }
+}
+
+/// Adds which function or entry point is refused first, and why.
+fn add_first_refusal(answer: &mut String, error: &FunctionsError) -> Result<(), OutOfMemory> {
+    let callable = match error.at {
+        ModuleCallable::Function(handle) => Callable::Function(handle.index()),
+        ModuleCallable::EntryPoint(index) => Callable::EntryPoint(index),
+    };
+    add_refusal(answer, callable, &error.source)
+}
+
+/// `callables`: adds `ok` if all functions and entry points are accepted, or what is refused: the module, or
+/// the first expression of the first of them.
+pub fn add_callables(
+    session: &mut Session<FullTyping>,
+    answer: &mut String,
+    draft: &Draft,
+) -> Result<(), OutOfMemory> {
+    match session.validate_functions(draft) {
+        Ok(Ok(())) => Ok(answer.push_str("ok\n")?),
+        Ok(Err(error)) => add_first_refusal(answer, &error),
         Err(error) => add_error(answer, &error),
     }
 }
