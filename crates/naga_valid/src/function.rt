@@ -253,8 +253,13 @@ impl<T: Typing> Validator<T> {
         mod_info: &mut ModuleInfo,
         overrides_resolved: bool,
     ) -> Result<(), FunctionsError>
-        requires { Accepts (T.resolves self.now.typing) «module».now (settings_of self.now overrides_resolved) self.now.infos mod_info.old.lists }
-        ensures { ValidatesFunctions (function_surroundings (T.resolves self.now.typing) (record { accepts = T.accepts_types self.now.typing; least_arguments = T.least_arguments self.now.typing }) self.now overrides_resolved «module».now) «module».now mod_info.old.lists mod_info.new.lists result }
+        requires { Accepts (T.resolves self.now.typing) «module».now (settings_of self.now overrides_resolved)
+            self.now.infos mod_info.old.lists }
+        ensures { ValidatesFunctions
+            (function_surroundings (T.resolves self.now.typing)
+            (record { accepts = T.accepts_types self.now.typing; least_arguments = T.least_arguments self.now.typing })
+            self.now overrides_resolved «module».now)
+            «module».now mod_info.old.lists mod_info.new.lists result }
     {
         self.validate_each_function(module, mod_info, overrides_resolved)?;
         self.validate_each_entry_point(module, mod_info, overrides_resolved)
@@ -275,7 +280,11 @@ impl<T: Typing> Validator<T> {
         requires flags { length «module».now.types ≤ length mod_info.old.lists.type_flags }
         requires functions { mod_info.old.lists.functions ≡ [] }
         requires entry_points { mod_info.old.lists.entry_points ≡ [] }
-        ensures { AddsInfos (function_surroundings (T.resolves self.now.typing) (record { accepts = T.accepts_types self.now.typing; least_arguments = T.least_arguments self.now.typing }) self.now overrides_resolved «module».now) «module».now (HaveFunctionInfos «module».now) mod_info.old.lists mod_info.new.lists result }
+        ensures { AddsInfos
+            (function_surroundings (T.resolves self.now.typing)
+            (record { accepts = T.accepts_types self.now.typing; least_arguments = T.least_arguments self.now.typing })
+            self.now overrides_resolved «module».now)
+            «module».now (HaveFunctionInfos «module».now) mod_info.old.lists mod_info.new.lists result }
     {
         for index in 0..module.functions.len() {
             let at = Callable::Function(Handle::new(index as u32));
@@ -298,8 +307,16 @@ impl<T: Typing> Validator<T> {
         requires handles { HandlesAccepted «module».now }
         requires flags { length «module».now.types ≤ length mod_info.old.lists.type_flags }
         requires functions { HaveFunctionInfos «module».now mod_info.old.lists }
-        requires in_order { AreInfosInOrder (function_surroundings (T.resolves self.now.typing) (record { accepts = T.accepts_types self.now.typing; least_arguments = T.least_arguments self.now.typing }) self.now overrides_resolved «module».now) «module».now mod_info.old.lists }
-        ensures { ValidatesFunctions (function_surroundings (T.resolves self.now.typing) (record { accepts = T.accepts_types self.now.typing; least_arguments = T.least_arguments self.now.typing }) self.now overrides_resolved «module».now) «module».now mod_info.old.lists mod_info.new.lists result }
+        requires in_order { AreInfosInOrder
+            (function_surroundings (T.resolves self.now.typing)
+            (record { accepts = T.accepts_types self.now.typing; least_arguments = T.least_arguments self.now.typing })
+            self.now overrides_resolved «module».now)
+            «module».now mod_info.old.lists }
+        ensures { ValidatesFunctions
+            (function_surroundings (T.resolves self.now.typing)
+            (record { accepts = T.accepts_types self.now.typing; least_arguments = T.least_arguments self.now.typing })
+            self.now overrides_resolved «module».now)
+            «module».now mod_info.old.lists mod_info.new.lists result }
     {
         for index in 0..module.entry_points.as_slice().len() {
             self.validate_next(
@@ -327,9 +344,17 @@ impl<T: Typing> Validator<T> {
         requires handles { HandlesAccepted «module».now }
         requires flags { length «module».now.types ≤ length mod_info.old.lists.type_flags }
         requires next { IsNext «module».now mod_info.old.lists at }
-        ensures added { OnOk result (IsInfoAdded (function_surroundings (T.resolves self.now.typing) (record { accepts = T.accepts_types self.now.typing; least_arguments = T.least_arguments self.now.typing }) self.now overrides_resolved «module».now) «module».now at mod_info.old.lists mod_info.new.lists) }
+        ensures added { OnOk result (IsInfoAdded
+            (function_surroundings (T.resolves self.now.typing)
+            (record { accepts = T.accepts_types self.now.typing; least_arguments = T.least_arguments self.now.typing })
+            self.now overrides_resolved «module».now)
+            «module».now at mod_info.old.lists mod_info.new.lists) }
         ensures same { OnErr result (mod_info.new.lists ≡ mod_info.old.lists) }
-        ensures refused { IfErr result (IsNextRefused (function_surroundings (T.resolves self.now.typing) (record { accepts = T.accepts_types self.now.typing; least_arguments = T.least_arguments self.now.typing }) self.now overrides_resolved «module».now) «module».now mod_info.old.lists) }
+        ensures refused { IfErr result (IsNextRefused
+            (function_surroundings (T.resolves self.now.typing)
+            (record { accepts = T.accepts_types self.now.typing; least_arguments = T.least_arguments self.now.typing })
+            self.now overrides_resolved «module».now)
+            «module».now mod_info.old.lists) }
     {
         let function = at.function(module);
         match self.validate_function_expressions(module, mod_info, function, overrides_resolved) {
