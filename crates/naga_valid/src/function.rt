@@ -3,6 +3,7 @@
 ghost use Rattle.std.specs.Prelude.{◌≡◌, ◌≤◌, [], IfErr, OnErr, OnOk, Some, length};
 ghost use Rattle.naga_arena.specs.Memory.{UnlessOutOfMemory};
 ghost use Rattle.naga_ir.specs.Handles.{FunctionReferencesOk, HandlesAccepted};
+ghost use Rattle.naga_exprs.specs.Math.{math_typing};
 ghost use Rattle.naga_valid.specs.Accepted.{Accepts};
 ghost use Rattle.naga_valid.specs.AllFunctions.{AddsInfos, AreInfosInOrder, HaveInfos, IsNext, IsNextRefused, IsThere, ValidatesFunctions, function_of};
 ghost use Rattle.naga_valid.specs.ErrorNames.{function_error_name};
@@ -26,7 +27,7 @@ use naga_typing::typifier::ResolveError;
 use naga_typing::typing::Typing;
 use thiserror::Error;
 
-/// Why a function is refused: naga's `FunctionError`, as far as expressions are judged.
+/// Why a function is refused: naga's `FunctionError`, as far as expressions are validated.
 #[derive(Debug, PartialEq, Drop, Error)]
 pub enum FunctionError {
     /// An expression has no type, or breaks its rule.
@@ -109,14 +110,14 @@ impl<T: Typing> Validator<T> {
     /// their order, and the pipeline stages that each expression may be used by, all stages if there are
     /// none. Naga's `Validator::validate_function` does the same before it validates the body.
     ///
-    /// Each type follows from those before it, as `infer_types` says, and each rule is that of
+    /// Each type follows from the types before it, as `infer_types` says, and each rule is the rule of
     /// `validate_expression`. The handles of the module and of the function are right, and `mod_info`
     /// says of each type what it may be used for. It knows each function whose result is among the
-    /// expressions, so functions are judged in order, and each info is pushed to `mod_info` before the
+    /// expressions, so functions are validated in order, and each info is pushed to `mod_info` before the
     /// next. The law `laws::functions` says that this can be done in a module that `validate` accepts.
     ///
     /// It takes memory for the types and the kinds of the expressions. The cost is linear in their number,
-    /// beside what `validate_expression` says of each.
+    /// besides what `validate_expression` says of each.
     ///
     /// # Errors
     ///
@@ -135,19 +136,11 @@ impl<T: Typing> Validator<T> {
         requires in_function { FunctionReferencesOk «module».now function.now }
         requires flags { length «module».now.types ≤ length mod_info.now.lists.type_flags }
         requires calls { CallsBefore function.now (length mod_info.now.lists.functions) }
-        ensures { UnlessOutOfMemory (λ e. e ≡ FunctionError.OutOfMemory) result
-            (λ info. IsFunctionAccepted (function_surroundings (T.resolves self.now.typing)
-            (record {
-              accepts = T.accepts_types self.now.typing;
-              least_arguments = T.least_arguments self.now.typing;
-            }) self.now overrides_resolved «module».now
-            function.now mod_info.now.lists) info)
-            (λ e. RefusesFunction (function_surroundings (T.resolves self.now.typing)
-            (record {
-              accepts = T.accepts_types self.now.typing;
-              least_arguments = T.least_arguments self.now.typing;
-            }) self.now overrides_resolved «module».now
-            function.now mod_info.now.lists) e) }
+        ensures { let s = function_surroundings (T.resolves self.now.typing)
+            (math_typing (T.accepts_types self.now.typing) (T.least_arguments self.now.typing))
+            self.now overrides_resolved «module».now function.now mod_info.now.lists in
+            UnlessOutOfMemory (λ e. e ≡ FunctionError.OutOfMemory) result (λ info. IsFunctionAccepted s info)
+            (λ e. RefusesFunction s e) }
     {
         match infer_types(self.alloc, module, function, &self.typing) {
             Ok(mut info) => {
@@ -180,7 +173,7 @@ impl<T: Typing> Validator<T> {
         }
     }
 
-    /// Asks the rule of each expression in order, up to the first without a type, and returns the
+    /// Checks the rule of each expression in order, up to the first without a type, and returns the
     /// stages that may use all of these.
     ///
     /// # Errors
@@ -194,25 +187,15 @@ impl<T: Typing> Validator<T> {
         info: &FunctionInfo,
         overrides_resolved: bool,
     ) -> Result<ShaderStages, FunctionError>
-        requires { CanCheckRules (function_surroundings (T.resolves self.now.typing)
-            (record {
-              accepts = T.accepts_types self.now.typing;
-              least_arguments = T.least_arguments self.now.typing;
-            }) self.now overrides_resolved «module».now
-            function.now mod_info.now.lists) info.now.types }
-        ensures { UnlessOutOfMemory (λ e. e ≡ FunctionError.OutOfMemory) result
-            (λ common. AllowInCommon (function_surroundings (T.resolves self.now.typing)
-            (record {
-              accepts = T.accepts_types self.now.typing;
-              least_arguments = T.least_arguments self.now.typing;
-            }) self.now overrides_resolved «module».now
-            function.now mod_info.now.lists) info.now.types common)
-            (λ e. IsFirstBreachAs (function_surroundings (T.resolves self.now.typing)
-            (record {
-              accepts = T.accepts_types self.now.typing;
-              least_arguments = T.least_arguments self.now.typing;
-            }) self.now overrides_resolved «module».now
-            function.now mod_info.now.lists) info.now.types e) }
+        requires { let s = function_surroundings (T.resolves self.now.typing)
+            (math_typing (T.accepts_types self.now.typing) (T.least_arguments self.now.typing))
+            self.now overrides_resolved «module».now function.now mod_info.now.lists in
+            CanCheckRules s info.now.types }
+        ensures { let s = function_surroundings (T.resolves self.now.typing)
+            (math_typing (T.accepts_types self.now.typing) (T.least_arguments self.now.typing))
+            self.now overrides_resolved «module».now function.now mod_info.now.lists in
+            UnlessOutOfMemory (λ e. e ≡ FunctionError.OutOfMemory) result (λ common. AllowInCommon s info.now.types common)
+            (λ e. IsFirstBreachAs s info.now.types e) }
     {
         let kinds = ExpressionKindTracker::from_arena(self.alloc, &function.expressions)?;
         let mut stages = ShaderStages::all();
@@ -255,11 +238,10 @@ impl<T: Typing> Validator<T> {
     ) -> Result<(), FunctionsError>
         requires { Accepts (T.resolves self.now.typing) «module».now (settings_of self.now overrides_resolved)
             self.now.infos mod_info.old.lists }
-        ensures { ValidatesFunctions
-            (function_surroundings (T.resolves self.now.typing)
-            (record { accepts = T.accepts_types self.now.typing; least_arguments = T.least_arguments self.now.typing })
-            self.now overrides_resolved «module».now)
-            «module».now mod_info.old.lists mod_info.new.lists result }
+        ensures { let by = function_surroundings (T.resolves self.now.typing)
+            (math_typing (T.accepts_types self.now.typing) (T.least_arguments self.now.typing))
+            self.now overrides_resolved «module».now in
+            ValidatesFunctions by «module».now mod_info.old.lists mod_info.new.lists result }
     {
         self.validate_each_function(module, mod_info, overrides_resolved)?;
         self.validate_each_entry_point(module, mod_info, overrides_resolved)
@@ -280,11 +262,10 @@ impl<T: Typing> Validator<T> {
         requires flags { length «module».now.types ≤ length mod_info.old.lists.type_flags }
         requires functions { mod_info.old.lists.functions ≡ [] }
         requires entry_points { mod_info.old.lists.entry_points ≡ [] }
-        ensures { AddsInfos
-            (function_surroundings (T.resolves self.now.typing)
-            (record { accepts = T.accepts_types self.now.typing; least_arguments = T.least_arguments self.now.typing })
-            self.now overrides_resolved «module».now)
-            «module».now (HaveFunctionInfos «module».now) mod_info.old.lists mod_info.new.lists result }
+        ensures { let by = function_surroundings (T.resolves self.now.typing)
+            (math_typing (T.accepts_types self.now.typing) (T.least_arguments self.now.typing))
+            self.now overrides_resolved «module».now in
+            AddsInfos by «module».now (HaveFunctionInfos «module».now) mod_info.old.lists mod_info.new.lists result }
     {
         for index in 0..module.functions.len() {
             let at = Callable::Function(Handle::new(index as u32));
@@ -307,16 +288,14 @@ impl<T: Typing> Validator<T> {
         requires handles { HandlesAccepted «module».now }
         requires flags { length «module».now.types ≤ length mod_info.old.lists.type_flags }
         requires functions { HaveFunctionInfos «module».now mod_info.old.lists }
-        requires in_order { AreInfosInOrder
-            (function_surroundings (T.resolves self.now.typing)
-            (record { accepts = T.accepts_types self.now.typing; least_arguments = T.least_arguments self.now.typing })
-            self.now overrides_resolved «module».now)
-            «module».now mod_info.old.lists }
-        ensures { ValidatesFunctions
-            (function_surroundings (T.resolves self.now.typing)
-            (record { accepts = T.accepts_types self.now.typing; least_arguments = T.least_arguments self.now.typing })
-            self.now overrides_resolved «module».now)
-            «module».now mod_info.old.lists mod_info.new.lists result }
+        requires in_order { let by = function_surroundings (T.resolves self.now.typing)
+            (math_typing (T.accepts_types self.now.typing) (T.least_arguments self.now.typing))
+            self.now overrides_resolved «module».now in
+            AreInfosInOrder by «module».now mod_info.old.lists }
+        ensures { let by = function_surroundings (T.resolves self.now.typing)
+            (math_typing (T.accepts_types self.now.typing) (T.least_arguments self.now.typing))
+            self.now overrides_resolved «module».now in
+            ValidatesFunctions by «module».now mod_info.old.lists mod_info.new.lists result }
     {
         for index in 0..module.entry_points.as_slice().len() {
             self.validate_next(
@@ -344,17 +323,15 @@ impl<T: Typing> Validator<T> {
         requires handles { HandlesAccepted «module».now }
         requires flags { length «module».now.types ≤ length mod_info.old.lists.type_flags }
         requires next { IsNext «module».now mod_info.old.lists at }
-        ensures added { OnOk result (IsInfoAdded
-            (function_surroundings (T.resolves self.now.typing)
-            (record { accepts = T.accepts_types self.now.typing; least_arguments = T.least_arguments self.now.typing })
-            self.now overrides_resolved «module».now)
-            «module».now at mod_info.old.lists mod_info.new.lists) }
+        ensures added { let by = function_surroundings (T.resolves self.now.typing)
+            (math_typing (T.accepts_types self.now.typing) (T.least_arguments self.now.typing))
+            self.now overrides_resolved «module».now in
+            OnOk result (IsInfoAdded by «module».now at mod_info.old.lists mod_info.new.lists) }
         ensures same { OnErr result (mod_info.new.lists ≡ mod_info.old.lists) }
-        ensures refused { IfErr result (IsNextRefused
-            (function_surroundings (T.resolves self.now.typing)
-            (record { accepts = T.accepts_types self.now.typing; least_arguments = T.least_arguments self.now.typing })
-            self.now overrides_resolved «module».now)
-            «module».now mod_info.old.lists) }
+        ensures refused { let by = function_surroundings (T.resolves self.now.typing)
+            (math_typing (T.accepts_types self.now.typing) (T.least_arguments self.now.typing))
+            self.now overrides_resolved «module».now in
+            IfErr result (IsNextRefused by «module».now mod_info.old.lists) }
     {
         let function = at.function(module);
         match self.validate_function_expressions(module, mod_info, function, overrides_resolved) {
