@@ -1,6 +1,6 @@
--- The layouts of data that hosts may share, by the alignments that its leaves have; and the flags of members.
-use Rattle.std.specs.Prelude.{◌≡◌, ◌+◌, ◌%◌, ◌≤◌, ◌↔◌, max, suc, ℕ, true, List, [], ◌∷◌, Option, Some, None, Contains, IsOk, Ok, bit_and, slice_get, if◌then◌else◌}
-use Rattle.naga_flags.specs.Bits.{DATA, HOST_SHAREABLE, IO_SHAREABLE, SIZED, union_of}
+-- The layouts of data that hosts may share, by the alignments that its leaves have.
+use Rattle.std.specs.Prelude.{◌≡◌, ◌+◌, ◌%◌, ◌≤◌, ◌↔◌, max, suc, ℕ, true, List, [], ◌∷◌, Option, Some, None, Contains, IsOk, Ok, slice_get, if◌then◌else◌}
+use Rattle.naga_flags.specs.Bits.{DATA, HOST_SHAREABLE, SIZED, union_of}
 use Rattle.naga_flags.specs.Flags.{has}
 use Rattle.naga_ir.specs.ItemReferences.{GlobalLists}
 use Rattle.naga_ir.specs.declared.types.ArraySize.{ArraySize}
@@ -62,9 +62,3 @@ pub record IsUniformAligned (g : GlobalLists) (infos : List TypeInfo) (t : ℕ) 
 pub record HasUniformByLeaves (g : GlobalLists) (infos : List TypeInfo) (t : ℕ) (info : TypeInfo) : Type 0 where
   pub exactly : IsOk info.uniform_layout ↔ ((u : ℕ) → IsInside g t u → IsUniformAligned g infos u)
   pub alignment : IsOk info.uniform_layout → OfLeafAlignment g t (λ a. info.uniform_layout ≡ Ok (uniform_alignment g t a))
-
--- if a type is a struct, the type of each member has every flag that the struct has, except `IO_SHAREABLE`
-abbrev pub MembersHaveFlags : GlobalLists → List TypeInfo → ℕ → TypeInfo → Type 0
-MembersHaveFlags g infos t info =
-    (members : List StructMember) (span : ℕ) (m : StructMember) (flags : ℕ) → inner_at g t ≡ Some (form.Struct members span) → Contains members m → bit_and IO_SHAREABLE flags ≡ 0 → has info.flags.0 flags ≡ true
-    → has (info_in (slice_get infos m.ty)).flags.0 flags ≡ true

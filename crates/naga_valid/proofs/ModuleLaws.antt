@@ -2,9 +2,10 @@
 use Rattle.std.proofs.Common.{◌≡◌, ◌+◌, ◌*◌, ℕ, List, Option, Some, None, IfSome, slice_get, refl}
 use Rattle.naga_ir.specs.ItemReferences.{GlobalLists, global_lists}
 use Rattle.naga_ir.specs.declared.ir.Module.{Module}
-use Rattle.naga_types.proofs.HostLaws.{host-alignments_inside, host-storage, host-uniform, struct-flags}
+use Rattle.naga_types.proofs.HostLaws.{constructible-array, constructible-struct, host-alignments_inside, host-storage, host-uniform, struct-flags}
 use Rattle.naga_types.proofs.HostLeaves.{leaves_of_accepted}
-use Rattle.naga_types.specs.HostLayouts.{HasStorageByLeaves, HasUniformByLeaves, HaveLeafAlignments, IsForHosts, MembersHaveFlags}
+use Rattle.naga_types.specs.FlagsOfParts.{IsConstructibleByElements, IsConstructibleByMembers, MembersHaveFlags}
+use Rattle.naga_types.specs.HostLayouts.{HasStorageByLeaves, HasUniformByLeaves, HaveLeafAlignments, IsForHosts}
 use Rattle.naga_types.specs.HostLeaves.{IsLaidOutForHosts, LeavesAreSeparate, resolved_for_hosts, sized_for_hosts}
 use Rattle.naga_types.specs.declared.info.TypeInfo.{TypeInfo}
 use Rattle.naga_typing.specs.Leaves.{AreSeparate, EndsInArray, size_at_index}
@@ -43,5 +44,13 @@ module _ (m : Module) (settings : Settings) (infos : List TypeInfo) (valid : Are
   uniform_by_leaves = of-info (slice_get infos t) _ (λ info at for_hosts. (have_alignments info at for_hosts, host-uniform m settings.capabilities settings.resolved valid.layouts infos valid.accepted t info at for_hosts))
 
   -- the flags of the members of a struct
-  pub flags_of_members : IfSome (slice_get infos t) (λ info. MembersHaveFlags g infos t info)
+  pub flags_of_members : IfSome (slice_get infos t) (MembersHaveFlags g infos t)
   flags_of_members = of-info (slice_get infos t) (MembersHaveFlags g infos t) (λ info at. struct-flags m settings.capabilities settings.resolved valid.layouts infos valid.accepted t info at)
+
+  -- when a struct is constructible
+  pub constructible_struct : IfSome (slice_get infos t) (IsConstructibleByMembers g infos t)
+  constructible_struct = of-info (slice_get infos t) (IsConstructibleByMembers g infos t) (λ info at. constructible-struct m settings.capabilities settings.resolved valid.layouts infos valid.accepted t info at)
+
+  -- when an array is
+  pub constructible_array : IfSome (slice_get infos t) (IsConstructibleByElements g infos t)
+  constructible_array = of-info (slice_get infos t) (IsConstructibleByElements g infos t) (λ info at. constructible-array m settings.capabilities settings.resolved valid.layouts infos valid.accepted t info at)

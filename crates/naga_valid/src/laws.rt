@@ -15,7 +15,8 @@ ghost use Rattle.naga_immediates.specs.SlotText as text;
 ghost use Rattle.naga_immediates.specs.Slots.{IsSetOf, SharesByte, UsesSlot};
 ghost use Rattle.naga_ir.specs.Handles.{HandlesAccepted};
 ghost use Rattle.naga_ir.specs.ItemReferences.{global_lists};
-ghost use Rattle.naga_types.specs.HostLayouts.{HasStorageByLeaves, HasUniformByLeaves, HaveLeafAlignments, IsForHosts, MembersHaveFlags};
+ghost use Rattle.naga_types.specs.FlagsOfParts.{IsConstructibleByElements, IsConstructibleByMembers, MembersHaveFlags};
+ghost use Rattle.naga_types.specs.HostLayouts.{HasStorageByLeaves, HasUniformByLeaves, HaveLeafAlignments, IsForHosts};
 ghost use Rattle.naga_types.specs.HostLeaves.{IsLaidOutForHosts, resolved_for_hosts, sized_for_hosts};
 ghost use Rattle.naga_ir.specs.declared.types.TypeInner.{TypeInner};
 ghost use Rattle.naga_typing.specs.Leaves.{AreSeparate, EndsInArray, inner_at, size_at_index};
@@ -118,10 +119,17 @@ pub fn uniform_ok<T: Typing>(
         × HasUniformByLeaves (global_lists «module».now) validator.now.infos ty info) }
 {}
 
-/// Members may be used for all that their struct may, but for being passed on between stages: each
-/// flag of a struct, `IO_SHAREABLE` aside, is a flag of the type of each member.
+/// The flags of structs and arrays, by the flags of their members and elements.
 ///
-/// It says nothing of types that aren't structs. A struct may lack flags that all its members have.
+/// - Each flag of a struct, `IO_SHAREABLE` aside, is a flag of the type of each member: a member may be used
+///   for all that the struct may, except for being passed between stages.
+/// - A struct has the flag `CONSTRUCTIBLE` exactly if the types of all its members have it.
+/// - An array has it exactly if its size is `Constant` and its base type has it. So an array that an
+///   override sizes isn't constructible, whether overrides are resolved or not.
+///
+/// A struct may lack two flags that all its members have: `IO_SHAREABLE`, and `HOST_SHAREABLE` if a member
+/// begins at byte 0 after one that ends past it. Of types that are neither structs nor arrays nothing is
+/// said.
 pub fn struct_flags<T: Typing>(
     module: &Module,
     validator: &Validator<T>,
@@ -129,8 +137,12 @@ pub fn struct_flags<T: Typing>(
     ty: Handle<TypeTag>,
 )
     requires accepted { AreValidTypes «module».now (settings_of validator.now resolved) validator.now.infos }
-    ensures { IfSome (slice_get validator.now.infos ty)
-        (λ info. MembersHaveFlags (global_lists «module».now) validator.now.infos ty info) }
+    ensures members { IfSome (slice_get validator.now.infos ty)
+        (MembersHaveFlags (global_lists «module».now) validator.now.infos ty) }
+    ensures constructible_struct { IfSome (slice_get validator.now.infos ty)
+        (IsConstructibleByMembers (global_lists «module».now) validator.now.infos ty) }
+    ensures constructible_array { IfSome (slice_get validator.now.infos ty)
+        (IsConstructibleByElements (global_lists «module».now) validator.now.infos ty) }
 {}
 
 /// The slots of immediate data that a type without arrays uses are those of its leaves. `slots` are the
@@ -152,8 +164,8 @@ pub fn slots_of_leaves<T: Typing>(
     slots: ImmediateSlots,
 )
     requires accepted { AreValidTypes «module».now (settings_of validator.now resolved) validator.now.infos }
-    ensures { IfSome (slice_get validator.now.infos ty)
-        (λ info. IsForHosts info → HasNoArray (global_lists «module».now) ty
+    ensures { IfSome (slice_get validator.now.infos ty) (λ info. IsForHosts info
+        → HasNoArray (global_lists «module».now) ty
         → (inner : TypeInner) → inner_at (global_lists «module».now) ty ≡ Some inner
         → IsSetOf (UsesSlot (global_lists «module».now) inner offset) slots
         → HasSlotsOfLeaves (global_lists «module».now) length ty offset slots) }
