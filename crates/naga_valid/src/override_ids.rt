@@ -1,17 +1,15 @@
 //! Which numbers the overrides of a module have.
 
-ghost use Rattle.std.specs.Prelude.{◌≡◌, OnOk, length};
-ghost use Rattle.naga_valid.specs.steps.Ids.{HasNone, IsNoted, id_count};
+ghost use Rattle.std.specs.Prelude.{◌≡◌, IfOk};
+ghost use Rattle.naga_valid.specs.steps.Ids.{HasNone, IsNoted};
 
 use naga_ir::memory::OutOfMemory;
 use std::alloc::Global;
 use std::marker::Model;
 
-/// As many numbers as 16 bits have.
-const ID_COUNT: usize = 65_536;
-
-/// A set of numbers of 16 bits, as a truth value for each. It takes its memory once, when it is first
-/// cleared, and doesn't hash, so that no choice of numbers makes it slow.
+/// A set of numbers of 16 bits: a bool for each number up to the greatest that it has had, at most
+/// 65,536 bytes. It keeps its memory when it is cleared, and doesn't hash, so that no choice of numbers
+/// makes it slow.
 #[derive(Drop)]
 pub struct OverrideIds {
     seen: Vec<bool>,
@@ -26,7 +24,7 @@ impl Model for OverrideIds {
 }
 
 impl OverrideIds {
-    /// A set that takes its memory from `alloc`. It has to be cleared before numbers are inserted.
+    /// A set without numbers, which takes its memory from `alloc`.
     pub fn new(alloc: Global) -> OverrideIds {
         OverrideIds {
             seen: Vec::new(alloc),
@@ -34,26 +32,28 @@ impl OverrideIds {
     }
 
     /// Removes all numbers.
-    ///
-    /// # Errors
-    ///
-    /// `OutOfMemory` if memory was refused, which happens at the first call alone.
-    pub fn clear(&mut self) -> Result<(), OutOfMemory>
-        ensures { OnOk result (HasNone self.new) }
+    pub fn clear(&mut self)
+        ensures { HasNone self.new }
     {
         self.seen.clear();
-        self.seen.resize(ID_COUNT, false)?;
-        Ok(())
     }
 
     /// Adds a number, and returns whether it is new.
-    pub fn insert(&mut self, id: u16) -> bool
-        requires { length self.old ≡ id_count }
-        ensures { IsNoted self.old id self.new result }
+    ///
+    /// # Errors
+    ///
+    /// `OutOfMemory` if memory was refused, which is requested only for a number greater than all that
+    /// the set has had.
+    pub fn insert(&mut self, id: u16) -> Result<bool, OutOfMemory>
+        ensures { IfOk result (IsNoted self.old id self.new) }
     {
-        let seen = &mut self.seen[usize::from(id)];
+        let index = usize::from(id);
+        if index >= self.seen.len() {
+            self.seen.resize(index + 1, false)?;
+        }
+        let seen = &mut self.seen[index];
         let is_new = !*seen;
         *seen = true;
-        is_new
+        Ok(is_new)
     }
 }

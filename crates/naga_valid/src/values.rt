@@ -7,7 +7,7 @@ ghost use Rattle.naga_arena.specs.Span.{inner_of};
 ghost use Rattle.naga_valid.specs.Values as rule;
 ghost use Rattle.naga_valid.specs.Values.{AreValueResults};
 ghost use Rattle.naga_valid.specs.declared.error.ValidationError as error;
-ghost use Rattle.naga_valid.specs.steps.Ids.{IsChecked, id_count};
+ghost use Rattle.naga_valid.specs.steps.Ids.{IsChecked};
 ghost use Rattle.naga_valid.specs.steps.KnownValues.{AreFilled, AreFilledWithKinds, IsFirstValueError};
 
 use crate::error::{ConstantError, OverrideError, ValidationError};
@@ -122,13 +122,12 @@ fn validate_constant(
 }
 
 /// Notes the number of an override, if it has one, and returns whether an earlier override has it.
-fn is_duplicate(ids: &mut OverrideIds, id: Option<u16>) -> bool
-    requires { length ids.old ≡ id_count }
-    ensures { IsChecked ids.old id ids.new result }
+fn is_duplicate(ids: &mut OverrideIds, id: Option<u16>) -> Result<bool, OutOfMemory>
+    ensures { IfOk result (IsChecked ids.old id ids.new) }
 {
     match id {
-        Some(id) => !ids.insert(id),
-        None => false,
+        Some(id) => Ok(!ids.insert(id)?),
+        None => Ok(false),
     }
 }
 
@@ -238,9 +237,9 @@ fn validate_overrides(
         (rule.override_result overrides_resolved «module».now mod_info.now.lists) «module».now.overrides)
         (inner_of e)) }
 {
-    ids.clear()?;
+    ids.clear();
     for (handle, over) in module.overrides.iter() {
-        let is_duplicate = is_duplicate(ids, over.id);
+        let is_duplicate = is_duplicate(ids, over.id)?;
         if let Err(source) = validate_override(
             is_duplicate,
             overrides_resolved,

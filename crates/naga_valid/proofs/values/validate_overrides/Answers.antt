@@ -14,7 +14,7 @@ pub loop-handle-init : goal.loop-handle-init
 loop-handle-init c = record {
   count = 0;
   judging = begin (override_result c.args.overrides_resolved c.args.module.now c.args.mod_info.now.lists) c.args.module.now.overrides _ (c.into_iter-handle-iterator.ensures.into_iter_gives ∙ c.iter-handle-items.ensures);
-  noted = none_noted c.args.module.now.overrides _ c.in_ok-clear.ensures;
+  noted = none_noted c.args.module.now.overrides _ c.clear.ensures;
 }
 
 pub validate_override-requires-clause-ty : goal.validate_override-requires-clause-ty
@@ -35,7 +35,7 @@ loop-handle-preserved c =
     let judging = c.loop-handle.invariant.judging in
     let place : c.in-Some.handle ≡ count = next_index rule m.overrides _ _ _ _ _ judging c.in-Some.ensures.steps in
     let at : slice_get m.overrides count ≡ Some o = ap (slice_get m.overrides) (sym place) ∙ next_item rule m.overrides _ _ _ _ _ judging c.in-Some.ensures.steps in
-    let step = one_checked m.overrides count _ c.loop-handle.invariant.noted o at _ c.is_duplicate-is_duplicate.result c.is_duplicate-is_duplicate.ensures in
+    let step = one_checked m.overrides count _ c.loop-handle.invariant.noted o at _ c.in_ok-is_duplicate.is_duplicate c.in_ok-is_duplicate.ensures in
     let said : c.validate_override.result ≡ override_rule (is_taken (take c.in-Some.handle m.overrides) o.id) c.args.overrides_resolved m c.args.mod_info.now.lists o =
     c.validate_override.ensures ∙ ap (λ duplicate. override_rule duplicate c.args.overrides_resolved m c.args.mod_info.now.lists o) (step.0 ∙ ap (λ k. is_taken (take k m.overrides) o.id) (sym place)) in
     let accepted = accepted_unless c.validate_override.result c.in_default.not-Err in
@@ -54,7 +54,7 @@ returns-in-Err c =
     let judging = c.loop-handle.invariant.judging in
     let place : c.in-Some.handle ≡ count = next_index rule m.overrides _ _ _ _ _ judging c.in-Some.ensures.steps in
     let at : slice_get m.overrides count ≡ Some o = ap (slice_get m.overrides) (sym place) ∙ next_item rule m.overrides _ _ _ _ _ judging c.in-Some.ensures.steps in
-    let step = one_checked m.overrides count _ c.loop-handle.invariant.noted o at _ c.is_duplicate-is_duplicate.result c.is_duplicate-is_duplicate.ensures in
+    let step = one_checked m.overrides count _ c.loop-handle.invariant.noted o at _ c.in_ok-is_duplicate.is_duplicate c.in_ok-is_duplicate.ensures in
     let said : c.validate_override.result ≡ override_rule (is_taken (take c.in-Some.handle m.overrides) o.id) c.args.overrides_resolved m c.args.mod_info.now.lists o =
     c.validate_override.ensures ∙ ap (λ duplicate. override_rule duplicate c.args.overrides_resolved m c.args.mod_info.now.lists o) (step.0 ∙ ap (λ k. is_taken (take k m.overrides) o.id) (sym place)) in
     let name = shown_name o.name in
