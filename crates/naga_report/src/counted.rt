@@ -3,20 +3,22 @@
 ghost use Rattle.naga_arena.specs.Numbers.{largest_u64};
 ghost use Rattle.std.specs.Io.KnownBytes.{Appends, Keeps, ReadConsumes};
 ghost use Rattle.std.specs.Io.{ReadsAtMost};
-ghost use Rattle.std.specs.Prelude.{◌≡◌, ◌+◌, ◌<◌, ◌≤◌, ◌↔◌, length, take, IfSome, IsTrue, OnErr, OnOk, OnSome, IfNone, MatchOption, MatchBool};
+ghost use Rattle.std.specs.Prelude.{◌≡◌, ◌+◌, ◌<◌, ◌≤◌, ◌↔◌, length, take, false, IfSome, IsTrue, OnErr, OnOk, OnSome, IfNone, MatchOption, MatchBool};
 
 use std::io;
 use std::io::{Read, Write};
 
-/// A reader or a writer, and the number of its calls that failed.
+/// A reader or a writer, the number of its calls that failed, and whether what was written is flushed.
 ///
-/// Both fields are private: code that borrows one can neither make up a failure nor hide one, since the
-/// number changes only in the calls below, by one for each that fails.
+/// All fields are private: code that borrows one can neither make up a failure or a flush nor hide one, since
+/// these change only in the calls below.
 #[derive(Debug, Drop)]
 pub struct Counted<S> {
     inner: S,
     /// The number of calls that failed.
     failed: u64,
+    /// Whether there was a flush that succeeded, and nothing was written since.
+    is_flushed: bool,
 }
 
 impl<S> Counted<S> {
@@ -25,7 +27,11 @@ impl<S> Counted<S> {
         ensures inner { result.inner ≡ inner }
         ensures failed { result.failed ≡ 0 }
     {
-        Counted { inner, failed: 0 }
+        Counted {
+            inner,
+            failed: 0,
+            is_flushed: false,
+        }
     }
 
     /// The number of calls that failed so far.
@@ -76,7 +82,9 @@ impl<W: Write> Counted<W> {
             (λ n. Appends (W.contents self.old.inner) (W.contents self.new.inner) (take n buf.now)) }
         ensures count { OnSome result (self.new.failed ≡ self.old.failed) }
         ensures failure { IfNone result (self.new.failed ≡ self.old.failed + 1) }
+        ensures unflushed { self.new.is_flushed ≡ false }
     {
+        self.is_flushed = false;
         match self.inner.write(buf) {
             Ok(n) if n > 0 => Some(n),
             _ => {
@@ -86,18 +94,17 @@ impl<W: Write> Counted<W> {
         }
     }
 
-    /// One call of `flush`. Returns whether it succeeded; a failure is counted.
+    /// One call of `flush`. Returns whether it succeeded, which is noted; a failure is counted.
     pub fn flush(&mut self) -> bool
         requires { self.old.failed < largest_u64 }
         ensures bytes { Keeps (W.contents self.old.inner) (W.contents self.new.inner) }
         ensures count { MatchBool result (self.new.failed ≡ self.old.failed) (self.new.failed ≡ self.old.failed + 1) }
+        ensures flushed { self.new.is_flushed ≡ result }
     {
-        match self.inner.flush() {
-            Ok(()) => true,
-            Err(_) => {
-                self.failed += 1;
-                false
-            }
+        self.is_flushed = self.inner.flush().is_ok();
+        if !self.is_flushed {
+            self.failed += 1;
         }
+        self.is_flushed
     }
 }

@@ -3,7 +3,7 @@
 ghost use Rattle.naga_arena.specs.Numbers.{largest_u64};
 ghost use Rattle.naga_report.specs.Run.{AppendsFront, BeginsReport, Reports, status_of};
 ghost use Rattle.std.specs.Io.KnownBytes.{Appends, IsAtEnd, Keeps};
-ghost use Rattle.std.specs.Prelude.{◌≡◌, ◌+◌, ◌<◌, ◌⊎◌, ℕ, List, ◌++◌, IfErr, IfOk, IfSome, OnOk, IsErrOf};
+ghost use Rattle.std.specs.Prelude.{◌≡◌, ◌+◌, ◌<◌, ◌⊎◌, ℕ, List, ◌++◌, IfErr, IfOk, IfSome, OnOk, IsErrOf, true};
 
 use crate::counted::Counted;
 use crate::report::{Outcome, make_report};
@@ -68,6 +68,7 @@ fn write_all<W: Write>(writer: &mut Counted<W>, text: &[u8]) -> Result<(), RunFa
     requires { writer.old.failed < largest_u64 }
     ensures ok { OnOk result (Appends (W.contents writer.old.inner) (W.contents writer.new.inner) text.now) }
     ensures count { OnOk result (writer.new.failed ≡ writer.old.failed) }
+    ensures flushed { OnOk result (writer.new.is_flushed ≡ true) }
     ensures err { IfErr result (λ e. (e ≡ RunFault.Write) × (writer.new.failed ≡ writer.old.failed + 1)) }
     ensures front { AppendsFront text.now (W.contents writer.old.inner) (W.contents writer.new.inner) }
 {
@@ -110,6 +111,8 @@ pub fn run<R: Read, W: Write>(
     ensures end { OnOk result (IsAtEnd (R.remaining reader.new.inner)) }
     ensures no_failure { OnOk result
         ((reader.new.failed ≡ reader.old.failed) × (writer.new.failed ≡ writer.old.failed)) }
+    // Nothing was written since a flush that succeeded.
+    ensures flushed { OnOk result (writer.new.is_flushed ≡ true) }
     // Each fault has its cause, and leaves a beginning of a report or nothing.
     ensures read { IsErrOf result RunFault.Read → (reader.new.failed ≡ reader.old.failed + 1)
         × (writer.new.failed ≡ writer.old.failed) }

@@ -135,11 +135,11 @@ fn is_duplicate(ids: &mut OverrideIds, id: Option<u16>) -> Result<bool, OutOfMem
 /// this type, or none unless overrides have to have their values. `is_duplicate` says whether an
 /// earlier override has its number.
 fn validate_override(
-    is_duplicate: bool,
-    overrides_resolved: bool,
     over: &Override,
+    is_duplicate: bool,
     module: &Module,
     mod_info: &ModuleInfo,
+    overrides_resolved: bool,
 ) -> Result<(), OverrideError>
     requires filled { AreFilled «module».now mod_info.now.lists }
     requires ty { over.now.ty < length «module».now.types }
@@ -241,11 +241,11 @@ fn validate_overrides(
     for (handle, over) in module.overrides.iter() {
         let is_duplicate = is_duplicate(ids, over.id)?;
         if let Err(source) = validate_override(
-            is_duplicate,
-            overrides_resolved,
             over,
+            is_duplicate,
             module,
             mod_info,
+            overrides_resolved,
         ) {
             let name = name_of(alloc, &over.name)?;
             let error = ValidationError::Override {
