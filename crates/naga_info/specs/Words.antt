@@ -41,7 +41,7 @@ is_scalar_that is inner = is_of 1 is inner
 abbrev pub is_integer_scalar : TypeInner → Boolean
 is_integer_scalar inner = is_scalar_that (λ scalar. is_integer scalar.kind) inner
 
--- a kind is that of truth values
+-- `kind` is `Bool`
 abbrev pub is_bool : ScalarKind → Boolean
 is_bool Bool = true
 is_bool Sint = false

@@ -158,8 +158,8 @@ pub enum ExpressionError {
     InvalidSampleLevelGradientType(ImageDimension, Handle<ExpressionTag>),
     /// Coordinates can't be clamped to the edges together with this.
     InvalidSampleClampCoordinateToEdge(String),
-    /// The operand of a conversion is neither a scalar nor a vector nor a matrix, or there are no such scalars to convert
-    /// to.
+    /// The operand of a conversion is neither a scalar nor a vector nor a matrix, or there are no such
+    /// scalars to convert to.
     InvalidCastArgument,
     /// A math function has too few arguments, or a gap between them.
     WrongArgumentCount(MathFunction),

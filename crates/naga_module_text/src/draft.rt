@@ -413,7 +413,7 @@ impl Draft {
 
     /// The module that the lines of a text describe, or those before the first that can't be read. If
     /// `has_stand_ins`, a literal stands for each argument that a function doesn't have, since a rule can be
-    /// asked only if the arguments exist that the expressions before name.
+    /// answered only if the arguments exist that the expressions before name.
     ///
     /// # Errors
     ///

@@ -48,7 +48,7 @@ fn words_of(alloc: Global, text: &str) -> Result<Vec<&[u8]>, AllocError> {
     text.as_bytes().split(|byte| *byte == b' ').collect(alloc)
 }
 
-/// Adds what is asked of bytes.
+/// Adds the answer to a query about bytes.
 fn add_on_bytes(
     alloc: Global,
     answer: &mut String,
@@ -64,7 +64,7 @@ fn add_on_bytes(
     }
 }
 
-/// Adds what is asked of the bytes that a text in quotes stands for.
+/// Adds the answer to a query about the bytes that a text in quotes stands for.
 fn add_on_text(
     alloc: Global,
     answer: &mut String,
@@ -77,7 +77,7 @@ fn add_on_text(
     }
 }
 
-/// Adds what is asked of any module.
+/// Adds the answer to a query about any module.
 fn add_on_module(
     session: &mut Session<PlainTyping>,
     answer: &mut String,
@@ -96,7 +96,7 @@ fn add_on_module(
     }
 }
 
-/// Adds what is asked of a module whose handles are right.
+/// Adds the answer to a query about a module whose handles are right.
 fn add_on_right_handles(
     alloc: Global,
     answer: &mut String,
@@ -122,7 +122,7 @@ fn add_on_right_handles(
     }
 }
 
-/// Adds what is asked of a module if its handles are right, or which handle is wrong.
+/// Adds the answer to a query about a module if its handles are right, or which handle is wrong.
 fn add_on_handles(
     alloc: Global,
     answer: &mut String,
@@ -136,7 +136,7 @@ fn add_on_handles(
     }
 }
 
-/// Adds what is asked of an accepted module.
+/// Adds the answer to a query about an accepted module.
 fn add_on_accepted(
     session: &Session<PlainTyping>,
     answer: &mut String,
@@ -157,7 +157,7 @@ fn add_on_accepted(
     }
 }
 
-/// Adds what is asked of a module if it is accepted, or why it isn't.
+/// Adds the answer to a query about a module if it is accepted, or why it isn't.
 fn add_on_validated(
     session: &mut Session<PlainTyping>,
     answer: &mut String,
@@ -213,7 +213,7 @@ fn with_form(alloc: Global, case: &Case, words: &str) -> Result<Option<String>, 
     Ok(Some(text))
 }
 
-/// The lines of a case with the change that a query asks for.
+/// The lines of a case with the change that a query names.
 fn changed(
     alloc: Global,
     query: ChangeQuery,
@@ -230,7 +230,7 @@ fn changed(
     }
 }
 
-/// Adds what is asked of a module with a change.
+/// Adds the answer to a query about a module with a change.
 fn add_on_changed(
     sessions: &mut Sessions,
     answer: &mut String,
@@ -259,7 +259,7 @@ fn needs_stand_ins(query: ChangeQuery) -> bool {
     }
 }
 
-/// Adds what is asked of the module of a text, which is a case with a change.
+/// Adds the answer to a query about the module of a text, which is a case with a change.
 fn add_on_changed_text(
     sessions: &mut Sessions,
     answer: &mut String,
@@ -270,7 +270,7 @@ fn add_on_changed_text(
     add_on_changed(sessions, answer, query, &draft)
 }
 
-/// Adds what is asked of the module of a case, read once more with a change.
+/// Adds the answer to a query about the module of a case, read once more with a change.
 fn add_on_change(
     sessions: &mut Sessions,
     answer: &mut String,
@@ -284,7 +284,7 @@ fn add_on_change(
     }
 }
 
-/// Adds what is asked of a case.
+/// Adds the answer to a query about a case.
 fn add_on_case(
     sessions: &mut Sessions,
     answer: &mut String,

@@ -161,7 +161,7 @@ impl Answering {
         write!(differences, "line {line}: {what} without a query\n")
     }
 
-    /// Writes lines back that ask nothing.
+    /// Writes lines back that are not queries.
     fn add_others(&mut self, entry: &[&str]) -> Result<(), AllocError> {
         if entry.iter().any(|line| is_result(line)) {
             self.add_unasked("a result")?;
@@ -199,7 +199,7 @@ impl Answering {
         self.add_case(&case, own)
     }
 
-    /// Answers the queries of one case after another. The lines before the first belong to each, but for
+    /// Answers the queries of one case after another. The lines before the first belong to each, except
     /// comments and empty lines at the head of the file.
     fn add_sections(&mut self, lines: &[&str]) -> Result<(), OutOfMemory> {
         let first = lines.iter().position(|line| is_title(line));

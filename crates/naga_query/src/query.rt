@@ -2,14 +2,14 @@
 
 use naga_text::words::chosen;
 
-/// What can be asked of any bytes, also of those that describe no module.
+/// Queries about any bytes, also bytes that describe no module.
 #[derive(Clone, Copy)]
 pub enum TextQuery {
     Run,
     Read,
 }
 
-/// What can be asked of any module, and under any settings.
+/// Queries about any module, and under any settings.
 #[derive(Clone, Copy)]
 pub enum ModuleQuery {
     Handles,
@@ -20,7 +20,7 @@ pub enum ModuleQuery {
     Exchange,
 }
 
-/// What can be asked of a module whose handles are right.
+/// Queries about a module whose handles are right.
 #[derive(Clone, Copy)]
 pub enum HandleQuery {
     Leaves,
@@ -36,7 +36,7 @@ pub enum HandleQuery {
     Overloads,
 }
 
-/// What can be asked of an accepted module.
+/// Queries about an accepted module.
 #[derive(Clone, Copy)]
 pub enum AcceptedQuery {
     Validate,
@@ -47,14 +47,14 @@ pub enum AcceptedQuery {
     ImmediateSize,
 }
 
-/// What can be asked of a function or an entry point by its index.
+/// Queries about a function or an entry point by its index.
 #[derive(Clone, Copy)]
 pub enum FunctionQuery {
     Function,
     EntryPoint,
 }
 
-/// What can be asked of a module that is read once more, with a change.
+/// Queries about a module that is read once more, with a change.
 #[derive(Clone, Copy)]
 pub enum ChangeQuery {
     Functions,
@@ -63,7 +63,7 @@ pub enum ChangeQuery {
     With,
 }
 
-/// What a query asks.
+/// What a query is about.
 #[derive(Clone, Copy)]
 pub enum Query {
     Report,

@@ -50,26 +50,26 @@ use std::alloc::Global;
 use std::fmt::{Debug, Display};
 use std::process::Abort;
 
-/// What `judge` makes of a module, which is empty at first. No other function here owns a module, since
+/// What `visit` makes of a module, which is empty at first. No other function here owns a module, since
 /// each exit of a function drops what it owns, and the proof goes through each.
-pub(crate) fn with_module<R, F: FnOnce(&mut Module) -> R>(alloc: Global, judge: F) -> R
-    requires { F.IsAlwaysCallable judge }
+pub(crate) fn with_module<R, F: FnOnce(&mut Module) -> R>(alloc: Global, visit: F) -> R
+    requires { F.IsAlwaysCallable visit }
 {
     let mut module = Module::new(alloc);
-    judge(&mut module)
+    visit(&mut module)
 }
 
-/// What `judge` makes of the module that a text describes.
+/// What `visit` makes of the module that a text describes.
 pub(crate) fn with_text<R, F: FnOnce(&Module) -> R>(
     rt: &impl Abort,
     alloc: Global,
     text: &str,
-    judge: F,
+    visit: F,
 ) -> R
-    requires { F.IsAlwaysCallable judge }
+    requires { F.IsAlwaysCallable visit }
 {
     let contents = read_text(alloc, text.as_bytes()).expect(rt, "readable");
-    judge(&contents.module)
+    visit(&contents.module)
 }
 
 /// Makes sure that a value is as wanted. Each `assert_eq!` is proved where it stands, with its message; this
@@ -166,7 +166,7 @@ pub(crate) fn assert_lines<T: Display>(rt: &(impl AllocGlobal + Abort), errors: 
     assert!(rt; shown.as_str() == lines, "{shown}");
 }
 
-/// Whether the types are there that a resolution names. A form that is given as a value names none in tests.
+/// Whether the types are there that a resolution names. A type that is given as a value names none in tests.
 fn exists(resolution: &TypeResolution, types: &UniqueArena) -> bool
     ensures { IsTrue result → TypesExist types.now resolution.now }
 {

@@ -86,12 +86,12 @@ module _ (m : Module) (capabilities : Capabilities) (resolved : Bool) (layouts :
   abbrev judged_here : Judged w t
   judged_here = w.each_accepted t within
 
-  -- what the type is judged by
+  -- what the rule of the type depends on
   abbrev known_here : Surroundings
   known_here = known w t judged_here
 
   module _ (members : List StructMember) (span : ℕ) (is : inner_at g t ≡ Some (Struct members span)) where
-    -- a member has the flag `CONSTRUCTIBLE` by what the struct is judged by, if it has it by all infos
+    -- a member has the flag `CONSTRUCTIBLE` by what the rule of the struct depends on, if it has it by all infos
     known_too : (p : StructMember) → Contains members p → IsConstructibleAt infos p.ty → has (flags_at known_here p.ty) CONSTRUCTIBLE ≡ true
     known_too p in_list h =
         let place = place-in members p in_list in
@@ -117,7 +117,7 @@ module _ (m : Module) (capabilities : Capabilities) (resolved : Bool) (layouts :
   constructible-struct members span is = (each_member members span is, whole_struct members span is)
 
   module _ (base : ℕ) (size : ArraySize) (stride : ℕ) (is : inner_at g t ≡ Some (Array base size stride)) where
-    -- what the elements of an array are judged to be is what they are
+    -- the infos of an array's elements, as its rule sees them, are their infos
     base_is : has (flags_at known_here base) CONSTRUCTIBLE ≡ has (info_in (slice_get infos base)).flags.0 CONSTRUCTIBLE
     base_is = ap (λ (x : TypeInfo). has x.flags.0 CONSTRUCTIBLE) (known_is w t judged_here base (base_before w t judged_here base size stride is))
 

@@ -7,7 +7,7 @@
 -- Layouts.uniform_layout_of, storage_layout_of: the layouts of a struct, or why it has none
 -- AcceptedTypes.AreTypesAccepted: all types of a module are accepted, each by the infos of those before it
 -- HostLayouts.HasStorageByLeaves, HasUniformByLeaves: when data that hosts may share has a layout, by the alignments of its leaves
--- FlagsOfParts.MembersHaveFlags, IsConstructibleByMembers, IsConstructibleByElements: the flags of structs and arrays, by those of their members and elements
+-- FlagsOfParts.MembersHaveFlags, IsConstructibleByMembers, IsConstructibleByElements: the flags of structs and arrays, by the flags of their members and elements
 -- HostLeaves.LeavesAreSeparate: the leaves of a type that hosts may share are aligned, end by its size, and share no byte, and its layouts are multiples of their alignments
 -- RuleResults.IsRuleResult: what a call returns by a rule, out of memory aside
 -- Composing.compose_rule: whether a value of a type may be composed of components

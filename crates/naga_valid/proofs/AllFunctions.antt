@@ -75,7 +75,7 @@ module _ (by : Validation) (m : Module) where
     entry_points = none_in_order (λ before i info. IsInfoOf by m (record lists { entry_points = before }) (callable.EntryPoint i) info) lists.entry_points entry_points;
   }
 
-  -- infos of entry points that are added after those of all functions
+  -- infos of entry points that are added after the infos of all functions
   pub added_after : (old between new : ModuleInfoLists) (result : Result (Unit {0}) FunctionsError) → between ≡ record old { functions = between.functions; entry_points = between.entry_points }
       → AddsInfos by m (HaveInfos m) between new result → AddsInfos by m (HaveInfos m) old new result
   added_after old between new result others h = record {

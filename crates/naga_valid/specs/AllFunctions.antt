@@ -33,7 +33,7 @@ IsInfoOf by m lists at info = (f : Function) × (function_of m at ≡ Some f) ×
 abbrev pub EachInOrder : {V : Type 0} → (List V → ℕ → V → Type 0) → List V → Type 0
 EachInOrder {V} P values = (k : ℕ) (v : V) → slice_get values k ≡ Some v → P (take k values) k v
 
--- each info in `lists` is that of the function, or of the entry point, of its index, which is accepted by the infos before it: those of the functions before a function, and those of all functions and the entry points before an entry point
+-- each info in `lists` is the info of the function, or of the entry point, of its index, which is accepted by the infos before it: of the functions before a function, and of all functions and the entry points before an entry point
 pub record AreInfosInOrder (by : Validation) (m : Module) (lists : ModuleInfoLists) : Type 0 where
   pub functions : EachInOrder (λ before i info. IsInfoOf by m (record lists { functions = before; entry_points = [] }) (callable.Function i) info) lists.functions
   pub entry_points : EachInOrder (λ before i info. IsInfoOf by m (record lists { entry_points = before }) (callable.EntryPoint i) info) lists.entry_points
@@ -55,7 +55,7 @@ pub record IsNextRefused (by : Validation) (m : Module) (lists : ModuleInfoLists
   pub there : function_of m error.at ≡ Some function
   pub refused : (error.source ≡ OutOfMemory) ⊎ RefusesFunction (by function lists) error.source
 
--- a call that adds infos to `old` leaves `new`, and returns an error if it can't add all that `Complete` asks for
+-- a call that adds infos to `old` leaves `new`, and returns an error if it can't make `Complete` hold
 pub record AddsInfos (by : Validation) (m : Module) (Complete : ModuleInfoLists → Type 0) (old new : ModuleInfoLists) (result : Result (Unit {0}) FunctionsError) : Type 0 where
   pub others : new ≡ record old { functions = new.functions; entry_points = new.entry_points }
   pub in_order : AreInfosInOrder by m new

@@ -221,7 +221,7 @@ impl<T: Typing> Validator<T> {
         Ok(stages)
     }
 
-    /// Validates the expressions of all functions of an accepted module, and then those of all entry points,
+    /// Validates the expressions of all functions of an accepted module, and then of all entry points,
     /// each as `validate_function_expressions` does, and adds what is known of each to `mod_info`. `mod_info`
     /// is what `validate` or `validate_resolved_overrides` returned for this module, with the same
     /// `overrides_resolved`, and the validator has validated no other module since.

@@ -37,9 +37,9 @@ use naga_typing::typing::Typing;
 /// size, leaf by leaf.
 ///
 /// It holds of types with the flags `DATA`, `SIZED` and `HOST_SHAREABLE` that have a uniform or a
-/// storage layout, if no array inside has a stride below the size of its elements, which is no rule of
+/// storage layout, if no array inside has a stride below the size of its elements, which is not a rule of
 /// modules so far. Nothing is promised if both layouts are errors. An array whose length is an
-/// override that gives no count has no leaves. `length` is that of runtime-sized arrays alone.
+/// override that gives no count has no leaves. `length` is only the length of runtime-sized arrays.
 pub fn leaves<T: Typing>(
     module: &Module,
     validator: &Validator<T>,
@@ -59,7 +59,7 @@ pub fn leaves<T: Typing>(
 ///
 /// It holds of types with the flags `DATA`, `CREATION_RESOLVED` and `HOST_SHAREABLE` that have a
 /// uniform or a storage layout, if no array inside has a stride below the size of its elements, which
-/// is no rule of modules so far. Nothing is promised if both layouts are errors, nor that this number
+/// is not a rule of modules so far. Nothing is promised if both layouts are errors, nor that this number
 /// of bytes fits into 32 bits.
 pub fn leaves_at_length<T: Typing>(
     module: &Module,
@@ -77,8 +77,8 @@ pub fn leaves_at_length<T: Typing>(
 /// When a type can stand in storage buffers, by its leaves. The leaf alignment of a type is the
 /// greatest alignment that a leaf of it has if each array is read with one element. The type has a
 /// storage layout exactly if, for itself and all types inside it, each offset of a member is a
-/// multiple of the leaf alignment of the member's type, each span of that of the struct, and each
-/// stride of that of the elements; the layout is then its leaf alignment.
+/// multiple of the leaf alignment of the member's type, each span of the leaf alignment of the struct, and each
+/// stride of the leaf alignment of the elements; the layout is then its leaf alignment.
 ///
 /// It holds of types with the flags `DATA` and `HOST_SHAREABLE`; these and all types inside them have
 /// leaf alignments. Which error stands in the place of a layout isn't said.
@@ -145,14 +145,14 @@ pub fn struct_flags<T: Typing>(
         (IsConstructibleByElements (global_lists «module».now) validator.now.infos ty) }
 {}
 
-/// The slots of immediate data that a type without arrays uses are those of its leaves. `slots` are the
+/// The slots of immediate data that a type without arrays uses are the slots of its leaves. `slots` are the
 /// slots that a value of the type uses if it begins at byte `offset`, as `ImmediateSlots::from_type`
 /// returns them. A slot is among them exactly if it is one of the 64 that there are, and a leaf of the
 /// value shares a byte with it. If each leaf ends by byte 256, that is all that the leaves share bytes
 /// with.
 ///
 /// It holds of types with the flags `DATA` and `HOST_SHAREABLE`. Of types with arrays inside nothing is
-/// said, since the slots of an array are those of its strides too. `length` is that of runtime-sized
+/// said, since the slots of an array are the slots of its strides too. `length` is the length of runtime-sized
 /// arrays, which such a type has none of.
 pub fn slots_of_leaves<T: Typing>(
     module: &Module,
@@ -177,8 +177,8 @@ pub fn slot_text(slots: ImmediateSlots, other: ImmediateSlots)
 {}
 
 /// Two ranges of bytes, of which one begins where the other ends, use together the slots of the one
-/// range that they make. `first` are the slots of `size` bytes from `offset` on, `next` those of the
-/// `more` bytes after them, and `both` those of all, as `ImmediateSlots::from_range` returns them. Then
+/// range that they make. `first` are the slots of `size` bytes from `offset` on, `next` the slots of the
+/// `more` bytes after them, and `both` the slots of all, as `ImmediateSlots::from_range` returns them. Then
 /// `first | next` is `both`.
 ///
 /// It holds at sums past 32 bits too.
@@ -196,9 +196,9 @@ pub fn ranges_join(
     ensures { record { 0 = bit_or first.0 next.0 } ≡ both }
 {}
 
-/// The functions of an accepted module can be judged by `Validator::validate_function_expressions`, in
+/// The functions of an accepted module can be validated by `Validator::validate_function_expressions`, in
 /// order, each once the infos of all functions before it are pushed to what `validate` returned, and its
-/// entry points once those of all functions are. `mod_info` is what `validate` returned; a push of
+/// entry points once the infos of all functions are. `mod_info` is what `validate` returned; a push of
 /// functions or entry points leaves the flags of types as they are.
 pub fn functions<T: Typing>(
     module: &Module,

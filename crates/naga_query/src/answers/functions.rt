@@ -94,7 +94,7 @@ fn add_whole(answer: &mut String, validated: &Validated) -> Result<(), OutOfMemo
     }
 }
 
-/// Whether an expression is no argument past the first `count`.
+/// Whether an expression is not an argument past the first `count`.
 fn argument_exists(expression: &Expression, count: usize) -> bool
     ensures { IsTrue result → (i : ℕ) → expression.now ≡ form.FunctionArgument i → i < count }
 {

@@ -24,7 +24,7 @@ use std::process::Abort;
 use std::test::Fail;
 
 /// Validates a module, and calls each law of modules. If the module is accepted, the leaves of a type are
-/// separate, its layouts are by its leaves, and its flags by those of its members or elements.
+/// separate, its layouts follow from its leaves, and its flags from the flags of its members or elements.
 fn validate_with_laws(
     validator: &mut Validator,
     module: &Module,
@@ -53,7 +53,7 @@ fn validate_with_laws(
     Ok(())
 }
 
-/// The slots that a value of a type uses from byte 0 on: those of its leaves, if no array is inside.
+/// The slots that a value of a type uses from byte 0 on: the slots of its leaves, if no array is inside.
 fn slots_of(validator: &Validator, module: &Module, ty: Handle<TypeTag>) -> ImmediateSlots
     requires accepted { AreValidTypes «module».now (settings_of validator.now false) validator.now.infos }
     requires exists { ty < length «module».now.types }

@@ -1,9 +1,9 @@
 //! What is returned if memory is refused, by calls on values that are used again afterwards. Their contracts say that a
 //! refused call leaves the value as it was, and not that the next call succeeds. All other calls are made by the
-//! queries in `examples/refused`, but for those on names of members, which no text gives.
+//! queries in `examples/refused`, except those on names of members, which no text gives.
 //!
 //! Each scenario makes sure that every result is right, or says that memory was refused, and that the next call then
-//! succeeds, and returns whether memory was refused. Two tests run them all, and the second asks that nothing was
+//! succeeds, and returns whether memory was refused. Two tests run them all, and the second checks that nothing was
 //! refused. `scripts/refused-memory` runs both with one request after another refused, until the second passes too.
 
 use super::assert_references_ok;
@@ -132,7 +132,7 @@ fn is_refused_in_call(rt: &impl Abort, validator: &mut Validator, module: &Modul
     is_of_memory(rt, &error)
 }
 
-/// Refused memory leaves the validator as after `reset`, and its next result is that of a fresh one.
+/// Refused memory leaves the validator as after `reset`, and its next result is the result of a fresh one.
 fn is_refused_in_calls(rt: &(impl AllocGlobal + Abort), module: &Module) -> bool {
     let mut refused = false;
     let flags = ValidationFlags::default();
@@ -260,7 +260,7 @@ fn is_refused_in_a_function(rt: &(impl AllocGlobal + Abort)) -> bool {
 }
 
 /// Adds infos of alignments of 1 and 2 bytes by turns, and returns whether one was refused, which leaves
-/// the infos as they were. One request alone is refused in a test, so the next call succeeds.
+/// the infos as they were. Only one request is refused in a test, so the next call succeeds.
 fn are_pushes_refused(rt: &impl Abort, infos: &mut TypeInfos) -> bool {
     let mut refused = false;
     for index in 0..40 {
@@ -287,7 +287,7 @@ fn is_refused_in_type_infos(rt: &(impl AllocGlobal + Abort)) -> bool {
     }
 }
 
-/// Whether memory was refused for a path to the leaves of the last type. One request alone is refused in
+/// Whether memory was refused for a path to the leaves of the last type. Only one request is refused in
 /// a test, so the next call has the leaf.
 fn are_leaves_refused(rt: &impl Abort, alloc: Global, module: &Module) -> bool {
     assert_references_ok(rt, alloc, module);

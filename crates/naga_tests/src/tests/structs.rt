@@ -64,7 +64,7 @@ fn add_lights(
 }
 
 /// The result for a struct that begins with an array without a length, of this name.
-fn judged_lights(
+fn validated_lights(
     rt: &impl Abort,
     alloc: Global,
     name: Option<&str>,
@@ -76,9 +76,9 @@ fn judged_lights(
 }
 
 #[test]
-fn structs_that_no_text_describes_are_judged(rt: HostRuntime) -> Result<(), Fail> {
+fn structs_that_no_text_describes_are_validated(rt: HostRuntime) -> Result<(), Fail> {
     for (name, want) in [(Some(""), ""), (Some("lights"), "lights")] {
-        let result = judged_lights(&rt, rt.alloc(), name)?;
+        let result = validated_lights(&rt, rt.alloc(), name)?;
         let want = Text::from_string(String::from_str(rt.alloc(), want)?);
         let refused = TypeError::InvalidDynamicArray(want, Handle::new(1));
         assert_same(&rt, &result, &Err(refused));

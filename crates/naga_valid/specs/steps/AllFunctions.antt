@@ -7,7 +7,7 @@ use Rattle.naga_valid.specs.AllFunctions.{IsInfoOf, Validation}
 use Rattle.naga_valid.specs.declared.function.Callable.{Callable}
 use Rattle.naga_valid.specs.declared.function.Callable.TheVariants as callable
 
--- `lists` with the info of a function or an entry point behind those of its kind
+-- `lists` with the info of a function or an entry point behind the infos of its kind
 abbrev pub with_info : ModuleInfoLists → Callable → FunctionInfo → ModuleInfoLists
 with_info lists (callable.Function i) info = record lists { functions = lists.functions ++ info ∷ [] }
 with_info lists (callable.EntryPoint i) info = record lists { entry_points = lists.entry_points ++ info ∷ [] }

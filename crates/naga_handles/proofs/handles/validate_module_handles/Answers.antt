@@ -7,7 +7,7 @@ use Rattle.naga_handles.proofs.HandleVerdict.{decides}
 use Rattle.naga_handles.specs.declared.error.ValidationFault.{ValidationFault}
 use Rattle.naga_handles.proofs.handles.validate_module_handles.Goals as goal
 
--- if the handles of a module are right, so are those of its global lists
+-- if the handles of a module are right, the handles of its global lists are
 on_ok : (m : Module) (result : Result (Unit {0}) ValidationFault) → OnOk result (HandlesAccepted m) → OnOk result (GlobalReferencesOk (global_lists m))
 on_ok m (Ok _) h = global_references_ok m h
 on_ok m (Err _) h = tt
