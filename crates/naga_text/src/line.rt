@@ -154,7 +154,8 @@ fn fixed_line(keyword: &[u8], words: &[&[u8]]) -> Option<Line>
     }
 }
 
-/// The line of a keyword and of the words after it.
+/// The line of a keyword and of the words after it. It is apart from `read_line`, whose two clauses follow from
+/// the one here.
 fn keyword(alloc: Global, words: &[&[u8]]) -> Result<Option<Line>, OutOfMemory>
     ensures { IfOk result (λ read. read ≡ line_of (map (λ w. w.now) words.now)) }
 {

@@ -262,7 +262,8 @@ impl<T: Typing> Validator<T> {
         self.validate_impl(module, true)
     }
 
-    /// What both calls do: validates, and resets after a refusal.
+    /// What both calls do: validates, and resets after a refusal. The rules are a function of their own, since
+    /// each of them leaves by `?`.
     fn validate_impl(
         &mut self,
         module: &Module,
