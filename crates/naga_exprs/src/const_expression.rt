@@ -113,7 +113,8 @@ fn check_form<T: Typing>(
     requires typed { handle ≤ length mod_info.now.lists.const_expression_types }
     requires types { All (TypesExist gctx.types.now) mod_info.now.lists.const_expression_types }
     ensures { IfSome (slice_get gctx.entry.global_expressions.now handle) (λ x. result ≡ first_error_or
-        (form_checks (surroundings ctx.entry gctx.entry mod_info.now.lists.const_expression_types kinds.now) handle x) tt) }
+        (form_checks (surroundings ctx.entry gctx.entry mod_info.now.lists.const_expression_types kinds.now)
+        handle x) tt) }
 {
     match &gctx.global_expressions[handle] {
         Expression::Literal(literal) => Ok(validate_literal(ctx.capabilities, *literal)?),

@@ -57,7 +57,8 @@ use std::alloc::Global;
 /// comments. `MissingMember` is of a comment on a member. `OutOfMemory` if memory was refused, which
 /// can only be if the module has overrides or a `MissingMember` is due.
 pub fn validate_module_handles(alloc: Global, module: &Module) -> Result<(), ValidationFault>
-    ensures result { UnlessOutOfMemory (λ fault. (fault ≡ ValidationFault.OutOfMemory) × NeedsMemory «module».now) result
+    ensures result { UnlessOutOfMemory (λ fault. (fault ≡ ValidationFault.OutOfMemory) × NeedsMemory «module».now)
+        result
         (λ _. HandlesAccepted «module».now)
         (λ fault. IsFault «module».now fault × (HandlesAccepted «module».now → ⊥)) }
     ensures references { OnOk result (GlobalReferencesOk (global_lists «module».now)) }

@@ -153,7 +153,8 @@ pub fn leaf_at(module: &Module, ty: Handle<TypeTag>, path: &[u32], length: u32) 
     requires exists { ty < length_of «module».now.types }
     requires references { GlobalReferencesOk (global_lists «module».now) }
     ensures { MatchOption result
-        (IfSome (spec.leaf_at (global_lists «module».now) (elements (global_lists «module».now) length) ty path.now) (λ leaf. largest_u64 < leaf.first))
+        (IfSome (spec.leaf_at (global_lists «module».now) (elements (global_lists «module».now) length) ty path.now)
+        (λ leaf. largest_u64 < leaf.first))
         (λ leaf. spec.leaf_at (global_lists «module».now) (elements (global_lists «module».now) length) ty path.now
         ≡ Some (bytes_of leaf)) }
 {

@@ -194,7 +194,8 @@ impl<T: Typing> Validator<T> {
         ensures { let s = function_surroundings (T.resolves self.now.typing)
             (math_typing (T.accepts_types self.now.typing) (T.least_arguments self.now.typing))
             self.now overrides_resolved «module».now function.now mod_info.now.lists in
-            UnlessOutOfMemory (λ e. e ≡ FunctionError.OutOfMemory) result (λ common. AllowInCommon s info.now.types common)
+            UnlessOutOfMemory (λ e. e ≡ FunctionError.OutOfMemory) result
+            (λ common. AllowInCommon s info.now.types common)
             (λ e. IsFirstBreachAs s info.now.types e) }
     {
         let kinds = ExpressionKindTracker::from_arena(self.alloc, &function.expressions)?;
