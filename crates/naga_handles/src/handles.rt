@@ -58,8 +58,7 @@ use std::alloc::Global;
 /// can only be if the module has overrides or a `MissingMember` is due.
 pub fn validate_module_handles(alloc: Global, module: &Module) -> Result<(), ValidationFault>
     ensures result { UnlessOutOfMemory (λ fault. (fault ≡ ValidationFault.OutOfMemory) × NeedsMemory «module».now)
-        result
-        (λ _. HandlesAccepted «module».now)
+        result (λ _. HandlesAccepted «module».now)
         (λ fault. IsFault «module».now fault × (HandlesAccepted «module».now → ⊥)) }
     ensures references { OnOk result (GlobalReferencesOk (global_lists «module».now)) }
 {
