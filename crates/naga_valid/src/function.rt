@@ -335,15 +335,19 @@ impl<T: Typing> Validator<T> {
             IfErr result (IsNextRefused by «module».now mod_info.old.lists) }
     {
         let function = at.function(module);
-        match self.validate_function_expressions(module, mod_info, function, overrides_resolved) {
-            Ok(info) => match add_info(mod_info, at, info) {
-                Ok(()) => Ok(()),
-                Err(OutOfMemory) => Err(FunctionsError {
-                    at,
-                    source: FunctionError::OutOfMemory,
-                }),
-            },
-            Err(source) => Err(FunctionsError { at, source }),
+        let info = match self.validate_function_expressions(
+            module,
+            mod_info,
+            function,
+            overrides_resolved,
+        ) {
+            Ok(info) => info,
+            Err(source) => return Err(FunctionsError { at, source }),
+        };
+        if add_info(mod_info, at, info).is_err() {
+            let source = FunctionError::OutOfMemory;
+            return Err(FunctionsError { at, source });
         }
+        Ok(())
     }
 }
