@@ -1,5 +1,6 @@
 -- The flags of structs and arrays, by the flags of their members and elements.
 use Rattle.std.specs.Prelude.{◌≡◌, ◌↔◌, ℕ, true, List, Some, All, Contains, bit_and, slice_get}
+use Rattle.std.specs.declared.num.NonZeroU32.{NonZeroU32}
 use Rattle.naga_flags.specs.Bits.{CONSTRUCTIBLE, IO_SHAREABLE}
 use Rattle.naga_flags.specs.Flags.{has}
 use Rattle.naga_ir.specs.ItemReferences.{GlobalLists}
@@ -27,7 +28,7 @@ IsConstructibleAt infos t = IsConstructible (info_in (slice_get infos t))
 
 -- `size` is a constant
 abbrev pub IsConstantSize : ArraySize → Type 0
-IsConstantSize size = (n : ℕ) × (size ≡ Constant n)
+IsConstantSize size = (n : NonZeroU32) × (size ≡ Constant n)
 
 -- if the type of index `t` is a struct, its `info` is constructible exactly if the types of all members are, by `infos`
 abbrev pub IsConstructibleByMembers : GlobalLists → List TypeInfo → ℕ → TypeInfo → Type 0
