@@ -10,7 +10,7 @@ ghost use Rattle.naga_types.specs.Layouts as layouts;
 ghost use Rattle.naga_types.specs.StructRule as rule;
 ghost use Rattle.naga_types.specs.Surroundings.{info_at, surroundings};
 ghost use Rattle.naga_types.specs.steps.KnownTypes.{KnownBefore};
-ghost use Rattle.naga_types.specs.steps.Structs.{MembersKnown, is_noted, layout_in, sources_of, surroundings_of, with_member};
+ghost use Rattle.naga_types.specs.steps.Structs.{MembersKnown, alignment_in, is_noted, layout_in, sources_of, surroundings_of, with_member};
 ghost use Rattle.naga_typing.specs.Context.{lists_of};
 
 use crate::error::{Disalignment, TypeError, VaryingError, saturated};
@@ -352,17 +352,19 @@ impl StructType<'_> {
         compatibility
     }
 
-    /// Checks that a member is host-shareable, and stands at a multiple of its alignment.
+    /// Checks that a member is host-shareable, and stands at a multiple of its alignment, which is
+    /// returned.
     fn check_layout(
         &self,
         space: SharedSpace,
         index: usize,
         member: &StructMember,
-    ) -> Result<(), (Handle<TypeTag>, Disalignment)>
+    ) -> LayoutCompatibility
         requires known { MembersKnown self.now }
         requires before { member.now.ty < self.now.handle }
-        ensures { result ≡ ok_unless (layouts.member_layout_error (surroundings_of self.now) (layout_in space)
-            self.now.handle (index, member.now)) tt }
+        ensures { let s = surroundings_of self.now in result
+            ≡ ok_unless (layouts.member_layout_error s (layout_in space) self.now.handle (index, member.now))
+            (alignment_in space (info_at s member.now.ty)) }
     {
         let info = self.info(member);
         if !info.flags.contains(TypeFlags::HOST_SHAREABLE) {
@@ -370,7 +372,7 @@ impl StructType<'_> {
         }
         let alignment = space.layout(info)?;
         if alignment.is_aligned(member.offset) {
-            return Ok(());
+            return Ok(alignment);
         }
         Err((
             self.handle,
@@ -382,30 +384,19 @@ impl StructType<'_> {
         ))
     }
 
-    /// Checks so all members.
-    fn check_layouts(&self, space: SharedSpace) -> Result<(), (Handle<TypeTag>, Disalignment)>
+    /// Checks the layout of every member, and returns their greatest alignment.
+    fn check_layouts(&self, space: SharedSpace) -> LayoutCompatibility
         requires { MembersKnown self.now }
-        ensures { result ≡ first_error_or
-            (layouts.member_layout_errors (surroundings_of self.now) (layout_in space) self.now.handle
-            self.now.members.now) tt }
-    {
-        for index in 0..self.members.len() {
-            self.check_layout(space, index, &self.members[index])?;
-        }
-        Ok(())
-    }
-
-    /// The greatest alignment of the members.
-    fn greatest_alignment(&self, space: SharedSpace) -> Alignment
-        requires { MembersKnown self.now }
-        ensures { result ≡ layouts.greatest_alignment (surroundings_of self.now) (layout_in space)
-            self.now.members.now }
+        ensures { let s = surroundings_of self.now in result
+            ≡ first_error_or (layouts.member_layout_errors s (layout_in space) self.now.handle self.now.members.now)
+            (layouts.greatest_alignment s (layout_in space) self.now.members.now) }
     {
         let mut greatest = Alignment::ONE;
-        for member in self.members {
-            greatest = greatest.max(space.layout(self.info(member)).unwrap_or(Alignment::ONE));
+        for index in 0..self.members.len() {
+            let alignment = self.check_layout(space, index, &self.members[index])?;
+            greatest = greatest.max(alignment);
         }
-        greatest
+        Ok(greatest)
     }
 
     /// Checks that the span is a multiple of the struct's alignment.
@@ -433,8 +424,7 @@ impl StructType<'_> {
             self.now.span }
     {
         self.check_span()?;
-        self.check_layouts(SharedSpace::Storage)?;
-        Ok(self.greatest_alignment(SharedSpace::Storage))
+        self.check_layouts(SharedSpace::Storage)
     }
 
     /// The first offset that the member at a place may have after the struct before it, and 0 if no
@@ -517,12 +507,9 @@ impl StructType<'_> {
         if let Some(error) = self.last_in_room() {
             return Err(error);
         }
-        self.check_layouts(SharedSpace::Uniform)?;
+        let greatest = self.check_layouts(SharedSpace::Uniform)?;
         self.check_sizes()?;
-        Ok(
-            self.greatest_alignment(SharedSpace::Uniform)
-                .max(Alignment::MIN_UNIFORM),
-        )
+        Ok(greatest.max(Alignment::MIN_UNIFORM))
     }
 }
 

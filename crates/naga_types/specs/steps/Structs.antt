@@ -1,6 +1,7 @@
 -- A struct as the code validates it.
 use Rattle.std.specs.Prelude.{◌<◌, All, ℕ, zero, suc, Bool, List, Option, is_some}
 use Rattle.std.specs.Option.{option_or}
+use Rattle.std.specs.Result.{result_unwrap_or}
 use Rattle.naga_ir.specs.declared.types.StructMember.{StructMember}
 use Rattle.naga_types.specs.Layouts.{Layout, in_storage, in_uniform}
 use Rattle.naga_types.specs.StructRule.{source_of, source_type, type_of_source}
@@ -24,6 +25,10 @@ MembersKnown x = KnownBefore (surroundings_of x) x.handle × All (λ (m : Struct
 abbrev pub layout_in : SharedSpace → TypeInfo → Layout
 layout_in Uniform = in_uniform
 layout_in Storage = in_storage
+
+-- the alignment of a type with this info in `space`, and 1 if it has none there
+abbrev pub alignment_in : SharedSpace → TypeInfo → ℕ
+alignment_in space info = result_unwrap_or (layout_in space info) 1
 
 -- the sources of blending among members
 abbrev pub sources_of : List StructMember → Sources
