@@ -7,19 +7,19 @@ use Rattle.naga_exprs.proofs.const_expression.check_form.Goals as goal
 
 pub validate_compose_at-requires-clause-there : goal.validate_compose_at-requires-clause-there
 validate_compose_at-requires-clause-there g c =
-    type_exists (lists_of c.args.gctx) c.requires.references c.args.handle (length c.args.mod_info.now.lists.const_expression_types) c.args.expression.now c.requires.there c.requires.typed c.in-Compose.ty _ c.in-Compose.is
+    type_exists (lists_of c.args.gctx) c.requires.references c.args.handle (length c.args.mod_info.now.lists.const_expression_types) c.index.result.now c.index.ensures c.requires.typed c.in-Compose.ty _ c.in-Compose.is
 
 pub validate_compose_at-requires-clause-components :
     goal.validate_compose_at-requires-clause-components
 validate_compose_at-requires-clause-components g c =
     let n = length c.args.mod_info.now.lists.const_expression_types in
-    let before = components_before (lists_of c.args.gctx) c.requires.references c.args.handle n c.args.expression.now c.requires.there c.requires.typed c.in-Compose.ty c.in-Compose.components c.in-Compose.is in
+    let before = components_before (lists_of c.args.gctx) c.requires.references c.args.handle n c.index.result.now c.index.ensures c.requires.typed c.in-Compose.ty c.in-Compose.components c.in-Compose.is in
     subst (λ (os : List ℕ). All (λ o. o < length c.const_expression_types-types.result.now) os) (sym c.as_slice.ensures)
     (subst (λ (m : ℕ). All (λ o. o < m) c.in-Compose.components) (sym (ap length c.const_expression_types-types.ensures)) before)
 
-pub index-requires : goal.index-requires
-index-requires g c =
-    splatted_before (lists_of c.args.gctx) c.requires.references c.args.handle (length c.args.mod_info.now.lists.const_expression_types) c.args.expression.now c.requires.there c.requires.typed _ c.in-Splat.value c.in-Splat.is
+pub index-requires-in-Splat : goal.index-requires-in-Splat
+index-requires-in-Splat g c =
+    splatted_before (lists_of c.args.gctx) c.requires.references c.args.handle (length c.args.mod_info.now.lists.const_expression_types) c.index.result.now c.index.ensures c.requires.typed _ c.in-Splat.value c.in-Splat.is
 
 pub check_splat-requires : goal.check_splat-requires
-check_splat-requires g c = all_at (TypesExist c.args.gctx.types.now) c.args.mod_info.now.lists.const_expression_types c.in-Splat.value c.index.result.now c.requires.types c.index.ensures
+check_splat-requires g c = all_at (TypesExist c.args.gctx.types.now) c.args.mod_info.now.lists.const_expression_types c.in-Splat.value c.index-in-Splat.result.now c.requires.types c.index-in-Splat.ensures
