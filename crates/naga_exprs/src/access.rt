@@ -30,6 +30,7 @@ use naga_typing::index::{
 fn has_parts(inner: &TypeInner) -> bool
     ensures { result ≡ rule.has_parts inner.now }
 {
+    // naga takes any pointer: what it leads to only matters for a constant index.
     match inner {
         TypeInner::Vector { .. }
         | TypeInner::Matrix { .. }
@@ -122,6 +123,7 @@ pub fn validate_access(
     ensures { IsAccessRule (surroundings context.entry) base index result }
 {
     let base_type = context.type_of(base);
+    // A base without a length is only wrong for a constant index, so there is no `?`.
     let length = indexable_length(context.overrides_resolved, base_type, context.module);
     if !has_parts(base_type) {
         return Err(ExpressionError::InvalidBaseType(base));
@@ -170,6 +172,7 @@ fn index_limit(inner: &TypeInner, module: &Module) -> Option<usize>
     requires exist { ReferencesExist (global_lists «module».now) inner.now }
     ensures { result ≡ rule.index_limit «module».now.types inner.now }
 {
+    // One step only (naga): a pointer to a pointer has no parts at known indexes.
     if let TypeInner::Pointer { base, .. } = inner {
         return part_limit(&module.types[*base].inner);
     }

@@ -65,6 +65,7 @@ fn check_evaluated(
         (when (overrides_resolved || is_const (slice_get kinds.now handle)) (Some refusal.NonFullyEvaluatedConst)
         ∷ []) tt }
 {
+    // Front ends evaluate all else, so only what waits for overrides may be left (naga).
     if overrides_resolved || kinds.is_const(handle) {
         return Err(ConstExpressionError::NonFullyEvaluatedConst);
     }

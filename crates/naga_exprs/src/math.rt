@@ -22,6 +22,7 @@ use naga_typing::typing::Typing;
 fn check_capability(capabilities: Capabilities, fun: MathFunction) -> Result<(), ExpressionError>
     ensures { result ≡ ok_unless (rule.float16_error capabilities.0 fun) tt }
 {
+    // These need no type of 16 bits, only halves within 32 bits: a capability of its own.
     let keeps_float16 = matches!(
         fun,
         MathFunction::QuantizeToF16 | MathFunction::Pack2x16float | MathFunction::Unpack2x16float
@@ -69,6 +70,7 @@ fn validate_arguments<T: Typing>(
         (map (λ t. t.now) types.now) arguments.now) stages.every_stage }
 {
     check_arguments(typing, fun, arguments, types)?;
+    // The arguments decide which overloads are left, and with them how many are required.
     if types.len() < typing.min_arguments(fun, types) {
         return Err(ExpressionError::WrongArgumentCount(fun));
     }

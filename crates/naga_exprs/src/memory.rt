@@ -97,6 +97,7 @@ pub fn validate_array_length(
     requires array { array < length context.info.now.types }
     ensures { result ≡ array_length_rule (surroundings context.entry) array }
 {
+    // A runtime-sized array is never a value, so it is given by a pointer.
     let TypeInner::Pointer { base, .. } = context.type_of(array) else {
         return Err(ExpressionError::InvalidArrayType(array));
     };

@@ -14,11 +14,12 @@ use naga_ir::ir::Module;
 use naga_ir::tags::ExpressionTag;
 use naga_ir::types::{AddressSpace, TypeInner};
 
-/// Whether a type is a ray query, which gives the vertices of a hit if these are wanted.
+/// Whether a type is a ray query, and if `vertices` is true, one that gives the vertices of a hit.
 fn is_ray_query(inner: &TypeInner, vertices: bool) -> bool
     ensures { result ≡ rule.is_ray_query vertices (Some inner.now) }
 {
     match inner {
+        // A query that returns vertices may be read without them, but not the other way round.
         TypeInner::RayQuery { vertex_return } => *vertex_return || !vertices,
         TypeInner::Scalar(_)
         | TypeInner::Vector { .. }

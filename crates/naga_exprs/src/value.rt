@@ -119,6 +119,7 @@ pub fn validate_call_result(
     requires { function < length context.mod_info.now.lists.functions }
     ensures { result ≡ rule.call_stages (surroundings context.entry) function }
 {
+    // Functions are validated in order, so the stages of the callee are known.
     context.mod_info[function].available_stages
 }
 

@@ -130,6 +130,7 @@ impl Scope {
           target = reference;
         }) result }
     {
+        // WGSL has no recursion, so a function may only call those before it.
         if let (Some(caller), Reference::Function(function)) = (self.caller, reference) {
             check_dep(caller, function)
         } else {
@@ -169,6 +170,7 @@ fn validate_expression_handles(
     ensures { ChecksEach IsResult (expression_checks scope.now.counts scope.now.caller (handle, expression.now))
         result }
 {
+    // Operands precede the expression, so that one pass in order can type all of them.
     check_operands(handle, expression)?;
     scope.check_all(&[
         expression.named_type().map(Reference::Type_),
@@ -275,7 +277,7 @@ fn mesh_references(entry_point: &EntryPoint) -> [Option<Reference>; 5]
     }
 }
 
-/// Whether what an entry point refers to exists, its function aside.
+/// Whether what an entry point refers to exists, except what its function refers to.
 fn validate_stage(scope: &Scope, entry_point: &EntryPoint) -> Result<(), InvalidHandleError>
     ensures { ChecksEach IsResult (checks_in scope.now (entry_point_references entry_point.now)) result }
 {
@@ -292,6 +294,7 @@ fn validate_entry_point_handles(
 {
     let scope = Scope::of_function(module, None, &entry_point.function);
     validate_function_handles(&scope, &entry_point.function)?;
+    // The expressions that are left are global, so those of the function are out of scope.
     validate_stage(&Scope::of_module(module), entry_point)
 }
 
@@ -311,6 +314,7 @@ fn validate_functions(module: &Module) -> Result<(), InvalidHandleError>
 fn validate_code(module: &Module) -> Result<(), InvalidHandleError>
     ensures { ChecksEach IsResult (code_checks «module».now) result }
 {
+    // Entry points come before the functions that they call, since naga reports them first.
     try_each(
         module.entry_points.as_slice(),
         &|entry_point: &EntryPoint| validate_entry_point_handles(module, entry_point),
@@ -348,6 +352,7 @@ fn validate_special_types(
         special_types.ray_intersection.map(Reference::Type_),
         special_types.ray_vertex_return.map(Reference::Type_),
     ])?;
+    // naga doesn't check the types in this list.
     try_each(
         special_types.others.as_slice(),
         &|ty: &Handle<TypeTag>| scope.check(Reference::Type_(*ty)),
@@ -379,7 +384,7 @@ fn validate_filters(module: &Module) -> Result<(), InvalidHandleError>
     ])
 }
 
-/// Whether the items exist that comments document by a handle, the types of members aside.
+/// Whether the items exist that comments document by a handle, except the types of members.
 fn validate_documented(scope: &Scope, comments: &DocComments) -> Result<(), InvalidHandleError>
     ensures { ChecksEach IsResult (checks_in scope.now (documented_references comments.now)) result }
 {
@@ -387,6 +392,7 @@ fn validate_documented(scope: &Scope, comments: &DocComments) -> Result<(), Inva
         comments.types.as_slice(),
         &|comment: &(Handle<TypeTag>, List<Text>)| scope.check(Reference::Type_(comment.0)),
     )?;
+    // naga checks functions and what follows only if a member is documented (nested loops).
     try_each(
         comments.functions.as_slice(),
         &|comment: &(Handle<FunctionTag>, List<Text>)| scope.check(Reference::Function(comment.0)),
@@ -440,7 +446,7 @@ fn validate_documented_entry_points(module: &Module) -> Result<(), InvalidHandle
     )
 }
 
-/// What an error says in place of the name of a type without one (naga).
+/// What an error shows in place of the name of a type without one (naga).
 fn wrong_text(inner: &TypeInner) -> &'static str
     ensures { result.now ≡ text_of_unnamed inner.now }
 {
@@ -450,7 +456,7 @@ fn wrong_text(inner: &TypeInner) -> &'static str
     }
 }
 
-/// The name of a type as an error says it.
+/// The name of a type as an error shows it.
 fn name_of(alloc: Global, ty: &Type) -> Result<Text, OutOfMemory>
     ensures { IfOk result (λ name. name ≡ display_name ty.now) }
 {

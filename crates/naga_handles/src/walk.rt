@@ -85,6 +85,7 @@ fn check_size(
     };
     check_exists(module, Reference::Override(size))?;
     let sizing = &module.overrides[size];
+    // The count is a value of the override's type, so that type comes before this one too.
     check_dep(handle, sizing.ty)?;
     let Some(last) = sizing.init else {
         return Ok(None);
@@ -110,6 +111,7 @@ fn check_item(
     let Some(init) = initialiser(module, expression) else {
         return Ok(());
     };
+    // The initialiser is a global expression too: a later one could lead back to this.
     check_dep(handle, init)?;
     Ok(())
 }
@@ -123,6 +125,7 @@ fn check_gate(handle: Handle<TypeTag>, expression: &Expression) -> Result<(), In
     let Some(ty) = expression.named_type() else {
         return Ok(());
     };
+    // This type's size may need the expression, so a later type in it could make a cycle.
     check_dep(handle, ty)?;
     Ok(())
 }
@@ -145,7 +148,7 @@ fn check_named_type(
     Ok(())
 }
 
-/// Whether the references of an expression are right, its type aside.
+/// Whether the references of an expression are right, except the type that it names.
 fn check_expression(
     module: &Module,
     handle: Handle<ExpressionTag>,
@@ -212,6 +215,7 @@ impl Walker {
         ensures counted { OnOk result (self.new.reader.reads ≡ handle + 1 + self.new.visited) }
         ensures refused { IfErr result (IsOrderFault «module».now) }
     {
+        // Expressions visited before were held to an earlier type, which is stricter.
         for index in self.visited..last.index() + 1 {
             let place = Handle::new(index as u32);
             let expression = self.reader.expression_at(module, place);
@@ -276,6 +280,7 @@ pub(crate) fn walk(module: &Module) -> Result<(), InvalidHandleError>
     for index in 0..module.types.len() {
         walker.visit_type(module, Handle::new(index as u32))?;
     }
+    // What no type needs comes last, so that it may name every type.
     walker.visit_rest(module)?;
     Ok(())
 }

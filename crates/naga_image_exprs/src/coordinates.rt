@@ -51,7 +51,7 @@ pub(crate) fn is_index(inner: &TypeInner) -> bool
     }
 }
 
-/// Checks that a layer is chosen of an image that has several, and of no other.
+/// Checks that an array layer is chosen of an image that has several, and of no other.
 fn check_layer(arrayed: bool, has_index: bool) -> Result<(), ExpressionError>
     ensures { result ≡ ok_unless (rule.layer_presence_error arrayed has_index) tt }
 {
@@ -61,7 +61,7 @@ fn check_layer(arrayed: bool, has_index: bool) -> Result<(), ExpressionError>
     Ok(())
 }
 
-/// Checks the index of the layer that is sampled, which may be an integer of any width.
+/// Checks the index of the array layer that is sampled, which may be an integer of any width.
 pub(crate) fn check_sampled_layer(
     context: FunctionContext<'_>,
     arrayed: bool,
@@ -81,7 +81,7 @@ pub(crate) fn check_sampled_layer(
     }
 }
 
-/// Checks the index of the layer of which a texel is loaded: an integer of 32 bits.
+/// Checks the index of the array layer of which a texel is loaded: an integer of 32 bits.
 pub(crate) fn check_loaded_layer(
     context: FunctionContext<'_>,
     arrayed: bool,

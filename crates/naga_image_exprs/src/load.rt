@@ -28,6 +28,7 @@ fn check_coordinate(
     requires known { coordinate < length context.info.now.types }
     ensures { result ≡ ok_unless (rule.coordinate_error (surroundings context.entry) dim coordinate) tt }
 {
+    // No type is the coordinates of a cube, so nothing is loaded from one.
     match image_storage_coordinates(context.type_of(coordinate)) {
         Some(found) if found == dim => Ok(()),
         Some(_) | None => Err(ExpressionError::InvalidImageCoordinateType(dim, coordinate)),
@@ -87,11 +88,11 @@ fn check_level(
 ///
 /// - `ExpectedGlobalVariable` if what is loaded from is not a variable of the module, an argument, or an
 ///   element of such a variable. `ExpectedBindingArrayType` if it is an element of a variable that is not
-///   binding array.
+///   a binding array.
 /// - `ExpectedImageType` if it is not an image.
 /// - `InvalidImageCoordinateType` if the coordinates are not as many integers as the image has dimensions.
 ///   Nothing is loaded from cubes.
-/// - `InvalidImageArrayIndex` if the image has layers and none is chosen, or the other way round.
+/// - `InvalidImageArrayIndex` if the image has array layers and none is chosen, or the other way round.
 ///   `InvalidImageArrayIndexType` if the index of the array layer is not an integer of 32 bits.
 /// - `InvalidImageSampleSelector` if a sample is chosen of an image that isn't multisampled, and
 ///   `MissingImageSampleSelector` if none is chosen of one that is. `InvalidImageOtherIndexType` if the
@@ -111,6 +112,7 @@ pub fn validate_image_load(
     ensures { result ≡ rule.image_load_rule (surroundings context.entry) image coordinate array_index sample level }
 {
     let found = image_at(context, image)?;
+    // naga checks the coordinates before the array layer here, unlike in a sample.
     check_coordinate(context, found.dim, coordinate)?;
     check_loaded_layer(context, found.arrayed, array_index)?;
     check_sample(context, found.class, sample)?;

@@ -27,6 +27,7 @@ fn check_level(
     requires known { level < length context.info.now.types }
     ensures { result ≡ ok_unless (rule.level_error (surroundings context.entry) image level) tt }
 {
+    // naga looks at the type of the level before it looks at the image.
     if !is_index(context.type_of(level)) {
         return Err(ExpressionError::InvalidImageOtherIndexType(level));
     }
@@ -59,17 +60,17 @@ fn check_query(
     Ok(())
 }
 
-/// The stages that may use a query of an image: its size, or the number of its levels, layers or samples
-/// (WGSL "textureDimensions", "textureNumLevels", "textureNumLayers" and "textureNumSamples").
+/// The stages that may use a query of an image: its size, or the number of its levels, array layers or
+/// samples (WGSL "textureDimensions", "textureNumLevels", "textureNumLayers" and "textureNumSamples").
 ///
 /// # Errors
 ///
 /// - `ExpectedGlobalVariable` if what is queried is not a variable of the module, an argument, or an
 ///   element of such a variable. `ExpectedBindingArrayType` if it is an element of a variable that is not
-///   binding array.
+///   a binding array.
 /// - `ExpectedImageType` if it is not an image.
 /// - `InvalidImageOtherIndexType` if the level whose size is queried is not an integer of 32 bits.
-/// - `InvalidImageClass` if levels are queried of an image that can't have several, layers of one that
+/// - `InvalidImageClass` if levels are queried of an image that can't have several, array layers of one that
 ///   isn't arrayed, or samples of one that isn't multisampled.
 pub fn validate_image_query(
     context: FunctionContext<'_>,

@@ -16,7 +16,7 @@ use naga_ir::types::{ImageClass, ImageDimension, TypeInner};
 #[derive(Clone, Copy, Debug)]
 pub struct ImageType {
     pub dim: ImageDimension,
-    /// Whether it has several layers.
+    /// Whether it has several array layers.
     pub arrayed: bool,
     /// What it holds.
     pub class: ImageClass,
@@ -61,6 +61,7 @@ fn element_type(
     ensures value { result ≡ rule.element_type (surroundings context.entry) base }
     ensures exists { IfOk result (λ ty. ty < length context.entry.«module».now.types) }
 {
+    // Binding arrays can't be passed to functions, so arguments have no elements.
     match context.function.expressions[base] {
         Expression::GlobalVariable(variable) => binding_type(context, variable),
         _ => Err(ExpressionError::ExpectedGlobalVariable),
@@ -99,7 +100,7 @@ pub(crate) fn global_var_ty(
 ///
 /// # Errors
 ///
-/// `ExpectedImageType` if it is none.
+/// `ExpectedImageType` if it is not an image.
 pub(crate) fn image_type(
     context: FunctionContext<'_>,
     ty: Handle<TypeTag>,
@@ -126,7 +127,7 @@ pub(crate) fn image_type(
 ///
 /// # Errors
 ///
-/// `ExpectedSamplerType` if it is the type of no sampler.
+/// `ExpectedSamplerType` if it is not the type of a sampler.
 pub(crate) fn sampler_comparison(
     context: FunctionContext<'_>,
     ty: Handle<TypeTag>,
@@ -144,7 +145,7 @@ pub(crate) fn sampler_comparison(
 ///
 /// # Errors
 ///
-/// Those of `global_var_ty`, and `ExpectedImageType` if the expression stands for no image.
+/// The errors of `global_var_ty`, and `ExpectedImageType` if the expression doesn't stand for an image.
 pub(crate) fn image_at(
     context: FunctionContext<'_>,
     image: Handle<ExpressionTag>,

@@ -30,7 +30,7 @@ pub struct Sample {
     /// The component that is gathered of four texels, of a gather.
     pub gather: Option<SwizzleComponent>,
     pub coordinate: Handle<ExpressionTag>,
-    /// The layer, of an image that has several.
+    /// The array layer, of an image that has several.
     pub array_index: Option<Handle<ExpressionTag>>,
     /// By how many texels the coordinates are moved.
     pub offset: Option<Handle<ExpressionTag>>,
@@ -54,6 +54,7 @@ fn sampled(
 {
     let image_ty = global_var_ty(context, image)?;
     let sampler_ty = global_var_ty(context, sampler)?;
+    // naga looks at the type of the sampler first, so of two wrong types it is reported.
     let comparison = sampler_comparison(context, sampler_ty)?;
     let image = image_type(context, image_ty)?;
     Ok((image, comparison))
@@ -66,6 +67,7 @@ fn can_sample(class: ImageClass, gathers: bool) -> bool
     match class {
         ImageClass::Sampled { kind, multi: false } => match kind {
             ScalarKind::Float => true,
+            // Integers can't be filtered, but a gather returns texels as they are.
             ScalarKind::Sint | ScalarKind::Uint => gathers,
             ScalarKind::Bool | ScalarKind::AbstractInt | ScalarKind::AbstractFloat => false,
         },
@@ -145,6 +147,7 @@ fn check_offset(
     let Some(offset) = offset else {
         return Ok(());
     };
+    // Offsets are part of the instruction, so an override would come too late.
     if !context.kinds.is_const(offset) {
         return Err(ExpressionError::InvalidSampleOffsetExprType);
     }
@@ -212,7 +215,7 @@ fn check_gather(
     Ok(())
 }
 
-/// Checks that coordinates in an image from outside are clamped.
+/// Checks that coordinates in an external texture are clamped.
 fn check_external(class: ImageClass, clamp_to_edge: bool) -> Result<(), ExpressionError>
     ensures { result ≡ ok_unless (rule.external_error class clamp_to_edge) tt }
 {
@@ -228,6 +231,7 @@ fn numbers_levels(class: ImageClass, inner: &TypeInner) -> bool
     ensures { result ≡ rule.numbers_levels class inner.now }
 {
     match class {
+        // WGSL doesn't mix levels of depths, so a level is numbered by an integer.
         ImageClass::Depth { .. } => is_integer_scalar(inner),
         ImageClass::Sampled { .. } | ImageClass::Storage { .. } | ImageClass::External => {
             is_of_kind(inner, 1, ScalarKind::Float)
@@ -267,6 +271,7 @@ fn check_bias(
     if !is_filtered(image.class) {
         return Err(ExpressionError::InvalidImageClass(image.class));
     }
+    // A 1D image has only one level, which a bias can't change.
     if image.dim == ImageDimension::D1 {
         return Err(ExpressionError::InvalidSampleLevelBiasDimension(image.dim));
     }
@@ -328,9 +333,9 @@ fn level_stages(level: SampleLevel) -> ShaderStages
 ///
 /// - `ExpectedGlobalVariable` if the image or the sampler is not a variable of the module, an argument, or an
 ///   element of such a variable. `ExpectedBindingArrayType` if it is an element of a variable that is not
-///   binding array.
+///   a binding array.
 /// - `ExpectedSamplerType`, `ExpectedImageType` if it is something else.
-/// - `InvalidImageArrayIndex` if the image has layers and none is chosen, or the other way round.
+/// - `InvalidImageArrayIndex` if the image has array layers and none is chosen, or the other way round.
 ///   `InvalidImageArrayIndexType` if the index of the array layer is not an integer.
 /// - `InvalidImageClass` if the image can't be sampled: it is multisampled, or a storage image, or holds
 ///   integers, which can only be gathered, or bools.
@@ -342,17 +347,17 @@ fn level_stages(level: SampleLevel) -> ShaderStages
 ///   `InvalidSampleOffset` if it is not as many signed integers.
 /// - `InvalidDepthReference` if the reference is not a floating-point number. `InvalidDepthSampleLevel` if
 ///   depths are compared at another level than `Auto` or `Zero`.
-/// - `InvalidGatherDimension` if the image has one or three dimensions, and texels are gathered.
+/// - `InvalidGatherDimension` if the image is 1D or 3D, and texels are gathered.
 ///   `InvalidGatherComponent` if another component of depths is gathered than the first.
 ///   `InvalidGatherLevel` if they are gathered at another level than `Zero`.
 /// - `InvalidSampleClampCoordinateToEdge` if coordinates are clamped, and the image is neither one of
-///   floating-point numbers nor one from outside, has not two dimensions, or texels are gathered, a layer
+///   floating-point numbers nor an external texture, is not 2D, or texels are gathered, an array layer
 ///   or an offset is given, the level is not `Zero` or depths are compared. It names the first such.
-/// - `InvalidImageClass` if coordinates in an image from outside are not clamped.
-/// - `InvalidSampleLevelExactType` if the number of the level is not an integer for a depth image, or not
-///   floating-point number of another.
+/// - `InvalidImageClass` if coordinates in an external texture are not clamped.
+/// - `InvalidSampleLevelExactType` if the number of the level is not an integer for a depth image, or not a
+///   floating-point number for another.
 /// - `InvalidSampleLevelBiasType` if the bias is not a floating-point number. `InvalidImageClass` if the image
-///   with a bias is one of depths or from outside. `InvalidSampleLevelBiasDimension` if it has one dimension.
+///   with a bias is one of depths or an external texture. `InvalidSampleLevelBiasDimension` if it is 1D.
 /// - `InvalidSampleLevelGradientType` if a derivative is not as many floating-point numbers as the
 ///   coordinates.
 /// - `OutOfMemory` if memory was refused for the text of `InvalidSampleClampCoordinateToEdge`.
@@ -365,6 +370,7 @@ pub fn validate_image_sample(
     ensures { rule.IsImageSampleResult (surroundings context.entry) sample.now result }
 {
     let (image, comparison) = sampled(context, sample.image, sample.sampler)?;
+    // The order is naga's, and decides which of several errors is reported.
     check_sampled_layer(context, image.arrayed, sample.array_index)?;
     check_class(image.class, sample.gather)?;
     check_comparison(image.class, comparison, sample.depth_ref)?;

@@ -68,8 +68,10 @@ impl ImmediateSlots {
         if size_bytes == 0 {
             return ImmediateSlots(0);
         }
+        // The sum of two numbers of 32 bits may need one bit more.
         let first = u64::from(offset);
         let last = first + u64::from(size_bytes) - 1;
+        // `below` stops at the last slot, so bytes from 256 on drop out by themselves.
         ImmediateSlots(below(last / SLOT_SIZE + 1) - below(first / SLOT_SIZE))
     }
 
@@ -270,6 +272,7 @@ fn accessed_member<'a>(
     let Expression::AccessIndex { base, index } = expressions[pointer] else {
         return None;
     };
+    // An access below a member counts as one to the whole variable, as in naga.
     let Expression::GlobalVariable(_) = expressions[base] else {
         return None;
     };
@@ -284,7 +287,7 @@ fn accessed_member<'a>(
 struct SlotWalk {
     slots: ImmediateSlots,
     /// For each byte the struct types that were the last to be walked through from there, of those whose
-    /// indices leave the same remainder: all slots that they use from there are among `slots`.
+    /// indexes leave the same remainder: all slots that they use from there are among `slots`.
     noted: [Option<Handle<TypeTag>>; NOTE_COUNT],
 }
 
@@ -331,6 +334,7 @@ impl SlotWalk {
                 self.add(member.ty, next, gctx);
             }
         }
+        // Only now, after its members, are all its slots in the set.
         self.noted[place_of(ty, byte)] = Some(ty);
     }
 }

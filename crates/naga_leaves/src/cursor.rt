@@ -84,6 +84,7 @@ impl Place {
         ensures err { OnErr result (IsUnmoved self.old self.new) }
     {
         self.outer.push(self.part)?;
+        // Both lists grow or neither does: a later call goes on from the same place.
         if self.path.push(index).is_err() {
             self.outer.pop();
             return Err(OutOfMemory);
@@ -121,6 +122,7 @@ impl Place {
         let Some((index, part)) = self.next_part(length, gctx) else {
             return Ok(self.leave());
         };
+        // All leaves of a part that begins past `u64::MAX` are left out, so it isn't entered.
         let Some(first) = self.part.first.checked_add(part.first) else {
             self.next += 1;
             return Ok(Step::Other);
@@ -201,6 +203,7 @@ impl<'a> Leaves<'a> {
         if self.is_begun {
             return None;
         }
+        // A step only visits parts, so a type that is a leaf itself is returned here.
         self.is_begun = true;
         self.place.leaf(self.gctx)
     }

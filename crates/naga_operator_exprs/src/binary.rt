@@ -72,7 +72,7 @@ fn is_any_matrix(inner: &TypeInner) -> bool
     }
 }
 
-/// Whether values of the left type are shifted by values of the right one.
+/// Whether values of the left type are shifted by values of the right type.
 fn can_shift(left: &TypeInner, right: &TypeInner) -> bool
     ensures { result ≡ rule.can_shift (vector_size_and_scalar left.now) (vector_size_and_scalar right.now) }
 {
@@ -96,6 +96,7 @@ fn operands_fit(op: BinaryOperator, left: &TypeInner, right: &TypeInner) -> bool
             (consists_of_numbers(left) || is_any_matrix(left)) && left == right
         }
         BinaryOperator::Multiply => can_multiply(left, right),
+        // naga compares all types of a fixed size, WGSL only scalars and vectors.
         BinaryOperator::Equal | BinaryOperator::NotEqual => is_sized(left) && left == right,
         BinaryOperator::Divide
         | BinaryOperator::Modulo
@@ -109,6 +110,7 @@ fn operands_fit(op: BinaryOperator, left: &TypeInner, right: &TypeInner) -> bool
         BinaryOperator::And | BinaryOperator::InclusiveOr => {
             (consists_of_bools(left) || consists_of_integers(left)) && left == right
         }
+        // WGSL has `&` and `|` of bools too, but no `^`.
         BinaryOperator::ExclusiveOr => consists_of_integers(left) && left == right,
         BinaryOperator::ShiftLeft | BinaryOperator::ShiftRight => can_shift(left, right),
     }
@@ -119,6 +121,7 @@ fn forbidden_on_right(op: BinaryOperator, left: &TypeInner) -> Option<Forbidden>
     ensures { result ≡ rule.forbidden_on_right op left.now }
 {
     let (_, scalar) = left.vector_size_and_scalar()?;
+    // naga lets floating-point numbers be divided by any constant.
     if !is_integer(scalar.kind) {
         return None;
     }

@@ -114,6 +114,7 @@ fn source<'a>(context: FunctionContext<'a>, place: Place) -> Place
     ensures last { HasNoSourceAt (surroundings context.entry) result }
 {
     let mut last = place;
+    // What an expression has its integers from precedes it, so this ends.
     while let Some(next) = only_source(context, &last) {
         last = next;
     }

@@ -79,7 +79,7 @@ fn chooses(
 ///
 /// - `SelectValuesTypeMismatch` if the two values have different types.
 /// - `SelectConditionNotABool` if the condition is neither a bool nor a vector of as many
-///   values as the values have components, or if the values are neither scalars nor vectors.
+///   bools as the values have components, or if the values are neither scalars nor vectors.
 /// - `OutOfMemory` if memory was refused for a struct in one of these.
 pub fn validate_select(
     context: FunctionContext<'_>,
@@ -96,6 +96,7 @@ pub fn validate_select(
     let condition_type = context.type_of(condition);
     let accept_type = context.type_of(accept);
     let reject_type = context.type_of(reject);
+    // naga compares the condition with the first value only, so the values come first.
     if accept_type != reject_type {
         return Err(ExpressionError::SelectValuesTypeMismatch {
             accept: accept_type.try_clone()?,
@@ -144,6 +145,7 @@ fn check_argument(
 {
     let shape = inner.vector_size_and_scalar();
     match fun {
+        // WGSL also takes a single bool here, naga only vectors.
         RelationalFunction::All | RelationalFunction::Any => match shape {
             Some((Some(_), scalar)) if scalar.kind == ScalarKind::Bool => Ok(()),
             Some(_) | None => Err(ExpressionError::InvalidBooleanVector(argument)),
@@ -217,6 +219,7 @@ pub fn validate_as(
     let Some(scalar) = cast_scalar(context.type_of(expr)) else {
         return Err(ExpressionError::InvalidCastArgument);
     };
+    // Without a width the bits are kept as they are, and so is the width.
     let target = Scalar {
         kind,
         width: convert.unwrap_or(scalar.width),

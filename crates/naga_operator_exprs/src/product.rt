@@ -137,5 +137,6 @@ pub(crate) fn can_multiply(left: &TypeInner, right: &TypeInner) -> bool
     let (Some(scalar), Some(other)) = (left.scalar(), right.scalar()) else {
         return false;
     };
+    // Pairs with a matrix are compared by shape and kind, so widths are compared here.
     is_number(scalar.kind) && scalar.width == other.width && forms_multiply(left, right)
 }

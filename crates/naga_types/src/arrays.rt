@@ -33,7 +33,9 @@ fn array_flags(size: ArraySize) -> TypeFlags
         ArraySize::Constant(_) => sized
             .union(TypeFlags::CREATION_RESOLVED)
             .union(TypeFlags::CONSTRUCTIBLE),
+        // An override gives the count with the pipeline, too late to construct values.
         ArraySize::Pending(_) => sized,
+        // Without `SIZED` an array can only end a struct, or be a whole variable.
         ArraySize::Dynamic => shared.union(TypeFlags::CREATION_RESOLVED),
     }
 }
@@ -61,6 +63,7 @@ fn array_layout(
 ) -> LayoutCompatibility
     ensures { result ≡ rule.array_layout handle least stride base }
 {
+    // An error of the base is returned before the stride is looked at, as in naga.
     let alignment = base?.max(least);
     if alignment.is_aligned(stride) {
         Ok(alignment)
@@ -110,6 +113,7 @@ pub(crate) fn validate_array<'a>(
     }
     let alignment = ctx.layouter[base].alignment;
     let in_uniform = alignment.max(Alignment::MIN_UNIFORM);
+    // Flags are cut by those of the base: an array is only used as its elements may be.
     Ok(TypeInfo {
         flags: info.flags.intersection(array_flags(*size)),
         uniform_layout: array_layout(handle, in_uniform, stride, info.uniform_layout),
@@ -132,6 +136,7 @@ pub(crate) fn validate_binding_array<'a>(
 {
     let flags = ctx.infos.get(base).flags;
     let inner = &gctx.types[base].inner;
+    // Ray queries are data too, so this also keeps them out of binding arrays (naga).
     if flags.contains(TypeFlags::DATA) && !matches!(inner, TypeInner::Struct { .. }) {
         return Err(TypeError::BindingArrayBaseTypeNotStruct(base));
     }

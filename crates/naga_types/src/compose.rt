@@ -54,7 +54,8 @@ impl Components<'_> {
     }
 }
 
-/// One of some types. It is apart, as `place_at` is, for the clause that the prover goes on with.
+/// The type at an index. It is a function of its own, as `place_at` is, so that the clause of `get` is
+/// proved by its clause.
 fn type_at(types: &[TypeResolution], index: usize) -> &TypeResolution
     requires { index < length types.now }
     ensures { slice_get types.now index ≡ Some result.now }
@@ -62,7 +63,7 @@ fn type_at(types: &[TypeResolution], index: usize) -> &TypeResolution
     &types[index]
 }
 
-/// The place of one of some components.
+/// The place of the component at an index.
 fn place_at(components: &[Handle<ExpressionTag>], index: usize) -> usize
     requires { index < length components.now }
     ensures { slice_get components.now index ≡ Some result }
@@ -77,7 +78,7 @@ enum Wanted<'a> {
     PartOf(Scalar),
     /// A vector of this size: a column of a matrix.
     Column { rows: VectorSize, scalar: Scalar },
-    /// Of this type.
+    /// Each of this type.
     Element(Handle<TypeTag>),
     /// Each of the type of the member at its place.
     Members(&'a [StructMember]),
@@ -139,6 +140,7 @@ impl Wanted<'_> {
             (rule.component_count_error (length (resolutions_of components.now)) expected
             ∷ rule.first_component_type_error (fits types.now self.now) (resolutions_of components.now) ∷ []) tt }
     {
+        // naga counts before it looks at any type, except for vectors.
         check_count(components.len() as u64, expected)?;
         self.check_each(components, types)
     }
@@ -230,6 +232,7 @@ fn all_parts(components: &Components<'_>, types: &UniqueArena) -> u32
     let mut total: u32 = 0;
     for index in 0..components.len() {
         let inner = components.get(index, types).inner_with(types);
+        // A vector has four components at most, so a sum may stop at any number above.
         total = total.saturating_add(u32::from(parts_in(inner)));
     }
     total
@@ -341,7 +344,7 @@ pub fn validate_compose(
 ///
 /// # Errors
 ///
-/// As `validate_compose` does of the components' types.
+/// The errors of `validate_compose` for the types of the components.
 pub fn validate_compose_at(
     ty: Handle<TypeTag>,
     gctx: GlobalCtx<'_>,

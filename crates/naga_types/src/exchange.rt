@@ -25,6 +25,7 @@ pub fn validate_atomic_compare_exchange_struct<P: FnOnce(&TypeInner) -> bool>(
         (λ inner. FnOnceReturnsAt P.FnOnce scalar_predicate inner result) }
     ensures others { IfNone (old_value_form types.now members.now) (result ≡ false) }
 {
+    // naga calls the predicate third; here it is called once nothing else can fail.
     members.len() == 2
         && is_named(&members[0], "old_value")
         && is_named(&members[1], "exchanged")

@@ -118,6 +118,7 @@ impl StructType<'_> {
         requires before { member.now.ty < self.now.handle }
         ensures { result ≡ rule.end_in (surroundings_of self.now) (Some member.now) }
     {
+        // Two numbers of 32 bits are added, whose sum may need one bit more.
         u64::from(member.offset) + u64::from(self.ctx.layouter[member.ty].size)
     }
 
@@ -142,6 +143,7 @@ impl StructType<'_> {
             (rule.place_checks (surroundings_of self.now) self.now.members.now self.now.span index member.now) tt }
     {
         let offset = member.offset;
+        // A member at 0 may overlap: structs that hosts don't share needn't have offsets (naga).
         if offset != 0 && u64::from(offset) < self.end_before(index) {
             return Err(TypeError::MemberOverlap {
                 index: saturated(index as u64),
@@ -171,6 +173,7 @@ impl StructType<'_> {
         ensures { IsRuleResult (ok_unless
             (rule.member_size_error (surroundings_of self.now) self.now.members.now index member.now) tt) result }
     {
+        // What came after a runtime-sized array would have no fixed offset, so it has to be last.
         let is_array = matches!(self.gctx.types[member.ty].inner, TypeInner::Array { .. });
         let is_last = index + 1 == self.members.len();
         if self.info(member).flags.contains(TypeFlags::SIZED) || is_array && is_last {
@@ -199,10 +202,12 @@ impl StructType<'_> {
             result }
         ensures noted { OnOk result (sources.new ≡ sources_of (take (index + 1) self.now.members.now)) }
     {
+        // Offsets are fixed when the shader is compiled, so no override may decide a size.
         let data = TypeFlags::DATA.union(TypeFlags::CREATION_RESOLVED);
         if !self.info(member).flags.contains(data) {
             return Err(TypeError::InvalidData(member.ty));
         }
+        // naga notes the source before it checks the place, so a bad source hides a bad place.
         sources.note(self.ctx.capabilities, member)?;
         self.check_place(index, member)?;
         self.check_size(alloc, index, member)
@@ -300,6 +305,8 @@ impl StructType<'_> {
         requires { MembersKnown self.now }
         ensures { result ≡ record { 0 = rule.common_flags (surroundings_of self.now) self.now.members.now } }
     {
+        // `IO_SHAREABLE` is left out: stages share the members one by one, and a whole struct
+        // only if its members are the two sources of blending.
         let mut flags = unshared_flags();
         for member in self.members {
             flags = flags.intersection(self.info(member).flags);
@@ -314,6 +321,7 @@ impl StructType<'_> {
             (enumerate_from 0 self.now.members.now) }
     {
         for index in 0..self.members.len() {
+            // Offsets that go back to 0 belong to a struct that was never laid out for hosts.
             if self.members[index].offset == 0 && self.end_before(index) > 0 {
                 return true;
             }
@@ -345,6 +353,7 @@ impl StructType<'_> {
         let mut compatibility = Ok(());
         for member in self.members {
             let immediates = self.info(member).immediates_compatibility;
+            // naga overwrites the error with each member, so the last one stays.
             if immediates.is_err() {
                 compatibility = immediates;
             }
@@ -352,8 +361,8 @@ impl StructType<'_> {
         compatibility
     }
 
-    /// Checks that a member is host-shareable, and stands at a multiple of its alignment, which is
-    /// returned.
+    /// Checks that a member is host-shareable and begins at a multiple of its alignment, and returns this
+    /// alignment.
     fn check_layout(
         &self,
         space: SharedSpace,
@@ -404,6 +413,7 @@ impl StructType<'_> {
         requires { MembersKnown self.now }
         ensures { result ≡ ok_unless (layouts.span_error (surroundings_of self.now) self.now.handle self.now.span) tt }
     {
+        // naga holds the span to the general alignment in both spaces, not to 16 bytes.
         let alignment = self.ctx.layouter[self.handle].alignment;
         if alignment.is_aligned(self.span) {
             return Ok(());
@@ -423,6 +433,7 @@ impl StructType<'_> {
         ensures { result ≡ layouts.storage_layout_of (surroundings_of self.now) self.now.handle self.now.members.now
             self.now.span }
     {
+        // naga checks the span last, but lets it overwrite all else, so it comes first here.
         self.check_span()?;
         self.check_layouts(SharedSpace::Storage)
     }
@@ -439,6 +450,7 @@ impl StructType<'_> {
         }
         let before = &self.members[index - 1];
         match self.gctx.types[before.ty].inner {
+            // A sum, where naga subtracts offsets: the member may go back to 0.
             TypeInner::Struct { span, .. } => {
                 u64::from(before.offset) + Alignment::MIN_UNIFORM.round_up(span)
             }
@@ -458,7 +470,7 @@ impl StructType<'_> {
         }
     }
 
-    /// The failure of the last member that stands in the room of the struct before it.
+    /// The error of the last member that begins too soon after the struct before it.
     fn last_in_room(&self) -> Option<(Handle<TypeTag>, Disalignment)>
         requires { MembersKnown self.now }
         ensures { result ≡ layouts.last_padding_error (surroundings_of self.now) self.now.handle self.now.members.now }
@@ -468,6 +480,7 @@ impl StructType<'_> {
             let offset = self.members[index].offset;
             let room = self.end_after_struct_before(index);
             if u64::from(offset) < room {
+                // naga overwrites the error with each such member, so the last one stays.
                 last = Some((
                     self.handle,
                     Disalignment::MemberOffsetAfterStruct {
@@ -504,11 +517,13 @@ impl StructType<'_> {
             self.now.span }
     {
         self.check_span()?;
+        // In naga this error overwrites those of all layouts before and hides those after it.
         if let Some(error) = self.last_in_room() {
             return Err(error);
         }
         let greatest = self.check_layouts(SharedSpace::Uniform)?;
         self.check_sizes()?;
+        // WGSL aligns every struct in uniform buffers to 16 bytes at least.
         Ok(greatest.max(Alignment::MIN_UNIFORM))
     }
 }

@@ -53,7 +53,7 @@ pub enum ConstValueError {
     /// It is a negative integer.
     #[error("The constant is negative")]
     Negative,
-    /// Its type is none of `u16`, `u32`, `i16` and `i32`.
+    /// Its type is neither `u16`, `u32`, `i16` nor `i32`.
     #[error("The constant is not an integer of 16 or 32 bits")]
     InvalidType,
 }
@@ -74,13 +74,14 @@ impl ConstValueError {
 /// The number that an index constant gives: a number of elements, or the index of one.
 ///
 /// An index constant is a literal or the zero value of a scalar type, or a constant whose initialiser
-/// is one of these, and its type is `u16`, `u32`, `i16` or `i32`. The rule is narrower than that of
+/// is one of these, and its type is `u16`, `u32`, `i16` or `i32`. The rule is narrower than the rule of
 /// naga's `GlobalCtx::get_const_val_from`. The expression may be one of a function; the initialiser of
 /// a constant is a global one.
 ///
 /// # Errors
 ///
-/// - `NonConst` if the expression is of another variant.
+/// - `NonConst` if the expression is neither a literal, a zero value of a scalar type nor a constant whose
+///   initialiser is one.
 /// - `InvalidType` if it has another scalar type.
 /// - `Negative` if it is negative. The type is checked before the sign.
 pub fn get_const_val_from(
@@ -95,6 +96,7 @@ pub fn get_const_val_from(
 {
     let expression = &expressions[handle];
     if let Expression::Constant(constant) = expression {
+        // The initialiser is global, wherever the expression that names the constant is.
         let init = gctx.constants[*constant].init;
         return unnamed_index(&gctx.global_expressions[init], gctx.types);
     }

@@ -65,6 +65,7 @@ impl ExpressionKindTracker {
         let mut tracker = ExpressionKindTracker {
             inner: HandleVec::new(alloc),
         };
+        // Operands precede an expression, so their kinds are known here.
         for (_, expression) in arena.iter() {
             let kind = tracker.kind_of(expression);
             tracker.inner.push(kind)?;

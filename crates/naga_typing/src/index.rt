@@ -116,6 +116,7 @@ fn pointed_form<'a>(inner: &'a TypeInner, gctx: GlobalCtx<'a>) -> &'a TypeInner
     ensures exist { ReferencesExist (lists_of gctx.entry) result.now }
 {
     let mut inner = inner;
+    // The base of each pointer precedes it, so this ends.
     while let TypeInner::Pointer { base, .. } = inner {
         inner = &gctx.types[*base].inner;
     }

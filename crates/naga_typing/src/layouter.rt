@@ -119,6 +119,7 @@ fn limited_size(inner: &TypeInner, gctx: GlobalCtx<'_>) -> Result<u32, LayoutErr
         × (size ≡ size_of (lists_of gctx.entry) inner.now))
         (λ e. size_rule (lists_of gctx.entry) inner.now ≡ Err e) }
 {
+    // Only an array's size is a product of two numbers of 32 bits, and may need more.
     if let TypeInner::Array { size, stride, .. } = inner {
         return match u32::try_from(array_size(*size, *stride, gctx)) {
             Ok(bytes) if bytes <= MAX_TYPE_SIZE => Ok(bytes),
@@ -264,6 +265,7 @@ impl Layouter {
     {
         let mut alignment = Alignment::ONE;
         for member in members {
+            // The members' types precede the struct, so their layouts are known by index.
             let next = self[member.ty].alignment;
             if next > alignment {
                 alignment = next;

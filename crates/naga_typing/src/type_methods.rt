@@ -17,8 +17,8 @@ use naga_ir::handle::Handle;
 use naga_ir::tags::OverrideTag;
 use naga_ir::types::{ArraySize, TypeInner};
 
-/// The number of elements that an override gives by its initialiser, or `None` if it has none that is
-/// an index constant above 0.
+/// The number of elements that an override gives by its initialiser, or `None` if it has no initialiser
+/// that is an index constant above 0.
 pub fn override_count(override_: Handle<OverrideTag>, gctx: GlobalCtx<'_>) -> Option<u32>
     requires exists { override_ < length gctx.overrides.now }
     requires references { GlobalReferencesOk (lists_of gctx) }
@@ -40,7 +40,9 @@ fn element_count(size: ArraySize, gctx: GlobalCtx<'_>) -> u32
 {
     match size {
         ArraySize::Constant(count) => count.get(),
+        // No member or element is sized by an override, so no other size depends on this.
         ArraySize::Pending(override_) => override_count(override_, gctx).unwrap_or(0),
+        // A buffer that is bound to such an array has room for one element at least.
         ArraySize::Dynamic => 1,
     }
 }
@@ -68,6 +70,7 @@ pub(crate) fn size_unless_array(inner: &TypeInner) -> u32
             rows,
             scalar,
         } => {
+            // WGSL gives a column of three the room of four; cooperative matrices have no gaps.
             let column = Alignment::from(*rows).get() * u32::from(scalar.width);
             u32::from(columns.components()) * column
         }
@@ -96,7 +99,7 @@ pub(crate) fn size_unless_array(inner: &TypeInner) -> u32
 ///
 /// For types that a buffer may hold the rule is WGSL's, "Alignment and Size", except that an array
 /// is as large as its stride says. A runtime-sized array counts one element. A pointer has 4 bytes,
-/// and types without a size have none. naga's `TypeInner::try_size` is `None` for an array above
+/// and types without a size have 0. naga's `TypeInner::try_size` is `None` for an array above
 /// `MAX_TYPE_SIZE` already.
 pub fn try_size(inner: &TypeInner, gctx: GlobalCtx<'_>) -> Option<u32>
     requires exist { ReferencesExist (lists_of gctx) inner.now }
@@ -111,8 +114,8 @@ pub fn try_size(inner: &TypeInner, gctx: GlobalCtx<'_>) -> Option<u32>
     Some(size_unless_array(inner))
 }
 
-/// The size of a value, in bytes, of a form whose size is a `u32`: of any but an array, and of each
-/// array that has a layout. naga's `TypeInner::size`.
+/// The size of a value, in bytes, of a type whose size fits a `u32`: of any type except an array, and of
+/// each array that has a layout. naga's `TypeInner::size`.
 pub fn size(inner: &TypeInner, gctx: GlobalCtx<'_>) -> u32
     requires exist { ReferencesExist (lists_of gctx) inner.now }
     requires references { GlobalReferencesOk (lists_of gctx) }

@@ -136,6 +136,8 @@ fn compare_types_inner(lhs: &TypeResolution, rhs: &TypeResolution, types: &Uniqu
 {
     let left = lhs.inner_with(types);
     let right = rhs.inner_with(types);
+    // WGSL tells structs apart by their declarations, even if their members are equal;
+    // a struct that is given as a value has none.
     match (is_struct(left), is_struct(right)) {
         (true, true) => lhs.handle().is_some() && lhs.handle() == rhs.handle(),
         (false, false) => are_equivalent(left, right, types),

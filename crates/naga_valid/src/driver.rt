@@ -200,6 +200,7 @@ impl<T: Typing> Validator<T> {
         ensures { self.new ≡ record self.old { infos = [] } }
     {
         self.infos.clear();
+        // `override_ids` may stay as it is: it is cleared before an override is validated.
         self.layouter.clear();
     }
 
@@ -236,12 +237,12 @@ impl<T: Typing> Validator<T> {
         self.validate_impl(module, false)
     }
 
-    /// The same, if overrides have to have their values. What is accepted so, `validate` accepts with
-    /// the same info.
+    /// Validates a module as `validate` does, except that overrides have to have their values. What is
+    /// accepted so, `validate` accepts with the same info.
     ///
     /// # Errors
     ///
-    /// Those of `validate`.
+    /// The errors of `validate`.
     pub fn validate_resolved_overrides(
         &mut self,
         module: &Module,
@@ -278,6 +279,7 @@ impl<T: Typing> Validator<T> {
         ensures settings { self.new ≡ record self.old { infos = self.new.infos } }
     {
         let result = self.validate_steps(module, overrides_resolved);
+        // After a refusal `infos` may have types of the refused module.
         if result.is_err() {
             self.reset();
         }
@@ -297,9 +299,11 @@ impl<T: Typing> Validator<T> {
             (inner_of e)) }
         ensures settings { self.new ≡ record self.old { infos = self.new.infos } }
     {
+        // Handles come first: all later steps index by them without a check.
         if let Err(fault) = validate_module_handles(self.alloc, module) {
             return Err(WithSpan::new(ValidationError::from(fault)));
         }
+        // Layouts come next, since the rules of types read sizes and alignments.
         lay_out(&mut self.layouter, module)?;
         let settings = Settings {
             flags: self.flags,
@@ -313,6 +317,7 @@ impl<T: Typing> Validator<T> {
             &self.layouter,
             &mut self.infos,
         )?;
+        // Without `CONSTANTS` expressions are typed too: `ModuleInfo` is usable either way.
         resolve_expressions(self.alloc, &self.typing, module, &mut mod_info)?;
         if self.flags.contains(ValidationFlags::CONSTANTS) {
             let ctx = ExprContext {
@@ -330,7 +335,7 @@ impl<T: Typing> Validator<T> {
     ///
     /// # Errors
     ///
-    /// Those of the function `check_width`.
+    /// The errors of the function `check_width`.
     pub fn check_width(&self, scalar: Scalar) -> Result<ImmediateCompatibility, WidthError>
         ensures { result ≡ width_rule self.now.capabilities.0 scalar }
     {
@@ -341,7 +346,7 @@ impl<T: Typing> Validator<T> {
     ///
     /// # Errors
     ///
-    /// Those of the function `validate_literal`.
+    /// The errors of the function `validate_literal`.
     pub fn validate_literal(&self, literal: Literal) -> Result<(), LiteralError>
         ensures { result ≡ literal_rule self.now.capabilities.0 literal }
     {
@@ -354,7 +359,7 @@ impl<T: Typing> Validator<T> {
     ///
     /// # Errors
     ///
-    /// Those of the function `validate_expression`.
+    /// The errors of the function `validate_expression`.
     pub fn validate_expression(
         &self,
         overrides_resolved: bool,
@@ -420,7 +425,7 @@ fn lay_out(layouter: &mut Layouter, module: &Module) -> Result<(), WithSpan<Vali
     }
 }
 
-/// Judges each type in order, and fills `infos`.
+/// Validates each type in order, and fills `infos`.
 fn validate_types(
     alloc: Global,
     settings: Settings,
@@ -466,7 +471,7 @@ fn is_out_of_memory(error: &TypeError) -> bool
     matches!(error, TypeError::OutOfMemory)
 }
 
-/// Judges one type, by the infos of those before it.
+/// Validates one type, by the infos of the types before it.
 fn type_info_of(
     alloc: Global,
     settings: Settings,

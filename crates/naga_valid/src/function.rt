@@ -166,6 +166,7 @@ impl<T: Typing> Validator<T> {
                     error,
                 },
             ) => {
+                // The first broken rule up to here is reported in place of the missing type.
                 self.validate_rules(module, mod_info, function, &info, overrides_resolved)?;
                 let source = ExpressionError::from(error);
                 Err(FunctionError::Expression { handle, source })
@@ -201,6 +202,7 @@ impl<T: Typing> Validator<T> {
         let kinds = ExpressionKindTracker::from_arena(self.alloc, &function.expressions)?;
         let mut stages = ShaderStages::all();
         for (handle, expression) in function.expressions.iter() {
+            // The first without a type is included: its rule only needs the types before it.
             if handle.index() > info.types.len() {
                 break;
             }
@@ -244,6 +246,7 @@ impl<T: Typing> Validator<T> {
             self.now overrides_resolved «module».now in
             ValidatesFunctions by «module».now mod_info.old.lists mod_info.new.lists result }
     {
+        // Entry points come after all functions, since they may call any of them.
         self.validate_each_function(module, mod_info, overrides_resolved)?;
         self.validate_each_entry_point(module, mod_info, overrides_resolved)
     }

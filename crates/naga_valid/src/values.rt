@@ -63,8 +63,8 @@ fn has_type(
     compare_types(&TypeResolution::Handle(ty), &mod_info[init], &module.types)
 }
 
-/// Whether overrides may have a type: a bool or a number that is not abstract, an
-/// integer of 64 bits excepted (naga).
+/// Whether overrides may have a type: a bool or a number that is not abstract, except an integer of 64
+/// bits (naga).
 fn is_override_type(inner: &TypeInner) -> bool
     ensures { result ≡ rule.is_override_type (Some inner.now) }
 {
@@ -112,6 +112,7 @@ fn validate_constant(
     if !is_constructible(mod_info, constant.ty) {
         return Err(ConstantError::NonConstructibleType);
     }
+    // A constant that depended on an override would be open until a pipeline is created.
     if !kinds.is_const(constant.init) {
         return Err(ConstantError::InitializerExprType);
     }
@@ -132,7 +133,7 @@ fn is_duplicate(ids: &mut OverrideIds, id: Option<u16>) -> Result<bool, OutOfMem
 }
 
 /// Checks that an override has a constructible type that is one of some scalars, and an initialiser of
-/// this type, or none unless overrides have to have their values. `is_duplicate` says whether an
+/// this type, or none unless overrides have to have their values. `is_duplicate` is whether an
 /// earlier override has its number.
 fn validate_override(
     over: &Override,
@@ -146,6 +147,7 @@ fn validate_override(
     requires init { IfSome over.now.init (λ init. init < length «module».now.global_expressions) }
     ensures { result ≡ rule.override_rule is_duplicate overrides_resolved «module».now mod_info.now.lists over.now }
 {
+    // naga notes the number before it looks at the type, so a duplicate is reported first.
     if is_duplicate {
         return Err(OverrideError::DuplicateID);
     }
@@ -221,7 +223,7 @@ fn validate_constants(
     Ok(())
 }
 
-/// Checks each override, in order. The numbers of a module before are forgotten first.
+/// Checks each override, in order. The numbers of an earlier module are forgotten first.
 fn validate_overrides(
     alloc: Global,
     overrides_resolved: bool,
