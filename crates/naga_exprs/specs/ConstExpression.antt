@@ -73,23 +73,23 @@ is_scalar (Some (RayQuery vertex_return)) = false
 is_scalar (Some (BindingArray base size)) = false
 is_scalar None = false
 
--- the value of an expression is known before the shader runs
+-- the error, unless the value of expression `e` is known before the shader runs
 abbrev pub not_const_error : ConstSurroundings → ℕ → Option ConstExpressionError
 not_const_error s e = require (is_const_or_override (slice_get s.kinds e)) refusal.NonConstOrOverride
 
--- a literal is accepted
+-- the error, unless a literal is accepted
 abbrev pub literal_error : ConstSurroundings → Literal → Option ConstExpressionError
 literal_error s value = refused_inside refusal.Literal (literal_rule s.capabilities value)
 
--- a value of a type may be composed of components
+-- the error, unless a value of the type of index `ty` may be composed of `components`
 abbrev pub composition_error : ConstSurroundings → ℕ → List ℕ → Option ConstExpressionError
 composition_error s ty components = refused_inside refusal.Compose (compose_rule s.types ty (resolutions_at components s.resolutions))
 
--- the operand of a splat is a scalar
+-- the error, unless `value`, the operand of a splat, is a scalar
 abbrev pub splat_error : ConstSurroundings → ℕ → Option ConstExpressionError
 splat_error s value = require (is_scalar (operand s.types s.resolutions value)) (refusal.InvalidSplatType value)
 
--- a value that is still to be computed depends on an override, and overrides need not have their values yet
+-- the error, unless expression `e`, whose value is still to be computed, depends on an override, and overrides need not have their values yet
 abbrev pub evaluation_error : ConstSurroundings → ℕ → Option ConstExpressionError
 evaluation_error s e = when (s.resolved || is_const (slice_get s.kinds e)) (Some refusal.NonFullyEvaluatedConst)
 

@@ -20,7 +20,7 @@ pub record MathTyping : Type 0 where
   pub accepts : MathFunction → List TypeInner → Boolean
   pub least_arguments : MathFunction → List TypeInner → ℕ
 
--- what a typing says by these two
+-- what a typing says of a math function by the arguments that it accepts and the least number of them
 abbrev pub math_typing : (MathFunction → List TypeInner → Boolean) → (MathFunction → List TypeInner → ℕ) → MathTyping
 math_typing accepts least_arguments = record { accepts = accepts; least_arguments = least_arguments }
 

@@ -143,7 +143,7 @@ can_clamp image sample =
 abbrev pub clamp_error : String Global → ImageType → Sample → Option ExpressionError
 clamp_error text image sample = require (not sample.clamp_to_edge || can_clamp image sample) (refusal.InvalidSampleClampCoordinateToEdge text)
 
--- the refusal of an image from outside, unless coordinates in it are clamped
+-- the error for an external texture, unless coordinates in it are clamped
 abbrev pub external_error : ImageClass → Boolean → Option ExpressionError
 external_error class clamp_to_edge = require (not (is_external class) || clamp_to_edge) (refusal.InvalidImageClass class)
 

@@ -17,7 +17,7 @@ use Rattle.naga_typing.specs.Resolutions.{ResolutionExists, operand}
 use Rattle.naga_typing.specs.declared.expression_kind.ExpressionKind.{ExpressionKind}
 use Rattle.naga_typing.specs.declared.typifier.TypeResolution.{TypeResolution}
 
--- what it depends on: the capabilities, whether overrides must have their values, the stages that may use subgroup operations, the module, the function, the types of its expressions, what is known of the module, and the kinds of the function's expressions
+-- what the validation of an expression of a function depends on: the capabilities, whether overrides must have their values, the stages that may use subgroup operations, the module, the function, the types of its expressions, what is known of the module, and the kinds of the function's expressions
 pub record ExpressionSurroundings : Type 0 where
   pub capabilities : ℕ
   pub resolved : Boolean
@@ -28,7 +28,7 @@ pub record ExpressionSurroundings : Type 0 where
   pub infos : ModuleInfoLists
   pub kinds : List ExpressionKind
 
--- these in a context
+-- what the context `c` says of these surroundings of an expression
 abbrev pub surroundings : FunctionContext → ExpressionSurroundings
 surroundings c = record {
   capabilities = c.capabilities.0;

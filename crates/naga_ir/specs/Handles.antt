@@ -136,7 +136,7 @@ NamesType g e u = (x : Expression) × (slice_get g.expressions e ≡ Some x) × 
 abbrev pub SizesResolveFirst : GlobalLists → Type 0
 SizesResolveFirst g = (t n e u : ℕ) → size_initialiser g t ≡ Some n → e ≤ n → NamesType g e u → u < t
 
--- the handles of a module are right: everything exists, references go back, and the gates of sizes hold
+-- the handles of a module are right: everything exists, references go back, and the types that size a type precede it
 pub record HandlesAccepted (m : Module) : Type 0 where
   pub exist : EverythingExists m
   pub back : ReferencesPrecede (OrderedInModule m)

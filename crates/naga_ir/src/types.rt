@@ -293,7 +293,7 @@ pub enum ImageClass {
         format: StorageFormat,
         access: StorageAccess,
     },
-    /// An image from outside, as a frame of a video.
+    /// An external texture, such as a frame of a video.
     External,
 }
 

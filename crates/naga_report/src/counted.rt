@@ -26,6 +26,7 @@ impl<S> Counted<S> {
     pub fn new(inner: S) -> Counted<S>
         ensures inner { result.inner ≡ inner }
         ensures failed { result.failed ≡ 0 }
+        ensures unflushed { result.is_flushed ≡ false }
     {
         Counted {
             inner,
@@ -62,6 +63,7 @@ impl<R: Read> Counted<R> {
         ensures bytes { ReadConsumes (R.remaining self.old.inner) (R.remaining self.new.inner) result buf.new }
         ensures ok { OnOk result (self.new.failed ≡ self.old.failed) }
         ensures err { OnErr result (self.new.failed ≡ self.old.failed + 1) }
+        ensures flushed { self.new.is_flushed ≡ self.old.is_flushed }
     {
         let result = self.inner.read(buf);
         if result.is_err() {

@@ -39,6 +39,8 @@ impl fmt::Display for RunFault {
     }
 }
 
+impl std::error::Error for RunFault {}
+
 /// Reads all bytes that a reader has.
 fn read_all<R: Read>(alloc: Global, reader: &mut Counted<R>) -> Result<Vec<u8>, RunFault>
     requires { reader.old.failed < largest_u64 }
@@ -86,7 +88,8 @@ fn write_all<W: Write>(writer: &mut Counted<W>, text: &[u8]) -> Result<(), RunFa
     }
 }
 
-/// Reads a text to the end of the reader, and writes the report on it, and nothing else, to the writer.
+/// Reads a text to the end of the reader, writes the report on it, and nothing else, to the writer, and
+/// flushes it.
 ///
 /// The text is the line text of `naga_text`; its module is validated by `naga_valid`. The counts of both
 /// arguments are below `u64::MAX`, so that a failure can be counted.

@@ -10,8 +10,8 @@ use Rattle.naga_types.specs.HostLeaves.{resolved_for_hosts, sized_for_hosts}
 pub numbers : scalar_flags Sint ≡ 0xff
 numbers = refl
 
-pub truth-values : scalar_flags Bool ≡ 0xe7
-truth-values = refl
+pub bools : scalar_flags Bool ≡ 0xe7
+bools = refl
 
 pub matrices : unshared_flags ≡ 0xf7
 matrices = refl

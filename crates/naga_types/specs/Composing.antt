@@ -83,15 +83,15 @@ abbrev pub is_of_member : List «Type» → Option StructMember → TypeResoluti
 is_of_member types (Some m) r = is_of types m.ty r
 is_of_member types None r = false
 
--- a component fits at its place
+-- the error, unless the component `at.1` fits at its place, `at.0`
 abbrev pub component_type_error : (ℕ × TypeResolution → Boolean) → ℕ × TypeResolution → Option ComposeError
 component_type_error fits at = require (fits at) (ComponentType (saturated at.0))
 
--- the first component that does not fit
+-- the error of the first component that does not fit
 abbrev pub first_component_type_error : (ℕ × TypeResolution → Boolean) → List TypeResolution → Option ComposeError
 first_component_type_error fits given = first (map (component_type_error fits) (enumerate_from 0 given))
 
--- there are as many components as there should be
+-- the error, unless as many components are `given` as are `expected`
 abbrev pub component_count_error : ℕ → ℕ → Option ComposeError
 component_count_error given expected = require (given == expected) (ComponentCount (saturated given) (saturated expected))
 

@@ -22,7 +22,7 @@ MembersHaveFlags g infos t info =
 abbrev pub IsConstructible : TypeInfo → Type 0
 IsConstructible info = has info.flags.0 CONSTRUCTIBLE ≡ true
 
--- the info of the type of index `t` among `infos` has this flag
+-- the info of the type of index `t`, among `infos`, has the flag `CONSTRUCTIBLE`
 abbrev pub IsConstructibleAt : List TypeInfo → ℕ → Type 0
 IsConstructibleAt infos t = IsConstructible (info_in (slice_get infos t))
 

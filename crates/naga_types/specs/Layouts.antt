@@ -36,16 +36,16 @@ min_uniform = 16
 abbrev pub saturated : ℕ → ℕ
 saturated n = min n largest_u32
 
--- the failure of a struct whose span is not a multiple of its alignment
+-- the error of a struct whose span is not a multiple of its alignment
 abbrev pub span_error : Surroundings → ℕ → ℕ → Option (ℕ × Disalignment)
 span_error s t span = require (span % alignment_at s.layouts t == 0) (t, StructSpan span (alignment_at s.layouts t))
 
--- the failure of a member that does not stand at a multiple of its own alignment, or has none
+-- the error of a member that does not stand at a multiple of its own alignment, or has none
 abbrev pub offset_error : ℕ → ℕ → ℕ → Layout → Option (ℕ × Disalignment)
 offset_error t i offset (Err e) = Some e
 offset_error t i offset (Ok a) = require (offset % a == 0) (t, MemberOffset (saturated i) offset a)
 
--- the failure of a member that is not host-shareable, or not aligned
+-- the error of a member that is not host-shareable, or not aligned
 abbrev pub member_layout_error : Surroundings → (TypeInfo → Layout) → ℕ → ℕ × StructMember → Option (ℕ × Disalignment)
 member_layout_error s layout t at =
     option_or
@@ -102,20 +102,20 @@ before members (suc i) = slice_get members i
 abbrev pub end_after_struct_before : Surroundings → List StructMember → ℕ → ℕ
 end_after_struct_before s members i = end_after_struct (before members i) (form_of s (before members i))
 
--- the failure of a member that begins in the room of the struct before it
+-- the error of a member that begins in the room of the struct before it
 abbrev pub padding_error : Surroundings → ℕ → List StructMember → ℕ × StructMember → Option (ℕ × Disalignment)
 padding_error s t members at =
     require (leb (end_after_struct_before s members at.0) at.1.offset) (t, MemberOffsetAfterStruct (saturated at.0) at.1.offset (saturated (end_after_struct_before s members at.0)))
 
--- the failure of the last such member
+-- the error of the last member that begins in the room of the struct before it
 abbrev pub last_padding_error : Surroundings → ℕ → List StructMember → Option (ℕ × Disalignment)
 last_padding_error s t members = last (map (padding_error s t members) (enumerate_from 0 members))
 
--- the failure of a member without a fixed size
+-- the error of a member without a fixed size
 abbrev pub unsized_error : Surroundings → ℕ → ℕ × StructMember → Option (ℕ × Disalignment)
 unsized_error s t at = require (has (flags_at s at.1.ty) SIZED) (t, UnsizedMember (saturated at.0))
 
--- these failures of all members
+-- for each member, the error if it has no fixed size
 abbrev pub unsized_errors : Surroundings → ℕ → List StructMember → List (Option (ℕ × Disalignment))
 unsized_errors s t members = map (unsized_error s t) (enumerate_from 0 members)
 

@@ -126,6 +126,7 @@ impl Wanted<'_> {
         }
         Ok(())
     }
+
     /// Checks that there are as many components as expected, and then each.
     fn check_all(
         &self,

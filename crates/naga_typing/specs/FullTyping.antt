@@ -223,7 +223,7 @@ abbrev pub full_cast_of : ScalarKind → Option ℕ → TypeInner → ResolveRes
 full_cast_of kind convert (Matrix columns rows scalar) = Ok (Value (Matrix columns rows (cast_scalar scalar.kind convert scalar)))
 full_cast_of kind convert inner = cast_of kind convert inner
 
--- the type of an expression; if operands alone decide, mostly the one that `PlainTyping` resolves
+-- the type of an expression of the module `m`, by the types `earlier` of those before it; products and conversions as `full_binary_of` and `full_cast_of` say
 unfoldable pub full_resolves : Module → Expression → List TypeResolution → ResolveResult
 full_resolves m (form.Literal value) earlier = plain_resolves m (form.Literal value) earlier
 full_resolves m (form.Constant c) earlier = plain_resolves m (form.Constant c) earlier

@@ -36,7 +36,7 @@ pub record AreValidTypes (m : Module) (settings : Settings) (infos : List TypeIn
   pub layouts : List TypeLayout
   pub accepted : AreTypesAccepted m settings.capabilities settings.resolved layouts infos
 
--- so are they, and its global expressions have types: these are the facts
+-- the types of a module are accepted, and its global expressions have types: these are the `facts`
 pub record AreTypesAndExpressionsAccepted (resolves : Resolves) (m : Module) (settings : Settings) (facts : Facts) : Type 0 where
   pub types : AreValidTypes m settings facts.infos
   pub resolutions : AreResolved resolves m facts.resolutions

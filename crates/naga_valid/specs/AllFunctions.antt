@@ -55,12 +55,12 @@ pub record IsNextRefused (by : Validation) (m : Module) (lists : ModuleInfoLists
   pub there : function_of m error.at ≡ Some function
   pub refused : (error.source ≡ OutOfMemory) ⊎ RefusesFunction (by function lists) error.source
 
--- a call that adds infos to `old` leaves `new`, and returns an error if it can't make `Complete` hold
+-- a call that adds infos of functions of `m` to `old` leaves `new`, accepted as `by` says, and `result` is an error if `Complete` can't hold
 pub record AddsInfos (by : Validation) (m : Module) (Complete : ModuleInfoLists → Type 0) (old new : ModuleInfoLists) (result : Result (Unit {0}) FunctionsError) : Type 0 where
   pub others : new ≡ record old { functions = new.functions; entry_points = new.entry_points }
   pub in_order : AreInfosInOrder by m new
   pub returned : MatchResult result (λ _. Complete new) (IsNextRefused by m new)
 
--- such a call adds an info of each function and each entry point
+-- a call that adds infos to `old` leaves `new`, with an info of each function and each entry point of `m` unless `result` is an error
 abbrev pub ValidatesFunctions : Validation → Module → ModuleInfoLists → ModuleInfoLists → Result (Unit {0}) FunctionsError → Type 0
 ValidatesFunctions by m old new result = AddsInfos by m (HaveInfos m) old new result

@@ -36,7 +36,7 @@ pub record FunctionSurroundings : Type 0 where
   pub function : Function
   pub infos : ModuleInfoLists
 
--- what it depends on under a validator
+-- what the validation of a function `f` depends on under a validator with this `state`
 abbrev pub function_surroundings : {T : Type 0} → Resolves → MathTyping → State T → Bool → Module → Function → ModuleInfoLists → FunctionSurroundings
 function_surroundings resolves math state resolved m f infos = record {
   resolves = resolves;

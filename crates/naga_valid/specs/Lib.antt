@@ -5,8 +5,8 @@
 -- Values.constant_rule, override_rule, value_results: the rules of constants and overrides, and of all values of a module
 -- Functions.IsFunctionAccepted, IsFunctionRefusal, RefusesFunction: when the expressions of a function are accepted, what is known of it then, and the first that is refused
 -- Functions.AreFunctionsReadyInOrder: what a module's functions need for that
--- AllFunctions.ValidatesFunctions: what is known of all functions and entry points, each by those before it, or the first that is refused
--- State.State, Settings, fresh: what a validator keeps from call to call, and begins with
+-- AllFunctions.ValidatesFunctions, AddsInfos: what is known of all functions and entry points, each by those before it, or the first that is refused
+-- State.State, Settings, new_state: what a validator keeps from call to call, and begins with
 -- ErrorNames.constant_error_name, override_error_name, validation_error_name, function_error_name: the name of each variant of an error
 pub mod Accepted
 pub mod AllFunctions

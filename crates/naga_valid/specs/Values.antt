@@ -87,7 +87,7 @@ abbrev pub is_taken : List OverrideItem → Option ℕ → Boolean
 is_taken earlier (Some id) = list_any (has_number id) earlier
 is_taken earlier None = false
 
--- an initialiser has to have the type of its override, and to be there if overrides have to have their values
+-- the error, unless the initialiser of an override has its type `t`, and is there if overrides have to have their values, as `resolved` says
 abbrev pub initialiser_error : Boolean → Module → ModuleInfoLists → ℕ → Option ℕ → Option OverrideError
 initialiser_error resolved m info t (Some e) = require (has_type m info t e) override_error.InvalidType
 initialiser_error resolved m info t None = require (not resolved) override_error.UninitializedOverride
@@ -103,7 +103,7 @@ override_rule is_duplicate resolved m info o =
     ∷ [])
     tt
 
--- a result whose error is reported so
+-- a result with the error that `error` makes of its own
 abbrev pub reported : {E : Type 0} → (E → ValidationError) → Result (Unit {0}) E → Result (Unit {0}) ValidationError
 reported error (Ok u) = Ok u
 reported error (Err e) = Err (error e)
@@ -120,19 +120,19 @@ const_surroundings capabilities resolved m info kinds = record { capabilities = 
 abbrev pub expression_result : ConstSurroundings → ℕ × Expression → Result (Unit {0}) ValidationError
 expression_result s at = reported (ConstExpression at.0) (const_expression_rule s at.0 at.1)
 
--- of a constant
+-- what the rule says of the constant `at.1` of index `at.0`
 abbrev pub constant_result : Module → ModuleInfoLists → List ExpressionKind → ℕ × ConstantItem → Result (Unit {0}) ValidationError
 constant_result m info kinds at = reported (Constant at.0 (shown_name at.1.name)) (constant_rule m info kinds at.1)
 
--- of an override, whose number no earlier one may have
+-- what the rule says of the override `at.1` of index `at.0`, whose number no earlier one may have
 abbrev pub override_result : Boolean → Module → ModuleInfoLists → ℕ × OverrideItem → Result (Unit {0}) ValidationError
 override_result resolved m info at = reported (Override at.0 (shown_name at.1.name)) (override_rule (is_taken (take at.0 m.overrides) at.1.id) resolved m info at.1)
 
--- of all items of a list, each with its index
+-- what `rule` says of each of `items`, with its index
 abbrev pub results_of : {X : Type 0} → (ℕ × X → Result (Unit {0}) ValidationError) → List X → List (Result (Unit {0}) ValidationError)
 results_of rule items = map rule (enumerate_from 0 items)
 
--- of all values of a module: its global expressions, then its constants, then its overrides
+-- what the rules say of all values of a module: its global expressions, then its constants, then its overrides
 abbrev pub value_results : Capabilities → Boolean → Module → ModuleInfoLists → List ExpressionKind → List (Result (Unit {0}) ValidationError)
 value_results capabilities resolved m info kinds =
     results_of (expression_result (const_surroundings capabilities resolved m info kinds)) m.global_expressions

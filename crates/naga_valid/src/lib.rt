@@ -2,7 +2,8 @@
 //! is wrong with any other.
 //!
 //! What a user needs of the crates below is re-exported here: all of their public names but the rules of
-//! single variants of expressions with what they take, `ABSTRACT_WIDTH`, `override_count` and `HandleVec`.
+//! single variants of expressions with what they take, the functions on kinds and sizes that these rules
+//! share, `every_stage`, `ABSTRACT_WIDTH`, `override_count` and `HandleVec`.
 #![tactic(auto)]
 
 pub mod driver;

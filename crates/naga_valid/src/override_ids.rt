@@ -7,9 +7,9 @@ use naga_ir::memory::OutOfMemory;
 use std::alloc::Global;
 use std::marker::Model;
 
-/// A set of numbers of 16 bits: a bool for each number up to the greatest that it has had, at most
-/// 65,536 bytes. It keeps its memory when it is cleared, and doesn't hash, so that no choice of numbers
-/// makes it slow.
+/// A set of numbers of 16 bits: a bool for each number up to the greatest since it was last cleared, in
+/// fewer than 131,072 bytes. It keeps its memory when it is cleared, and doesn't hash, so that no choice
+/// of numbers makes it slow.
 #[derive(Drop)]
 pub struct OverrideIds {
     seen: Vec<bool>,
@@ -43,7 +43,7 @@ impl OverrideIds {
     /// # Errors
     ///
     /// `OutOfMemory` if memory was refused, which is requested only for a number greater than all that
-    /// the set has had.
+    /// the set has had since it was last cleared.
     pub fn insert(&mut self, id: u16) -> Result<bool, OutOfMemory>
         ensures { IfOk result (IsNoted self.old id self.new) }
     {

@@ -4,6 +4,6 @@ use Rattle.naga_info.specs.declared.module_info.FunctionInfo.{FunctionInfo}
 use Rattle.naga_typing.specs.PlainTyping.{ResolveResult}
 use Rattle.naga_typing.specs.declared.typifier.TypeResolution.{TypeResolution}
 
--- `now` is `before` with one type more, the one that `meant` gives
+-- `now` is `before` with one type more, the one in `resolved`
 abbrev pub HasType : ResolveResult → FunctionInfo → FunctionInfo → Type 0
-HasType meant before now = (ty : TypeResolution) × (meant ≡ Ok ty) × (now ≡ record before { types = before.types ++ ty ∷ [] })
+HasType resolved before now = (ty : TypeResolution) × (resolved ≡ Ok ty) × (now ≡ record before { types = before.types ++ ty ∷ [] })

@@ -45,17 +45,6 @@ pub fn type_of(
     }
 }
 
-/// The name of the variant of an error.
-fn name_of(alloc: Global, error: &ExpressionError) -> Result<String, AllocError> {
-    let shown = format!(in alloc; "{error:?}")?;
-    let name = shown
-        .as_str()
-        .split(|c: char| !c.is_ascii_alphanumeric())
-        .next()
-        .unwrap_or("");
-    String::from_str(alloc, name)
-}
-
 /// What the rule of an expression returns.
 type Validated = Result<ShaderStages, ExpressionError>;
 
@@ -66,16 +55,12 @@ fn add_stages(answer: &mut String, stages: ShaderStages) -> Result<(), AllocErro
 }
 
 /// Adds the stages that may use an expression, or the variant of the error.
-fn add_in_short(
-    alloc: Global,
-    answer: &mut String,
-    validated: &Validated,
-) -> Result<(), OutOfMemory> {
+fn add_in_short(answer: &mut String, validated: &Validated) -> Result<(), OutOfMemory> {
     match validated {
         Ok(stages) => Ok(add_stages(answer, *stages)?),
         Err(ExpressionError::OutOfMemory) => Err(OutOfMemory),
         Err(error) => {
-            let name = name_of(alloc, error)?;
+            let name = error.name();
             write!(answer, "refused {name}\n")?;
             Ok(())
         }
@@ -223,15 +208,10 @@ fn validate_callable(
 
 /// Adds a line for each expression of a function or an entry point: the stages that may use it, or the variant
 /// of the error.
-fn add_each(
-    alloc: Global,
-    answer: &mut String,
-    callable: Callable,
-    all: &[Validated],
-) -> Result<(), OutOfMemory> {
+fn add_each(answer: &mut String, callable: Callable, all: &[Validated]) -> Result<(), OutOfMemory> {
     for (place, validated) in all.iter().enumerate() {
         write!(answer, "{callable} E{place} ")?;
-        add_in_short(alloc, answer, validated)?;
+        add_in_short(answer, validated)?;
     }
     Ok(())
 }
@@ -272,7 +252,7 @@ fn add_of_all(
     for place in 0..count {
         let callable = callable_at(module, place);
         match validate_callable(session, draft, info, callable)? {
-            Some(all) => add_each(session.alloc(), answer, callable, &all)?,
+            Some(all) => add_each(answer, callable, &all)?,
             None => add_not_applicable(answer, "an argument is missing")?,
         }
     }
