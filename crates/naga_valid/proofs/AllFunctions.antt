@@ -48,7 +48,7 @@ module _ (by : Validation) (m : Module) where
       let here = subst (λ (l : ModuleInfoLists). IsInfoOf by m l (callable.Function (length lists.functions)) info) as_before accepted in
       record {
         functions = one_more_in_order (λ before i info. IsInfoOf by m (record lists { functions = before; entry_points = [] }) (callable.Function i) info) lists.functions info in_order.functions here;
-        entry_points = none_in_order (λ before i info. IsInfoOf by m (record lists { functions = lists.functions ++ info ∷ []; entry_points = before }) (callable.EntryPoint i) info) lists.entry_points none;
+        entry_points = none_in_order (λ before i own. IsInfoOf by m (record lists { functions = lists.functions ++ info ∷ []; entry_points = before }) (callable.EntryPoint i) own) lists.entry_points none;
       }
 
   -- infos in order, and one more of an entry point

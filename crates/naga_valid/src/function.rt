@@ -74,11 +74,11 @@ pub enum Callable {
 
 impl Callable {
     /// The function, or the function of the entry point.
-    pub fn function(self, module: &Module) -> &Function
-        requires { IsThere «module».now self }
-        ensures { function_of «module».now self ≡ Some result.now }
+    pub fn function<'a>(&self, module: &'a Module) -> &'a Function
+        requires { IsThere «module».now self.now }
+        ensures { function_of «module».now self.now ≡ Some result.now }
     {
-        match self {
+        match *self {
             Callable::Function(handle) => &module.functions[handle],
             Callable::EntryPoint(index) => &module.entry_points.as_slice()[index].function,
         }
@@ -95,11 +95,11 @@ pub struct FunctionsError {
 }
 
 /// Adds what is known of a function or entry point.
-fn add_info(mod_info: &mut ModuleInfo, at: Callable, info: FunctionInfo) -> Result<(), OutOfMemory>
-    ensures added { OnOk result (mod_info.new.lists ≡ with_info mod_info.old.lists at info) }
+fn add_info(mod_info: &mut ModuleInfo, at: &Callable, info: FunctionInfo) -> Result<(), OutOfMemory>
+    ensures added { OnOk result (mod_info.new.lists ≡ with_info mod_info.old.lists at.now info) }
     ensures refused { OnErr result (mod_info.new.lists ≡ mod_info.old.lists) }
 {
-    match at {
+    match *at {
         Callable::Function(_) => mod_info.push_function(info),
         Callable::EntryPoint(_) => mod_info.push_entry_point(info),
     }
@@ -347,10 +347,12 @@ impl<T: Typing> Validator<T> {
             Ok(info) => info,
             Err(source) => return Err(FunctionsError { at, source }),
         };
-        if add_info(mod_info, at, info).is_err() {
-            let source = FunctionError::OutOfMemory;
-            return Err(FunctionsError { at, source });
+        match add_info(mod_info, &at, info) {
+            Ok(()) => Ok(()),
+            Err(OutOfMemory) => {
+                let source = FunctionError::OutOfMemory;
+                Err(FunctionsError { at, source })
+            }
         }
-        Ok(())
     }
 }
