@@ -1,5 +1,5 @@
 -- The answers to the proof goals of `Validator::validate_each_entry_point`.
-use Rattle.std.proofs.Common.{rules, ◌≡◌, ◌∙◌, [], ◌∷◌, ◌++◌, length, ap, arith, sym, length-append}
+use Rattle.std.proofs.Common.{◌≡◌, ◌∙◌, [], ◌∷◌, ◌++◌, length, ap, arith, length-append}
 use Rattle.naga_info.specs.ModuleInfo.{ModuleInfoLists}
 use Rattle.naga_valid.proofs.AllFunctions.{added_in_order}
 use Rattle.naga_valid.specs.AllFunctions.{IsNext}
