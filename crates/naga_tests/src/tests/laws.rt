@@ -1,7 +1,7 @@
 //! What a caller of the validator knows by the laws of accepted modules: each law is called, so that what it
 //! requires can be met, and the caller promises what follows.
 
-ghost use Rattle.std.specs.Prelude.{◌≡◌, ◌+◌, ◌^◌, ◌<◌, IfOk, IfSome, IsTrue, OnOk, length, slice_get};
+ghost use Rattle.std.specs.Prelude.{◌≡◌, ◌+◌, ◌^◌, ◌<◌, false, IfOk, IfSome, IsTrue, OnOk, length, slice_get};
 ghost use Rattle.naga_immediates.specs.LeafSlots.{HasNoArray, HasSlotsOfLeaves};
 ghost use Rattle.naga_immediates.specs.Slots.{IsSetOf, SharesByte};
 ghost use Rattle.naga_ir.specs.ItemReferences.{global_lists};
