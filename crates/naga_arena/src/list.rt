@@ -78,6 +78,18 @@ impl<T: Drop> List<T> {
         self.items.is_empty()
     }
 
+    /// Makes room for `additional` more items: adding so many then takes no more memory.
+    ///
+    /// # Errors
+    ///
+    /// `OutOfMemory` if memory was refused. The items stay as they were either way.
+    pub fn reserve(&mut self, additional: usize) -> Result<(), OutOfMemory>
+        ensures { self.new ≡ self.old }
+    {
+        self.items.reserve(additional)?;
+        Ok(())
+    }
+
     /// Adds an item at the end.
     ///
     /// # Errors

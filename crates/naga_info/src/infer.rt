@@ -68,6 +68,8 @@ pub fn infer_types<T: Typing>(
     ensures proper { All IsProperResolution (info_of result).types }
 {
     let mut info = FunctionInfo::new(alloc, ShaderStages::all());
+    // Where this room is refused, the list of types grows as it is filled.
+    let _ = info.reserve(function.expressions.len());
     for (handle, expression) in function.expressions.iter() {
         if let Err(error) = push_type_of(alloc, module, function, typing, expression, &mut info) {
             return Err(UntypedExpression {

@@ -25,11 +25,11 @@ unfolding known_from
 loop-handle-init g c =
     let m = c.args.module.now in
     let f = c.args.function.now in
-    let none = ap types_of c.new-info.ensures in
+    let none = ap types_of (c.reserve.ensures ∙ c.new-info.ensures) in
     record {
       typed = none_typed m f.expressions _ _ none (c.into_iter-handle-iterator.ensures.into_iter_gives ∙ c.iter-handle-items.ensures);
       follow = none_follow (type_in_order (g.T.Typing.resolves c.args.typing.now) m f) f.expressions _ none;
-      stages = ap stages_of c.new-info.ensures ∙ ap stages (c.all.ensures tt);
+      stages = ap stages_of (c.reserve.ensures ∙ c.new-info.ensures) ∙ ap stages (c.all.ensures tt);
     }
 
 pub push_type_of-requires-clause-can_resolve : goal.push_type_of-requires-clause-can_resolve
