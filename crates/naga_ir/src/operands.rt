@@ -1,8 +1,8 @@
 //! The operands of an expression, and what else it names.
 
-ghost use Rattle.std.specs.Prelude.{◌≡◌, [], ◌++◌, IfNone, option_to_list};
+ghost use Rattle.std.specs.Prelude.{◌≡◌, [], ◌∷◌, ◌++◌, IfNone, option_to_list};
 ghost use Rattle.naga_ir.specs.Operands.{present};
-ghost use Rattle.naga_ir.specs.steps.OperandForms.{ReadsNoImage, listed};
+ghost use Rattle.naga_ir.specs.steps.OperandForms.{IsMath, ReadsImage, listed};
 ghost use Rattle.naga_ir.specs.References as spec;
 
 use crate::expression::{Expression, ImageQuery, SampleLevel};
@@ -11,36 +11,111 @@ use naga_arena::handle::Handle;
 use naga_arena::tags::{ExpressionTag, TypeTag};
 use std::marker::Model;
 
+/// The most operands that have fields of their own.
+const MOST_FIELDS: usize = 8;
+
 /// The operands that have fields of their own. Contracts see those that are left.
+///
+/// They stand at the front, without the fields that have none: nearly all expressions have one or two, and a pass
+/// over them looks at no more.
 #[derive(Drop)]
 struct Fields {
-    operands: [Option<Handle<ExpressionTag>>; 8],
+    operands: [Handle<ExpressionTag>; MOST_FIELDS],
     /// The index of the first that is left.
     next: usize,
+    /// The index after the last.
+    end: usize,
 }
 
 impl Model for Fields {
-    ghost use Rattle.std.specs.Prelude.{ℕ, List, drop};
-    ghost use Rattle.naga_ir.specs.Operands.{present};
+    ghost use Rattle.std.specs.Prelude.{ℕ, ◌-◌, ◌≤◌, List, drop, take};
 
     ghost Value = { List ℕ };
 
-    ghost view = { λ f. present (drop f.next f.operands) };
+    ghost view = { λ f. take (f.end - f.next) (drop f.next f.operands) };
+
+    ghost invariant = { λ f. f.end ≤ 8 };
 }
 
 impl Fields {
-    /// The next operand, without the fields that have none.
+    /// No operand.
+    fn none() -> Fields
+        ensures { result ≡ [] }
+    {
+        Fields {
+            operands: [Handle::new(0); MOST_FIELDS],
+            next: 0,
+            end: 0,
+        }
+    }
+
+    /// One operand.
+    fn one(first: Handle<ExpressionTag>) -> Fields
+        ensures { result ≡ first ∷ [] }
+    {
+        Fields {
+            operands: [first; MOST_FIELDS],
+            next: 0,
+            end: 1,
+        }
+    }
+
+    /// Two operands.
+    fn two(first: Handle<ExpressionTag>, second: Handle<ExpressionTag>) -> Fields
+        ensures { result ≡ first ∷ second ∷ [] }
+    {
+        Fields {
+            operands: [first, second, first, first, first, first, first, first],
+            next: 0,
+            end: 2,
+        }
+    }
+
+    /// Three operands.
+    fn three(
+        first: Handle<ExpressionTag>,
+        second: Handle<ExpressionTag>,
+        third: Handle<ExpressionTag>,
+    ) -> Fields
+        ensures { result ≡ first ∷ second ∷ third ∷ [] }
+    {
+        Fields {
+            operands: [first, second, third, first, first, first, first, first],
+            next: 0,
+            end: 3,
+        }
+    }
+
+    /// The operands of those fields that have one.
+    fn present(options: &[Option<Handle<ExpressionTag>>; MOST_FIELDS]) -> Fields
+        ensures { result ≡ present options.now }
+    {
+        let mut operands = [Handle::new(0); MOST_FIELDS];
+        let mut end = 0;
+        for option in options {
+            if let Some(operand) = option {
+                operands[end] = *operand;
+                end += 1;
+            }
+        }
+        Fields {
+            operands,
+            next: 0,
+            end,
+        }
+    }
+
+    /// The next operand.
     fn next(&mut self) -> Option<Handle<ExpressionTag>>
         ensures operand { self.old ≡ option_to_list result ++ self.new }
         ensures end { IfNone result (self.old ≡ []) }
     {
-        while let Some(operand) = self.operands.get(self.next) {
-            self.next += 1;
-            if operand.is_some() {
-                return *operand;
-            }
+        if self.next >= self.end {
+            return None;
         }
-        None
+        let operand = self.operands[self.next];
+        self.next += 1;
+        Some(operand)
     }
 }
 
@@ -120,11 +195,10 @@ impl Expression {
             Self::Compose { components, .. } => components.as_slice(),
             _ => &[],
         };
-        let fields = Fields {
-            operands: self.field_operands(),
-            next: 0,
-        };
-        Operands { fields, listed }
+        Operands {
+            fields: self.field_operands(),
+            listed,
+        }
     }
 
     /// The type that this names.
@@ -157,10 +231,10 @@ impl Expression {
         }
     }
 
-    /// The operands in the fields of a variant that reads no image. There are four at most.
+    /// The operands that have fields of their own.
     #[tactic(auto, unfolding(crate::specs::References::operands))]
-    fn plain_operands(&self) -> [Option<Handle<ExpressionTag>>; 4]
-        ensures { ReadsNoImage self.now → present result ++ listed self.now ≡ spec.operands self.now }
+    fn field_operands(&self) -> Fields
+        ensures { result ++ listed self.now ≡ spec.operands self.now }
     {
         match *self {
             Self::AccessIndex { base: expr, .. }
@@ -173,31 +247,45 @@ impl Expression {
             | Self::As { expr, .. }
             | Self::ArrayLength(expr)
             | Self::RayQueryGetIntersection { query: expr, .. }
-            | Self::RayQueryVertexPositions { query: expr, .. } => [Some(expr), None, None, None],
-            Self::Access { base, index } => [Some(base), Some(index), None, None],
-            Self::Binary { left, right, .. } => [Some(left), Some(right), None, None],
-            Self::CooperativeLoad { pointer, stride } => [Some(pointer), Some(stride), None, None],
-            Self::CooperativeMultiplyAdd { a, b, c } => [Some(a), Some(b), Some(c), None],
+            | Self::RayQueryVertexPositions { query: expr, .. } => Fields::one(expr),
+            Self::Access { base, index } => Fields::two(base, index),
+            Self::Binary { left, right, .. } => Fields::two(left, right),
+            Self::CooperativeLoad { pointer, stride } => Fields::two(pointer, stride),
+            Self::CooperativeMultiplyAdd { a, b, c } => Fields::three(a, b, c),
             Self::Select {
                 condition,
                 accept,
                 reject,
-            } => [Some(condition), Some(accept), Some(reject), None],
+            } => Fields::three(condition, accept, reject),
+            Self::Math { .. } => Fields::present(&self.math_operands()),
+            Self::ImageSample { .. } | Self::ImageLoad { .. } | Self::ImageQuery { .. } => {
+                Fields::present(&self.image_operands())
+            }
+            _ => Fields::none(),
+        }
+    }
+
+    /// The operands in the fields of a mathematical function.
+    #[tactic(auto, unfolding(crate::specs::References::operands))]
+    fn math_operands(&self) -> [Option<Handle<ExpressionTag>>; 8]
+        ensures { IsMath self.now → present result ≡ spec.operands self.now }
+    {
+        match *self {
             Self::Math {
                 arg,
                 arg1,
                 arg2,
                 arg3,
                 ..
-            } => [Some(arg), arg1, arg2, arg3],
-            _ => [None, None, None, None],
+            } => both([Some(arg), arg1, arg2, arg3], [None, None, None, None]),
+            _ => both([None, None, None, None], [None, None, None, None]),
         }
     }
 
-    /// The operands that have fields of their own.
+    /// The operands in the fields of a variant that reads an image.
     #[tactic(auto, unfolding(crate::specs::References::operands))]
-    fn field_operands(&self) -> [Option<Handle<ExpressionTag>>; 8]
-        ensures { present result ++ listed self.now ≡ spec.operands self.now }
+    fn image_operands(&self) -> [Option<Handle<ExpressionTag>>; 8]
+        ensures { ReadsImage self.now → present result ≡ spec.operands self.now }
     {
         match *self {
             Self::ImageSample {
@@ -230,7 +318,7 @@ impl Expression {
                 [Some(image), query_operand(query), None, None],
                 [None, None, None, None],
             ),
-            _ => both(self.plain_operands(), [None, None, None, None]),
+            _ => both([None, None, None, None], [None, None, None, None]),
         }
     }
 }
