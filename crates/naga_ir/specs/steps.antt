@@ -1,3 +1,4 @@
 -- What only private functions promise one another.
 pub mod OperandForms
+pub mod OwnReferences
 pub mod StatementParts

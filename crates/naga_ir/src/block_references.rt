@@ -3,6 +3,7 @@
 ghost use Rattle.std.specs.Prelude.{◌≡◌, ◌++◌, map, option_to_list};
 ghost use Rattle.std.specs.List.{flat_map};
 ghost use Rattle.naga_ir.specs.Operands.{present};
+ghost use Rattle.naga_ir.specs.steps.OwnReferences.{IsOwn};
 ghost use Rattle.naga_ir.specs.steps.StatementParts.{call_arguments, operands_of, references_of, target_of};
 ghost use Rattle.naga_ir.specs.steps.StatementParts as spec;
 ghost use Rattle.naga_ir.specs.Statements.{block_references, case_references, statement_references};
@@ -84,8 +85,66 @@ fn try_for_each_in_statement<E, F: Fn(Reference) -> Result<(), E>>(
     }
 }
 
+/// What a statement refers to, without the blocks in it.
+#[derive(Clone, Copy)]
+enum OwnReferences {
+    Nothing,
+    One(Reference),
+    Two([Handle<ExpressionTag>; 2]),
+    /// Any number of references.
+    More,
+}
+
+/// What a statement refers to, the blocks in it aside. Nearly all statements refer to two things at most, and most of
+/// them emit expressions or store a value: for these no list is made in which most places are empty.
+#[inline]
+#[tactic(auto, unfolding(crate::specs::Statements::own_target, crate::specs::Statements::own_operands))]
+fn own_references(statement: &Statement) -> OwnReferences
+    ensures { IsOwn statement.now result }
+{
+    match statement {
+        Statement::Emit(range) => OwnReferences::One(Reference::Emit(*range)),
+        Statement::Store { pointer, value } => OwnReferences::Two([*pointer, *value]),
+        Statement::If { condition, .. } => OwnReferences::One(Reference::Expression(*condition)),
+        Statement::Switch { selector, .. } => OwnReferences::One(Reference::Expression(*selector)),
+        Statement::Loop {
+            break_if: Some(condition),
+            ..
+        } => { OwnReferences::One(Reference::Expression(*condition)) }
+        Statement::Return { value: Some(value) } => OwnReferences::One(Reference::Expression(
+            *value,
+        )),
+        Statement::Loop { break_if: None, .. }
+        | Statement::Return { value: None }
+        | Statement::Block(_)
+        | Statement::Break
+        | Statement::Continue
+        | Statement::Kill
+        | Statement::ControlBarrier
+        | Statement::MemoryBarrier => OwnReferences::Nothing,
+        _ => OwnReferences::More,
+    }
+}
+
 /// Calls `check` on each reference of a statement, without the blocks in it.
+#[inline]
 fn try_for_each_own_reference<E, F: Fn(Reference) -> Result<(), E>>(
+    statement: &Statement,
+    check: &F,
+) -> Result<(), E>
+    requires { F.IsAlwaysCallable check.now }
+    ensures { ChecksEach (F.post check.now) (references_of statement.now) result }
+{
+    match own_references(statement) {
+        OwnReferences::Nothing => Ok(()),
+        OwnReferences::One(reference) => check(reference),
+        OwnReferences::Two(operands) => try_for_each_expression(&operands, check),
+        OwnReferences::More => try_for_each_listed_reference(statement, check),
+    }
+}
+
+/// Calls `check` on each reference of a statement that may have any number of them, without the blocks in it.
+fn try_for_each_listed_reference<E, F: Fn(Reference) -> Result<(), E>>(
     statement: &Statement,
     check: &F,
 ) -> Result<(), E>
