@@ -6,6 +6,7 @@ pub mod LiteralLaws
 pub mod MemberLaws
 pub mod ModuleLaws
 pub mod PartLaws
+pub mod PieceLaws
 pub mod SoFarLaws
 pub mod TableLaws
 pub mod TextLaws

@@ -1,5 +1,5 @@
 -- The reader of a member returns the one member with these pieces.
-use Rattle.std.proofs.Common.{◌≡◌, ℕ, List, [], ◌∷◌, Option, None, Some, refl, subst}
+use Rattle.std.proofs.Common.{◌≡◌, ℕ, List, [], ◌∷◌, Option, None, Some, ap, refl, subst}
 use Rattle.std.proofs.lemmas.Option.{option_and_then_some, same_Some}
 use Rattle.naga_ir.specs.declared.types.Binding.{Binding}
 use Rattle.naga_ir.specs.declared.types.Binding.TheVariants.{BuiltIn, Location}
@@ -7,7 +7,9 @@ use Rattle.naga_ir.specs.declared.types.StructMember.{StructMember}
 use Rattle.naga_text.specs.Words.{handle_of, number_of, pieces_of}
 use Rattle.naga_text.specs.Forms.{Matches, binding_parts, handle, member_part, u32_word}
 use Rattle.naga_text.specs.WordForms.{binding_of, member_in, member_of}
+use Rattle.naga_text.specs.Bytes.{colon}
 use Rattle.naga_text.proofs.PartLaws.{by_parts}
+use Rattle.naga_text.proofs.PieceLaws.{has_piece}
 
 -- a binding is read of pieces that write it, and of each such list of pieces
 binding_found : (ps : List (List ℕ)) (binding : Option Binding) → binding_of ps ≡ Some binding → Matches (binding_parts binding) ps
@@ -51,3 +53,7 @@ member_found w m h = pieces_found (pieces_of w) m h
 
 pub member_again : (w : List ℕ) (m : StructMember) → member_part m w → member_of w ≡ Some m
 member_again w m h = pieces_again (pieces_of w) m.name m.ty m.binding m.offset h.0 h.1
+
+-- a binding has no third piece
+pub too_many_pieces : (l b rest : List ℕ) → binding_of (l ∷ b ∷ pieces_of rest) ≡ None
+too_many_pieces l b rest = let piece = has_piece colon rest in ap (λ pieces. binding_of (l ∷ b ∷ pieces)) piece.2

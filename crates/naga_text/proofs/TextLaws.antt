@@ -1,21 +1,24 @@
 -- What the lines of a text say, one line more and all together.
-use Rattle.std.proofs.Common.{◌≡◌, ℕ, ◌+◌, ◌<◌, inl, inr, Bool, true, false, List, [], ◌∷◌, ◌++◌, Result, Ok, Err, cond, drop, filter, get_or, length, map, take, refl, sym, ap, ◌∙◌, subst, append-nil}
+use Rattle.std.specs.Option.{MatchOption}
+use Rattle.std.proofs.Common.{◌≡◌, ℕ, ◌+◌, ◌<◌, inl, inr, Bool, true, false, List, [], ◌∷◌, ◌++◌, Result, Ok, Err, cond, drop, filter, map, take, refl, sym, ap, ◌∙◌, subst, append-nil, Option, None, Some}
 use Rattle.std.specs.Bool.{MatchBool}
 use Rattle.std.specs.List.{AllZip}
-use Rattle.std.proofs.lemmas.List.{map-append, map_more, take-append-drop, take-map}
+use Rattle.std.proofs.lemmas.List.{drop-drop, map-append, take-append-drop}
+use Rattle.std.proofs.Math.Seq.{take-add}
 use borrow.Author.Count.{below_more}
 use Rattle.std.proofs.lemmas.List.Elements.{filter-append}
 use Rattle.naga_arena.specs.Memory.{UnlessOutOfMemory}
 use Rattle.naga_text.specs.Forms.{IsForm}
 use Rattle.naga_text.specs.Text.{AreConsistent, IsFirstUnreadable, IsReadable, IsText, NamesLine, contents_of, has_content}
 use Rattle.naga_text.specs.Words.{words_of}
-use Rattle.naga_text.specs.steps.SoFar.{AreRead, CannotBegin, IsAdded, IsReadNext, ReadSoFar, finished}
+use Rattle.naga_text.specs.steps.LineForms.{line_of}
+use Rattle.naga_text.specs.steps.SoFar.{AreAdded, AreRead, CannotBegin, IsAdded, IsReadNext, ReadSoFar, finished}
 use Rattle.naga_text.specs.declared.line.Line.{Line as Line_}
 use Rattle.naga_text.specs.declared.text.Contents.{Contents}
 use Rattle.naga_text.specs.declared.text.ContentsSoFar.{ContentsSoFar}
 use Rattle.naga_text.specs.declared.text.TextError.{TextError}
 use Rattle.naga_text.specs.declared.text.TextError.TheVariants.{Line, OutOfMemory}
-use Rattle.naga_text.proofs.LineLaws.{line_again}
+use Rattle.naga_text.proofs.LineLaws.{line_again, line_found}
 
 -- words have one form
 form_unique : (ws : List (List ℕ)) (a b : Line_) → IsForm ws a → IsForm ws b → a ≡ b
@@ -87,6 +90,14 @@ form_read old new line said false h form add = λ lines before after readable.
     let same : text.said ≡ before.said ++ said ∷ [] ++ p.1 = p.3 ∙ ap (λ l. before.said ++ l ∷ [] ++ p.1) (form_unique (words_of line) p.0 said p.2 form) in
     add before.said before.consistent before.contents_are p.1 (subst AreConsistent same text.consistent)
 
+-- a line is read as its words are added
+pub words_added : (old new : ContentsSoFar) (line : List ℕ) (added : Bool) → has_content line ≡ true → AreAdded old (words_of line) new added → IsReadNext old line new added
+words_added old new line added content h = go (line_of (words_of line)) refl h
+  where
+    go : (said : Option Line_) → line_of (words_of line) ≡ said → MatchOption said (added ≡ false) (λ l. IsAdded old l new added) → IsReadNext old line new added
+    go None e h = subst (λ read. IsReadNext old line new read) (sym h) (no_form old line content (λ said form. let again = line_again (words_of line) said form in absurd (cc)))
+    go (Some said) e h = form_read old new line said added content (line_found (words_of line) said e) h
+
 -- lines are a text of the contents that were read of them
 pub text_read : (lines : List (List ℕ)) (read : ContentsSoFar) → ReadSoFar lines read → IsText lines (finished read)
 text_read lines read t = record { said = t.said; forms = t.forms; consistent = t.consistent; contents_are = ap finished t.contents_are }
@@ -118,10 +129,20 @@ stops_at lines i read so_far before none = (
   subst (λ l. ¬ (IsReadable l)) (take-append-drop (i + 1) lines) (none (drop (i + 1) lines)),
 )
 
--- one line more was read, or no text begins with it
-pub reads_next : {X : Type 0} (f : X → List ℕ) (xs : List X) (i : ℕ) (d : X) (old new : ContentsSoFar) (read : Bool) → i < length xs → IsReadNext old (f (get_or xs i d)) new read → ReadSoFar (take i (map f xs)) old
-    → MatchBool read (ReadSoFar (take (i + 1) (map f xs)) new) (CannotBegin (take (i + 1) (map f xs)))
-reads_next f xs i d old new read h on so_far =
-    let more : take (i + 1) (map f xs) ≡ take i (map f xs) ++ f (get_or xs i d) ∷ [] =
-    take-map f (i + 1) xs ∙ map_more f xs i d h ∙ ap (λ l. l ++ f (get_or xs i d) ∷ []) (sym (take-map f i xs)) in
-    subst (λ l. MatchBool read (ReadSoFar l new) (CannotBegin l)) (sym more) (on (take i (map f xs)) so_far)
+-- the first of the lines that are left is the next line
+pub next_line : (lines : List (List ℕ)) (i : ℕ) (line : List ℕ) (rest : List (List ℕ)) → line ∷ rest ≡ drop i lines
+    → (take (i + 1) lines ≡ take i lines ++ line ∷ []) × (drop (i + 1) lines ≡ rest)
+next_line lines i line rest h = (
+  take-add i 1 lines ∙ ap (λ l. take i lines ++ take 1 l) (sym h),
+  sym (drop-drop 1 i lines) ∙ ap (drop 1) (sym h),
+)
+
+-- the next line was read, or no text begins with it
+pub reads_next : (lines : List (List ℕ)) (i : ℕ) (line : List ℕ) (rest : List (List ℕ)) (old new : ContentsSoFar) (read : Bool) → line ∷ rest ≡ drop i lines → IsReadNext old line new read → ReadSoFar (take i lines) old
+    → MatchBool read (ReadSoFar (take (i + 1) lines) new) (CannotBegin (take (i + 1) lines))
+reads_next lines i line rest old new read h on so_far =
+    subst (λ l. MatchBool read (ReadSoFar l new) (CannotBegin l)) (sym (next_line lines i line rest h).0) (on (take i lines) so_far)
+
+-- after the last line, all lines are taken
+pub all_taken : (lines : List (List ℕ)) (i : ℕ) (line : List ℕ) → line ∷ [] ≡ drop i lines → take (i + 1) lines ≡ lines
+all_taken lines i line h = sym (append-nil (take (i + 1) lines)) ∙ ap (λ l. take (i + 1) lines ++ l) (sym (next_line lines i line [] h).1) ∙ take-append-drop (i + 1) lines

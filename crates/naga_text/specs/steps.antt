@@ -1,3 +1,4 @@
 -- What the private functions say of their steps.
 pub mod LineForms
+pub mod Lines
 pub mod SoFar

@@ -86,6 +86,8 @@ fn components(
     ensures { IfOk result (λ read. read ≡ read_each handle_of (map (λ w. w.now) words.now)) }
 {
     let mut components = List::new(alloc);
+    // Where this is refused, the pushes may still find room, which they need only up to a word that is no handle.
+    let _ = components.reserve(words.len());
     for word in words {
         match handle(word) {
             Some(component) => components.push(component)?,

@@ -140,7 +140,7 @@ fn expression_line(alloc: Global, words: &[&[u8]]) -> Result<Option<Line>, OutOf
 }
 
 /// The line of a keyword other than `type` and `expr`, and of the words after it.
-fn fixed_line(keyword: &[u8], words: &[&[u8]]) -> Option<Line>
+pub(crate) fn fixed_line(keyword: &[u8], words: &[&[u8]]) -> Option<Line>
     ensures { result ≡ read_by fixed_readers keyword.now (map (λ w. w.now) words.now) }
 {
     match keyword {

@@ -1,52 +1,51 @@
 //! The members of a struct, each in one word.
 
-ghost use Rattle.naga_text.specs.WordForms.{binding_of, member_in, member_of, read_each};
-ghost use Rattle.std.specs.Prelude.{◌≡◌, IfOk, map};
+ghost use Rattle.naga_text.specs.WordForms.{binding_of, member_of, read_each};
+ghost use Rattle.naga_text.specs.Words.{pieces_of};
+ghost use Rattle.std.specs.Prelude.{◌≡◌, IfOk, Some, map, option_map};
 
 use crate::number::{handle, number};
-use crate::pieces::pieces;
+use crate::pieces::split_first;
 use naga_ir::OutOfMemory;
 use naga_ir::list::List;
 use naga_ir::types::{Binding, StructMember};
 use std::alloc::Global;
 
-/// The binding of the pieces after a member's type and offset: none, or a location, and perhaps a blend
-/// source.
-fn binding(pieces: &[&[u8]]) -> Option<Option<Binding>>
-    ensures { result ≡ binding_of (map (λ piece. piece.now) pieces.now) }
+/// The binding of the pieces that follow a member's type and offset: a location, and perhaps a blend source.
+fn binding(pieces: &[u8]) -> Option<Binding>
+    ensures { option_map Some result ≡ binding_of (pieces_of pieces.now) }
 {
-    let (location, blend_src) = match pieces {
-        [] => return Some(None),
-        [location] => (number(location)?, None),
-        [location, blend_src] => (number(location)?, Some(number(blend_src)?)),
-        _ => return None,
+    let (location, rest) = split_first(pieces, b':');
+    let location = number(location)?;
+    let blend_src = match rest {
+        None => None,
+        Some(rest) => match split_first(rest, b':') {
+            (blend_src, None) => Some(number(blend_src)?),
+            (_, Some(_)) => return None,
+        },
     };
-    Some(Some(Binding::Location {
+    Some(Binding::Location {
         location,
         blend_src,
-    }))
-}
-
-fn member_in(pieces: &[&[u8]]) -> Option<StructMember>
-    ensures { result ≡ member_in (map (λ piece. piece.now) pieces.now) }
-{
-    let [ty, offset, rest @ ..] = pieces else {
-        return None;
-    };
-    Some(StructMember {
-        name: None,
-        ty: handle(ty)?,
-        binding: binding(rest)?,
-        offset: number(offset)?,
     })
 }
 
 /// The member of a word: its type, its offset and its binding, parted by colons.
-fn member(alloc: Global, word: &[u8]) -> Result<Option<StructMember>, OutOfMemory>
-    ensures { IfOk result (λ read. read ≡ member_of word.now) }
+fn member(word: &[u8]) -> Option<StructMember>
+    ensures { result ≡ member_of word.now }
 {
-    let pieces = pieces(alloc, word, b':')?;
-    Ok(member_in(&pieces))
+    let (ty, rest) = split_first(word, b':');
+    let (offset, rest) = split_first(rest?, b':');
+    let binding = match rest {
+        None => None,
+        Some(rest) => Some(binding(rest)?),
+    };
+    Some(StructMember {
+        name: None,
+        ty: handle(ty)?,
+        binding,
+        offset: number(offset)?,
+    })
 }
 
 /// The members of words, if each is one.
@@ -54,8 +53,10 @@ pub fn members(alloc: Global, words: &[&[u8]]) -> Result<Option<List<StructMembe
     ensures { IfOk result (λ read. read ≡ read_each member_of (map (λ w. w.now) words.now)) }
 {
     let mut members = List::new(alloc);
+    // Where this is refused, the pushes may still find room, which they need only up to a word that is no member.
+    let _ = members.reserve(words.len());
     for word in words {
-        match member(alloc, word)? {
+        match member(word) {
             Some(member) => members.push(member)?,
             None => return Ok(None),
         }

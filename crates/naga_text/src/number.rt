@@ -1,8 +1,9 @@
 //! Numbers in decimal digits, and the minus that stands for none.
 
-ghost use Rattle.naga_text.specs.Words.{handle_of, integer_up_to, largest_i64, largest_u16, number_of, number_up_to};
+ghost use Rattle.naga_text.specs.Words.{handle_of, integer_up_to, largest_i64, largest_u16, most_digits, number_of, number_up_to, value_after};
+ghost use Rattle.std.specs.Str.{all_ascii_digits};
 ghost use Rattle.naga_text.specs.WordForms.{optional_of};
-ghost use Rattle.std.specs.Prelude.{◌≡◌, ◌+◌, ◌≤◌, ◌≤ℤ◌, IfSome, neg_ℤ, pos};
+ghost use Rattle.std.specs.Prelude.{◌≡◌, ◌+◌, ◌<◌, ◌≤◌, ◌≤ℤ◌, IfSome, None, Some, if◌then◌else◌, length, neg_ℤ, pos};
 
 use crate::words::equals;
 use naga_ir::handle::Handle;
@@ -13,6 +14,21 @@ const MOST_DIGITS: usize = 20;
 /// The greatest index of a handle.
 const MOST_INDEX: u64 = u32::MAX as u64 - 1;
 
+/// The number that up to 19 digits write. It is below 10 to the power of 19, and so is what a loop in 64 bits makes.
+fn short_value(word: &[u8]) -> Option<u64>
+    requires { length word.now < most_digits }
+    ensures { result ≡ (if all_ascii_digits word.now then Some (value_after 0 word.now) else None) }
+{
+    let mut value = 0u64;
+    for byte in word {
+        if !byte.is_ascii_digit() {
+            return None;
+        }
+        value = value * 10 + u64::from(*byte - b'0');
+    }
+    Some(value)
+}
+
 /// The number that a word writes in 1 to 20 digits, if it is at most `most`.
 pub fn number_up_to(word: &[u8], most: u64) -> Option<u64>
     ensures { result ≡ number_up_to most word.now }
@@ -20,6 +36,11 @@ pub fn number_up_to(word: &[u8], most: u64) -> Option<u64>
     if word.is_empty() || word.len() > MOST_DIGITS {
         return None;
     }
+    if word.len() < MOST_DIGITS {
+        let value = short_value(word)?;
+        return if value <= most { Some(value) } else { None };
+    }
+    // Only 20 digits may write a number of more than 64 bits.
     let mut value = 0u128;
     for byte in word {
         if !byte.is_ascii_digit() {

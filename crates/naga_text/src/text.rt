@@ -5,12 +5,16 @@ ghost use Rattle.naga_text.specs.Text.{IsFirstUnreadable, IsText, NamesLine, has
 ghost use Rattle.naga_text.specs.Words.{lines_of};
 ghost use Rattle.naga_text.specs.declared.text.Contents.{Contents};
 ghost use Rattle.naga_text.specs.declared.text.TextError.TheVariants as error;
-ghost use Rattle.naga_text.specs.steps.SoFar.{AreRead, IsAdded, IsNewItem, IsNewType, IsReadNext, IsSetOnce, ReadSoFar, finished};
-ghost use Rattle.std.specs.Prelude.{◌≡◌, ◌∷◌, ◌++◌, IfErr, IfOk, None, Ok, [], map};
+ghost use Rattle.naga_text.specs.steps.Lines.{first_line};
+ghost use Rattle.naga_text.specs.steps.SoFar.{AreAdded, AreRead, IsAdded, IsNewItem, IsNewType, IsReadNext, IsSetOnce, ReadSoFar, finished};
+ghost use Rattle.std.specs.Prelude.{◌≡◌, ◌<◌, ◌∷◌, ◌++◌, IfErr, IfNone, IfOk, IfSome, None, Ok, [], length, map};
 ghost use Rattle.naga_text.specs.ErrorNames.{text_error_name};
 
-use crate::line::{Line, read_line};
-use crate::pieces::pieces;
+use crate::expressions::expression;
+use crate::line::{Line, fixed_line};
+use crate::pieces::{push_words, split_first};
+use crate::types::type_inner;
+use crate::words::equals;
 use naga_flags::flags::{Capabilities, ValidationFlags};
 use naga_ir::OutOfMemory;
 use naga_ir::arena::Arena;
@@ -184,41 +188,90 @@ fn add(alloc: Global, so_far: &mut ContentsSoFar, line: Line) -> Result<bool, Ou
     }
 }
 
-/// Whether a line is neither empty nor a comment.
-fn has_content(line: &[u8]) -> bool
-    ensures { result ≡ has_content line.now }
+/// Adds what the words of a line say, and returns whether they say something that can stand after the lines before it.
+/// A type and an expression are wide, so they go from their words to their arena, with no `Line` between.
+fn add_words(
+    alloc: Global,
+    so_far: &mut ContentsSoFar,
+    words: &[&[u8]],
+) -> Result<bool, OutOfMemory>
+    ensures { IfOk result (AreAdded so_far.old (map (λ w. w.now) words.now) so_far.new) }
 {
-    match line {
-        [] | [b'#', ..] => false,
-        _ => true,
+    let Some((keyword, rest)) = words.split_first() else {
+        return Ok(false);
+    };
+    if equals(keyword, b"type") {
+        return match type_inner(alloc, rest)? {
+            Some(inner) => add_type(&mut so_far.module.types, inner),
+            None => Ok(false),
+        };
     }
-}
-
-/// Reads one line more, and returns whether it could be read.
-fn read_next(alloc: Global, so_far: &mut ContentsSoFar, line: &[u8]) -> Result<bool, OutOfMemory>
-    ensures { IfOk result (IsReadNext so_far.old line.now so_far.new) }
-{
-    if !has_content(line) {
-        return Ok(true);
+    if equals(keyword, b"expr") {
+        return match expression(alloc, rest)? {
+            Some(expression) => add_item(&mut so_far.module.global_expressions, expression),
+            None => Ok(false),
+        };
     }
-    let words = pieces(alloc, line, b' ')?;
-    match read_line(alloc, &words)? {
+    match fixed_line(keyword, rest) {
         Some(line) => add(alloc, so_far, line),
         None => Ok(false),
     }
 }
 
+/// Whether the first line of a text is neither empty nor a comment.
+fn has_content(text: &[u8]) -> bool
+    ensures { result ≡ has_content (first_line text.now) }
+{
+    match text {
+        [] | [b'\n' | b'#', ..] => false,
+        _ => true,
+    }
+}
+
+/// Reads the first line of a text, and returns whether it could be read, and the bytes after that line's end if
+/// another line follows. What `words` has is replaced by the words of the line: all lines have their words in the same
+/// memory.
+fn read_next<'a>(
+    alloc: Global,
+    so_far: &mut ContentsSoFar,
+    text: &'a [u8],
+    words: &mut Vec<&'a [u8]>,
+) -> Result<(bool, Option<&'a [u8]>), OutOfMemory>
+    ensures read { IfOk result (λ r. IsReadNext so_far.old (first_line text.now) so_far.new r.0) }
+    ensures last { IfOk result (λ r. IfNone r.1 (lines_of text.now ≡ first_line text.now ∷ [])) }
+    ensures more { IfOk result (λ r. IfSome r.1 (λ rest. lines_of text.now
+        ≡ first_line text.now ∷ lines_of rest.now)) }
+    ensures shorter { IfOk result (λ r. IfSome r.1 (λ rest. length rest.now < length text.now)) }
+{
+    if !has_content(text) {
+        let (_, others) = split_first(text, b'\n');
+        return Ok((true, others));
+    }
+    words.clear();
+    let others = push_words(text, words)?;
+    let added = add_words(alloc, so_far, words)?;
+    Ok((added, others))
+}
+
 /// Reads line after line.
-fn read_lines(alloc: Global, lines: &[&[u8]]) -> Result<Contents, TextError>
-    ensures { AreRead (map (λ line. line.now) lines.now) result }
+fn read_lines(alloc: Global, text: &[u8]) -> Result<Contents, TextError>
+    ensures { AreRead (lines_of text.now) result }
 {
     let mut so_far = ContentsSoFar::new(alloc);
-    for (i, line) in lines.iter().enumerate() {
-        if !read_next(alloc, &mut so_far, line)? {
-            return Err(TextError::Line(i + 1));
+    let mut words = Vec::new(alloc);
+    let mut rest = text;
+    let mut count = 0;
+    'lines: loop {
+        let (read, others) = read_next(alloc, &mut so_far, rest, &mut words)?;
+        if !read {
+            return Err(TextError::Line(count + 1));
         }
+        match others {
+            Some(others) => rest = others,
+            None => return Ok(so_far.finish()),
+        }
+        count += 1;
     }
-    Ok(so_far.finish())
 }
 
 /// Reads what a text says.
@@ -240,6 +293,5 @@ pub fn read_text(alloc: Global, text: &[u8]) -> Result<Contents, TextError>
     ensures only { (contents : Contents) → IsText (lines_of text.now) contents →
         UnlessOutOfMemory (λ e. e ≡ TextError.OutOfMemory) result (λ read. read ≡ contents) (λ _. ⊥) }
 {
-    let lines = pieces(alloc, text, b'\n')?;
-    read_lines(alloc, &lines)
+    read_lines(alloc, text)
 }

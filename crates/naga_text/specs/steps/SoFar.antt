@@ -6,6 +6,7 @@ use Rattle.naga_ir.specs.declared.types.«Type».{«Type»}
 use Rattle.naga_ir.specs.declared.types.TypeInner.{TypeInner}
 use Rattle.naga_text.specs.Text.{AreConsistent, AreForms, IsFirstUnreadable, IsReadable, IsText, capabilities_in, first_in, flags_in, module_of, resolved_in}
 use Rattle.naga_text.specs.declared.line.Line.{Line as Line_}
+use Rattle.naga_text.specs.steps.LineForms.{line_of}
 use Rattle.naga_text.specs.declared.text.Contents.{Contents}
 use Rattle.naga_text.specs.declared.text.ContentsSoFar.{ContentsSoFar}
 use Rattle.naga_text.specs.declared.text.TextError.{TextError}
@@ -51,6 +52,10 @@ finished read = record {
 abbrev pub IsAdded : ContentsSoFar → Line_ → ContentsSoFar → Bool → Type 0
 IsAdded old line new added = (said : List Line_) → AreConsistent said → old ≡ so_far said →
     MatchBool added (AreConsistent (said ++ line ∷ []) × (new ≡ so_far (said ++ line ∷ []))) ((after : List Line_) → ¬ (AreConsistent (said ++ line ∷ [] ++ after)))
+
+-- after lines that say the old, the line with these words makes them say the new, or they have no form, or that of a line that is not consistent with them
+abbrev pub AreAdded : ContentsSoFar → List (List ℕ) → ContentsSoFar → Bool → Type 0
+AreAdded old words new added = MatchOption (line_of words) (added ≡ false) (λ line. IsAdded old line new added)
 
 -- the lines of a text so far say this
 pub record ReadSoFar (lines : List (List ℕ)) (read : ContentsSoFar) : Type 0 where

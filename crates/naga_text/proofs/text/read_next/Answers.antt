@@ -1,23 +1,16 @@
-use Rattle.std.proofs.Common.{◌≡◌, IfSome, ap, ◌∙◌, subst, sym, true, map}
-use Rattle.std.proofs.lemmas.Result.{IfOk-weaker}
-use Rattle.naga_text.specs.Forms.{IsForm}
+use Rattle.std.proofs.Common.{◌≡◌, ◌++◌, ap, ◌∙◌, subst, sym, true, map}
 use Rattle.naga_text.specs.Text.{has_content}
 use Rattle.naga_text.specs.Words.{words_of}
-use Rattle.naga_text.proofs.TextLaws.{form_read, no_form}
+use Rattle.naga_text.specs.steps.Lines.{first_line}
+use Rattle.naga_text.specs.steps.SoFar.{AreAdded}
+use Rattle.naga_text.proofs.TextLaws.{words_added}
 use Rattle.naga_text.proofs.text.read_next.Goals as goal
 
-pub returns-in-Some : goal.returns-in-Some
-returns-in-Some c =
-    let words : map (λ w. w.now) c.deref.result.now ≡ words_of c.args.line.now = ap (map (λ w. w.now)) c.deref.ensures.value ∙ c.in_ok-words.ensures in
-    let content : has_content c.args.line.now ≡ true = sym c.has_content.ensures ∙ c.if-not-has_content.false in
-    let found = subst (λ read. IfSome read (λ line. IsForm (map (λ w. w.now) c.deref.result.now) line)) c.in-Some.is c.in_ok-line.ensures.found in
-    let form = subst (λ words. IsForm words c.in-Some.line) words found in
-    IfOk-weaker c.add.result _ _ (λ added h. form_read c.args.so_far.now c.add.new.so_far c.args.line.now c.in-Some.line added content form h) c.add.ensures
-
-pub returns : goal.returns
-returns c =
-    let words : map (λ w. w.now) c.deref.result.now ≡ words_of c.args.line.now = ap (map (λ w. w.now)) c.deref.ensures.value ∙ c.in_ok-words.ensures in
-    let content : has_content c.args.line.now ≡ true = sym c.has_content.ensures ∙ c.if-not-has_content.false in
-    let none = c.in-None.is in
-    no_form c.args.so_far.now c.args.line.now content (λ line form.
-    let e = c.in_ok-line.ensures.only line (subst (λ words. IsForm words line) (sym words) form) in absurd (cc))
+pub returns-clause-read : goal.returns-clause-read
+returns-clause-read c =
+    let line = first_line c.args.text.now in
+    let old = c.args.so_far.now in
+    let new = c.add_words.new.so_far in
+    let words : map (λ w. w.now) c.deref.result.now ≡ words_of line = ap (map (λ w. w.now)) c.deref.ensures.value ∙ c.in_ok-others.ensures.words ∙ ap (λ l. map (λ w. w.now) l ++ words_of line) c.clear.ensures.items in
+    let content : has_content line ≡ true = sym c.has_content.ensures ∙ c.if-not-has_content.false in
+    words_added old new line c.in_ok-added.added content (subst (λ words. AreAdded old words new c.in_ok-added.added) words c.in_ok-added.ensures)
