@@ -6,3 +6,4 @@ pub mod Path
 pub mod Places
 pub mod Steps
 pub mod Weights
+pub mod Visits

@@ -73,6 +73,13 @@ past_next (k ∷ p) [] i h = absurd h
 past_next (k ∷ p) (j ∷ q) i (inl lt) = inl lt
 past_next (k ∷ p) (j ∷ q) i (inr h) = inr (h.0, past_next p q i h.1)
 
+-- and from any index
+pub past_from : (p q : List ℕ) (n : ℕ) → Past p q → IsAtOrAfter (p ++ n ∷ []) q
+past_from [] q n h = absurd h
+past_from (i ∷ p) [] n h = absurd h
+past_from (i ∷ p) (j ∷ q) n (inl lt) = inl lt
+past_from (i ∷ p) (j ∷ q) n (inr h) = inr (h.0, past_from p q n h.1)
+
 -- what comes from a greater index comes from a lesser
 pub from_lesser : (p q : List ℕ) (n m : ℕ) → n ≤ m → IsAtOrAfter (p ++ m ∷ []) q → IsAtOrAfter (p ++ n ∷ []) q
 from_lesser [] [] n m le h = absurd h

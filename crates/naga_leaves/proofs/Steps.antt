@@ -1,13 +1,14 @@
 -- Steps from place to place.
-use Rattle.std.proofs.Common.{◌≡◌, ◌+◌, ◌<◌, ◌≤◌, ⊎_elim, ℕ, suc, List, [], ◌∷◌, ◌++◌, Option, Some, None, IfSome, All, length, refl, sym, subst, ap, ◌∙◌, arith}
+use Rattle.std.proofs.Common.{◌≡◌, ◌+◌, ◌<◌, ◌≤◌, ⊎_elim, ℕ, suc, List, [], ◌∷◌, ◌++◌, Option, Some, None, IfSome, All, get_or, length, take, refl, sym, subst, ap, ◌∙◌, arith}
 use Rattle.std.specs.Option.{option_map}
-use Rattle.std.proofs.lemmas.List.{append-nil}
+use Rattle.std.proofs.Math.Seq.{take-length}
+use Rattle.std.proofs.lemmas.List.{append-nil, take_more}
 use Rattle.std.proofs.lemmas.List.Elements.{All-contains, Contains-append_right}
 use Rattle.std.proofs.lemmas.Option.{none-some}
 use Rattle.naga_arena.specs.Numbers.{largest_u32, largest_u64}
 use Rattle.naga_ir.specs.Handles.{GlobalReferencesOk}
 use Rattle.naga_ir.specs.ItemReferences.{GlobalLists}
-use Rattle.naga_leaves.proofs.Order.{Extends, Past, extends_or_next, extends_or_past, from_below, from_extension, from_itself, from_lesser, past_next, to_extension}
+use Rattle.naga_leaves.proofs.Order.{Extends, Past, extends_or_next, extends_or_past, from_below, from_extension, from_itself, from_lesser, past_from, past_next, to_extension}
 use Rattle.naga_leaves.proofs.Path.{moved_begins, moved_twice}
 use Rattle.naga_leaves.proofs.Places.{are_indexes, as_many, back, leaf_at_none, leaf_at_part, leaf_in_place, part_precedes, part_there}
 use Rattle.naga_leaves.proofs.Weights.{outer_more, entering, leaving, passing}
@@ -16,7 +17,7 @@ use Rattle.naga_leaves.specs.Order.{IsAtOrAfter}
 use Rattle.naga_leaves.specs.declared.cursor.Place.{Place}
 use Rattle.naga_leaves.specs.declared.cursor.Step.{Step}
 use Rattle.naga_leaves.specs.declared.cursor.Step.TheVariants.{Leaf, Other, End}
-use Rattle.naga_leaves.specs.steps.Steps.{Leaves, Steps}
+use Rattle.naga_leaves.specs.steps.Steps.{IsFollowing, IsTurned, Leaves, Steps}
 use Rattle.naga_leaves.specs.declared.leaf.Part.{Part}
 use Rattle.naga_leaves.specs.Places.{IsEntered, IsLeft, IsPlace, IsUnmoved, LeadsTo, outer_left, further, part_left, part_of_type, place_left, place_start}
 use Rattle.naga_typing.specs.Leaves as spec
@@ -76,9 +77,33 @@ module _ (g : GlobalLists) (elements_of : Elements) (t : ℕ) where
       back = λ q l h. record { has = h.has; after = subst (λ p. IsAtOrAfter (p ++ n ∷ []) q) (sym e) (from_below r q i n h.after) };
     }
 
+    -- and so may those of its parts that are left
+    pub past_rest : (m : ℕ) → n ≤ m → HasSameFrom g elements_of t (p ++ n ∷ []) (p ++ m ∷ [])
+    past_rest m le = record {
+      into = λ q l h. record { has = h.has; after = past_from p q m (is_past q l h) };
+      back = λ q l h. record { has = h.has; after = from_lesser p q n m le h.after };
+    }
+
     -- and at the whole nothing is left
     pub none_left : p ≡ [] → HasNoneFrom g elements_of t (p ++ n ∷ [])
     none_left e q l h = subst (λ p. Past p q) e (is_past q l h)
+
+-- where no leaf is passed, the same are left
+pub no_leaf_passed : (g : GlobalLists) (elements_of : Elements) (t : ℕ) (a : List ℕ) → HasSameFrom g elements_of t a a
+no_leaf_passed g elements_of t a = record { into = λ q l h. h; back = λ q l h. h }
+
+-- a step led to a part, of which nothing is visited, and past no leaf
+pub record Arrives (g : GlobalLists) (elements_of : Elements) (before now : Place) : Type 0 where
+  pub ty : now.ty ≡ before.ty
+  pub place : IsPlace g elements_of now
+  pub same : HasSameFrom g elements_of before.ty (place_start before) now.path.items
+  pub next : now.next ≡ 0
+  pub fewer : place_left now < place_left before
+
+-- a list is its last and those before it
+last_apart : {A : Type 0} (xs : List A) (n : ℕ) (x : A) → length xs ≡ n + 1 → x ≡ get_or xs n x → xs ≡ take n xs ++ x ∷ []
+last_apart xs n x many is =
+    sym (take-length xs) ∙ ap (λ k. take k xs) many ∙ take_more xs n x (omega arith) ∙ ap (λ y. take n xs ++ y ∷ []) (sym is)
 
 -- two paths of equal parts are equal
 pub same_start : (p q : List ℕ) (m n : ℕ) → p ≡ q → m ≡ n → p ++ m ∷ [] ≡ q ++ n ∷ []
@@ -125,11 +150,44 @@ module _ (g : GlobalLists) (ok : GlobalReferencesOk g) (elements_of : Elements) 
   pub indexes_here : All (λ i. i ≤ largest_u32) before.path.items
   indexes_here = are_indexes g elements_of before.ty before.outer.items before.path.items before.part is.leads
 
+  -- the last index of the path leads from the last part around
+  module _ (n : ℕ) (around : Part) (last : ℕ) (many : length before.path.items ≡ n + 1) (around_is : around ≡ get_or before.outer.items n around) (last_is : last ≡ get_or before.path.items n last) where
+    outer_split : before.outer.items ≡ take n before.outer.items ++ around ∷ []
+    outer_split = last_apart before.outer.items n around (same_lengths ∙ many) around_is
+
+    path_split : before.path.items ≡ take n before.path.items ++ last ∷ []
+    path_split = last_apart before.path.items n last many last_is
+
+    pub around_there : around.ty < length g.types
+    around_there =
+        part_there g elements_of before.ty ok is.exists (take n before.outer.items) (take n before.path.items) around
+        (back g elements_of before.ty before.outer.items before.path.items before.part is.leads (take n before.outer.items) (take n before.path.items) around last outer_split path_split).0
+
+    pub follows_it : (index : ℕ) (part : Part) (child : spec.Part) → index ≡ last + 1 → index ≤ largest_u32 → part_of_type g elements_of around.ty index ≡ Some child
+        → part ≡ record { ty = child.ty; first = around.first + child.first } → part.first ≤ largest_u64 → IsFollowing g elements_of before index part
+    follows_it index part child index_is within there part_is begins = record {
+      outer = take n before.outer.items;
+      path = take n before.path.items;
+      around = around;
+      last = last;
+      child = child;
+      outer_is = outer_split;
+      path_is = path_split;
+      index_is = index_is;
+      within = within;
+      there = there;
+      part_is = part_is;
+      begins = begins;
+    }
+
   module _ (none : (m : ℕ) → before.next ≤ m → m ≤ largest_u32 → part_of_type g elements_of before.part.ty m ≡ None) where
     no_leaf : (m : ℕ) (rest : List ℕ) → before.next ≤ m → m ≤ largest_u32 → leaf_at g elements_of before.ty (before.path.items ++ m ∷ rest) ≡ None
     no_leaf m rest from within =
         leaf_in_place g elements_of before.ty before.outer.items before.path.items before.part is.leads (m ∷ rest)
         ∙ ap (option_map (moved before.part.first)) (leaf_at_none g elements_of before.part.ty m rest (none m from within))
+
+    pub rest_same : (m : ℕ) → before.next ≤ m → HasSameFrom g elements_of before.ty (place_start before) (before.path.items ++ m ∷ [])
+    rest_same m le = past_rest g elements_of before.ty before.path.items before.next no_leaf m le
 
     pub at_end : before.path.items ≡ [] → HasNoneFrom g elements_of before.ty (place_start before)
     at_end e = none_left g elements_of before.ty before.path.items before.next no_leaf e
@@ -160,6 +218,44 @@ module _ (g : GlobalLists) (ok : GlobalReferencesOk g) (elements_of : Elements) 
         where
           sums : (old new outer all inner : ℕ) → old ≡ outer + inner → new ≡ all → outer ≡ all → 0 < inner → new < old
           sums old new outer all inner a b e h = omega arith
+
+    -- the part that follows takes its place
+    module _ (now : Place) (index : ℕ) (part : Part) (follows : IsFollowing g elements_of before index part) (turned : IsTurned before now index part) where
+      around_leads : LeadsTo g elements_of before.ty follows.outer follows.path follows.around × (follows.last ≤ largest_u32)
+      around_leads = back g elements_of before.ty before.outer.items before.path.items before.part is.leads follows.outer follows.path follows.around follows.last follows.outer_is follows.path_is
+
+      path_now : now.path.items ≡ follows.path ++ index ∷ []
+      path_now = turned.path follows.path follows.last follows.path_is
+
+      turned_place : IsPlace g elements_of now
+      turned_place =
+          place_by g elements_of now before.ty (follows.outer ++ follows.around ∷ []) (follows.path ++ index ∷ []) (record { ty = follows.child.ty; first = follows.around.first + follows.child.first }) 0
+          turned.ty (turned.outer ∙ follows.outer_is) path_now (turned.part_is ∙ follows.part_is) turned.next is.exists
+          (further follows.outer follows.path follows.around index follows.child around_leads.0 follows.there follows.within) (omega arith)
+
+      turned_same : HasSameFrom g elements_of before.ty (place_start before) now.path.items
+      turned_same =
+          subst (HasSameFrom g elements_of before.ty (place_start before)) (ap (λ (i : ℕ). follows.path ++ i ∷ []) (sym follows.index_is) ∙ sym path_now)
+          (past_part g elements_of before.ty before.path.items before.next no_leaf follows.path follows.last follows.path_is)
+
+      turned_fewer : place_left now < place_left before
+      turned_fewer =
+          let many : length follows.outer ≡ length follows.path = as_many g elements_of before.ty follows.outer follows.path follows.around around_leads.0 in
+          let old : place_left before ≡ outer_left (follows.outer ++ follows.around ∷ []) (follows.path ++ follows.last ∷ []) + part_left before.part.ty before.next =
+          left_by g elements_of before before.ty (follows.outer ++ follows.around ∷ []) (follows.path ++ follows.last ∷ []) before.part before.next refl follows.outer_is follows.path_is refl refl in
+          let new : place_left now ≡ outer_left (follows.outer ++ follows.around ∷ []) (follows.path ++ index ∷ []) + part_left follows.child.ty 0 =
+          left_by g elements_of now before.ty (follows.outer ++ follows.around ∷ []) (follows.path ++ index ∷ []) (record { ty = follows.child.ty; first = follows.around.first + follows.child.first }) 0
+          turned.ty (turned.outer ∙ follows.outer_is) path_now (turned.part_is ∙ follows.part_is) turned.next in
+          let less : part_left follows.child.ty 0 + part_left follows.around.ty (index + 1) < part_left follows.around.ty index =
+          entering follows.around.ty index follows.within follows.child.ty (part_precedes g elements_of ok follows.around.ty index follows.child follows.there).0 in
+          sums (place_left before) (place_left now) _ _ _ _ _ _ _ _ old (outer_more follows.outer follows.path follows.around follows.last many) new (outer_more follows.outer follows.path follows.around index many)
+          (ap (λ k. part_left follows.around.ty k) follows.index_is) less
+        where
+          sums : (old new more most outer a b c inner part : ℕ) → old ≡ more + inner → more ≡ outer + a → new ≡ most + part → most ≡ outer + b → c ≡ a → part + b < c → new < old
+          sums old new more most outer a b c inner part e f h i k l = omega arith
+
+      pub turned_arrives : Arrives g elements_of before now
+      turned_arrives = record { ty = turned.ty; place = turned_place; same = turned_same; next = turned.next; fewer = turned_fewer }
 
   module _ (n : ℕ) (child : spec.Part) (next_is : n ≡ before.next) (within : n ≤ largest_u32) (at : part_of_type g elements_of before.part.ty n ≡ Some child) where
     abbrev leaf_of_child : List ℕ → Option LeafBytes
@@ -197,12 +293,12 @@ module _ (g : GlobalLists) (ok : GlobalReferencesOk g) (elements_of : Elements) 
       leads_on : LeadsTo g elements_of before.ty (before.outer.items ++ before.part ∷ []) (before.path.items ++ n ∷ []) (record { ty = child.ty; first = before.part.first + child.first })
       leads_on = further before.outer.items before.path.items before.part n child is.leads at within
 
-      pub entered_place : IsPlace g elements_of now
+      entered_place : IsPlace g elements_of now
       entered_place =
           place_by g elements_of now before.ty (before.outer.items ++ before.part ∷ []) (before.path.items ++ n ∷ []) (record { ty = child.ty; first = before.part.first + child.first }) 0
           entered.ty entered.outer entered.path (entered.part_is ∙ part_is) entered.next is.exists leads_on (omega arith)
 
-      pub entered_fewer : place_left now < place_left before
+      entered_fewer : place_left now < place_left before
       entered_fewer =
           let new : place_left now ≡ outer_left (before.outer.items ++ before.part ∷ []) (before.path.items ++ n ∷ []) + part_left child.ty 0 =
           left_by g elements_of now before.ty (before.outer.items ++ before.part ∷ []) (before.path.items ++ n ∷ []) (record { ty = child.ty; first = before.part.first + child.first }) 0
@@ -218,27 +314,14 @@ module _ (g : GlobalLists) (ok : GlobalReferencesOk g) (elements_of : Elements) 
       starts_before : place_start before ≡ now.path.items
       starts_before = same_start before.path.items before.path.items before.next n refl (sym next_is) ∙ sym entered.path
 
-      starts_now : place_start now ≡ now.path.items ++ 0 ∷ []
-      starts_now = same_start now.path.items now.path.items now.next 0 refl entered.next
-
-      leaf_now : leaf_at g elements_of before.ty now.path.items ≡ option_map (moved now.part.first) (leaf_at g elements_of now.part.ty [])
-      leaf_now = ap (λ t. leaf_at g elements_of t now.path.items) (sym entered.ty)
-          ∙ (ap (leaf_at g elements_of now.ty) (sym (append-nil now.path.items)) ∙ leaf_in_place g elements_of now.ty now.outer.items now.path.items now.part entered_place.leads [])
-
-      -- at a part that is not a leaf no leaf is passed
-      pub entered_same : option_map (moved now.part.first) (leaf_at g elements_of now.part.ty []) ≡ None → HasSameFrom g elements_of before.ty (place_start before) (place_start now)
-      entered_same none =
-          subst (λ b. HasSameFrom g elements_of before.ty b (place_start now)) (sym starts_before)
-          (subst (HasSameFrom g elements_of before.ty now.path.items) (sym starts_now) (past_none g elements_of before.ty now.path.items (leaf_now ∙ none)))
-
-      -- a part that is a leaf is the first
-      pub entered_leaf : (l : LeafBytes) → option_map (moved now.part.first) (leaf_at g elements_of now.part.ty []) ≡ Some l → l.first ≤ largest_u64
-          → IsFirstLeaf g elements_of before.ty (place_start before) now.path.items (place_start now) l
-      entered_leaf l some begins =
-          subst (λ b. IsFirstLeaf g elements_of before.ty b now.path.items (place_start now) l) (sym starts_before)
-          (subst (λ r. IsFirstLeaf g elements_of before.ty now.path.items now.path.items r l) (sym starts_now)
-          (first_is g elements_of before.ty now.path.items l (leaf_now ∙ some) begins
-          (are_indexes g elements_of now.ty now.outer.items now.path.items now.part entered_place.leads)))
+      pub entered_arrives : Arrives g elements_of before now
+      entered_arrives = record {
+        ty = entered.ty;
+        place = entered_place;
+        same = subst (HasSameFrom g elements_of before.ty (place_start before)) starts_before (no_leaf_passed g elements_of before.ty (place_start before));
+        next = entered.next;
+        fewer = entered_fewer;
+      }
 
 module _ (g : GlobalLists) (elements_of : Elements) (before now : Place) (same : IsUnmoved before now) where
   -- a place that did not move is one still

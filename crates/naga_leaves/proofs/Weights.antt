@@ -1,5 +1,6 @@
 -- Each step leaves fewer steps.
 use Rattle.std.proofs.Common.{◌≡◌, ◌+◌, ◌-◌, ◌*◌, ◌<◌, ◌≤◌, ⊎_elim, ◌⊎◌, ℕ, zero, suc, List, [], ◌∷◌, ◌++◌, length, sym, subst, ap, ◌∙◌, arith}
+use Rattle.std.proofs.Math.Nat.{mul-le-mul_right}
 use Rattle.std.proofs.lemmas.Bool.{cases_order}
 use Rattle.naga_arena.specs.Numbers.{largest_u32}
 use Rattle.naga_leaves.specs.declared.leaf.Part.{Part}
@@ -40,6 +41,10 @@ module _ (t n : ℕ) (within : n ≤ largest_u32) where
   -- and so does to pass one
   pub passing : part_left t (n + 1) < part_left t n
   passing = subst (λ k. part_left t (n + 1) < k * weight t) (sym fewer) (one_less (suc (suc largest_u32) - (n + 1)) (weight t) (weight_positive t))
+
+-- from a later index on no more steps are left
+pub later : (t n m : ℕ) → n ≤ m → part_left t m ≤ part_left t n
+later t n m le = mul-le-mul_right (weight t) (omega arith)
 
 -- and to leave a part
 pub leaving : (t n : ℕ) → n ≤ suc largest_u32 → 0 < part_left t n

@@ -9,7 +9,7 @@ ghost use Rattle.naga_leaves.specs.Cursor.{YieldsAll, YieldsSame, IsAtEnd, IsCur
 ghost use Rattle.naga_leaves.specs.steps.NextLeaf.{ComesOn};
 ghost use Rattle.naga_leaves.specs.steps.Parts.{part_of};
 ghost use Rattle.naga_leaves.specs.Places.{IsEntered, IsPlace, IsUnmoved, part_of_type};
-ghost use Rattle.naga_leaves.specs.steps.Steps.{Leaves as LeavesPart, Steps};
+ghost use Rattle.naga_leaves.specs.steps.Steps.{HasNoPartFrom, IsFollowing, IsTurned, IsVisited, Leaves as LeavesPart, Steps};
 ghost use Rattle.naga_typing.specs.Context.{lists_of};
 ghost use Rattle.naga_typing.specs.Leaves.{Elements, elements, leaf_at, moved};
 
@@ -39,7 +39,8 @@ struct Place {
     ty: Handle<TypeTag>,
     /// The part to which the path leads, with its first byte from the start of the whole value.
     part: Part,
-    /// The index of the element or member of that part to visit next.
+    /// The index of the element or member of that part to visit next: past `u32::MAX` in a leaf that
+    /// was visited, which has none.
     next: u64,
     /// The parts around it, from the whole value on.
     outer: Vec<Part>,
@@ -57,7 +58,7 @@ impl Place {
         ensures begins { IfSome result (λ leaf. leaf.first ≡ self.now.part.first) }
     {
         let Part { ty, first } = self.part;
-        let leaf = whole_leaf(&gctx.types[ty].inner, gctx)?;
+        let leaf = whole_leaf(&gctx.types[ty].inner)?;
         Some(Leaf { first, ..leaf })
     }
 
@@ -67,13 +68,16 @@ impl Place {
         requires exists { self.now.part.ty < length_of gctx.types.now }
         requires references { GlobalReferencesOk (lists_of gctx) }
         ensures { MatchOption result
-            ((m : ℕ) → self.now.next ≤ m → m ≤ largest_u32
-            → part_of_type (lists_of gctx.entry) (elements (lists_of gctx.entry) length) self.now.part.ty m ≡ None)
+            (HasNoPartFrom (lists_of gctx.entry) (elements (lists_of gctx.entry) length) self.now.part.ty self.now.next)
             (λ r. (r.0 ≡ self.now.next) × (r.0 ≤ largest_u32)
             × (part_of_type (lists_of gctx.entry) (elements (lists_of gctx.entry) length) self.now.part.ty r.0
             ≡ Some (part_of r.1))) }
     {
-        let index = u32::try_from(self.next).ok()?;
+        // No part has an index past all `u32`s, so the type of a visited leaf isn't looked up.
+        if self.next > u64::from(u32::MAX) {
+            return None;
+        }
+        let index = self.next as u32;
         let part = part_at(&gctx.types[self.part.ty].inner, index, length, gctx)?;
         Some((index, part))
     }
@@ -109,7 +113,70 @@ impl Place {
         Step::Other
     }
 
-    /// Visits the next element or member of the part, or leaves the part if it has no more.
+    /// Goes on to another part of the part around the part.
+    #[inline]
+    fn turn(&mut self, index: u32, part: Part)
+        requires { 0 < length_of self.old.path.items }
+        ensures { IsTurned self.old self.new index part }
+    {
+        let last = self.path.len() - 1;
+        self.path[last] = index;
+        self.part = part;
+        self.next = 0;
+    }
+
+    /// The element or member that follows the part in the part around it, with its index: `None` if
+    /// there is none, or if it begins past `u64::MAX`.
+    #[inline]
+    fn following(&self, length: u32, gctx: GlobalCtx<'_>) -> Option<(u32, Part)>
+        requires place { IsPlace (lists_of gctx) (elements (lists_of gctx) length) self.now }
+        requires references { GlobalReferencesOk (lists_of gctx) }
+        ensures { IfSome result (λ r. IsFollowing (lists_of gctx.entry) (elements (lists_of gctx.entry) length) self.now
+            r.0 r.1) }
+    {
+        let last = self.path.len().checked_sub(1)?;
+        let around = self.outer[last];
+        let index = self.path[last].checked_add(1)?;
+        let part = part_at(&gctx.types[around.ty].inner, index, length, gctx)?;
+        let first = around.first.checked_add(part.first)?;
+        Some((index, Part { ty: part.ty, first }))
+    }
+
+    /// Visits the part, to which a step has led: the step comes to a leaf if the part is one.
+    #[inline]
+    fn visit(&mut self, gctx: GlobalCtx<'_>) -> Step
+        requires exists { self.old.part.ty < length_of gctx.types.now }
+        requires references { GlobalReferencesOk (lists_of gctx) }
+        ensures { (e : Elements) → IsVisited (lists_of gctx.entry) e self.old self.new result }
+    {
+        let Some(leaf) = self.leaf(gctx) else {
+            return Step::Other;
+        };
+        // A leaf has no parts, so the next step may pass it without a look at its type.
+        self.next = u64::from(u32::MAX) + 1;
+        Step::Leaf(leaf)
+    }
+
+    /// Goes on from the part, which has no more elements or members, to the one that follows it, or
+    /// leaves the part.
+    #[inline]
+    fn pass(&mut self, length: u32, gctx: GlobalCtx<'_>) -> Step
+        requires place { IsPlace (lists_of gctx) (elements (lists_of gctx) length) self.old }
+        requires references { GlobalReferencesOk (lists_of gctx) }
+        requires none { HasNoPartFrom (lists_of gctx) (elements (lists_of gctx) length) self.old.part.ty self.old.next }
+        ensures place { IsPlace (lists_of gctx.entry) (elements (lists_of gctx.entry) length) self.new }
+        ensures ty { self.new.ty ≡ self.old.ty }
+        ensures steps { Steps (lists_of gctx.entry) (elements (lists_of gctx.entry) length) self.old self.new result }
+    {
+        // What follows has the same parts around it, so a step to it needs no memory.
+        let Some((index, part)) = self.following(length, gctx) else {
+            return self.leave();
+        };
+        self.turn(index, part);
+        self.visit(gctx)
+    }
+
+    /// Visits the next element or member of the part, or passes the part if it has no more.
     fn step(&mut self, length: u32, gctx: GlobalCtx<'_>) -> Result<Step, OutOfMemory>
         requires place { IsPlace (lists_of gctx) (elements (lists_of gctx) length) self.old }
         requires references { GlobalReferencesOk (lists_of gctx) }
@@ -120,7 +187,7 @@ impl Place {
         ensures err { OnErr result (IsUnmoved self.old self.new) }
     {
         let Some((index, part)) = self.next_part(length, gctx) else {
-            return Ok(self.leave());
+            return Ok(self.pass(length, gctx));
         };
         // All leaves of a part that begins past `u64::MAX` are left out, so it isn't entered.
         let Some(first) = self.part.first.checked_add(part.first) else {
@@ -128,10 +195,7 @@ impl Place {
             return Ok(Step::Other);
         };
         self.enter(index, Part { ty: part.ty, first })?;
-        Ok(match self.leaf(gctx) {
-            Some(leaf) => Step::Leaf(leaf),
-            None => Step::Other,
-        })
+        Ok(self.visit(gctx))
     }
 }
 

@@ -1,25 +1,25 @@
 //! The leaf of a type to which a path of indexes leads.
 
-ghost use Rattle.std.specs.Prelude.{[], ◌≡◌, ◌<◌, if◌then◌else◌, IfSome, MatchOption, None, Some, length, option_map};
+ghost use Rattle.std.specs.Prelude.{[], ◌≡◌, ◌<◌, IfSome, MatchOption, None, Some, length, option_map, unwrap_or};
 ghost use Rattle.std.specs.Prelude.{length as length_of};
 ghost use Rattle.naga_arena.specs.Numbers.{largest_u64};
 ghost use Rattle.naga_ir.specs.Handles.{GlobalReferencesOk};
-ghost use Rattle.naga_ir.specs.ItemReferences.{global_lists};
+ghost use Rattle.naga_ir.specs.ItemReferences.{GlobalLists, global_lists};
 ghost use Rattle.naga_ir.specs.Parts.{pending};
 ghost use Rattle.naga_leaves.specs.Leaf.{bytes_of};
 ghost use Rattle.naga_leaves.specs.steps.Parts.{part_of};
+ghost use Rattle.naga_typing.specs.Constants.{override_count as override_count_of};
 ghost use Rattle.naga_typing.specs.Context.{ReferencesExist, lists_of};
-ghost use Rattle.naga_typing.specs.Layout.{alignment_of};
 ghost use Rattle.naga_typing.specs.Leaves as spec;
-ghost use Rattle.naga_typing.specs.Leaves.{elements, is_leaf};
+ghost use Rattle.naga_typing.specs.Leaves.{elements};
 
 use naga_ir::alignment::Alignment;
 use naga_ir::handle::Handle;
 use naga_ir::ir::Module;
-use naga_ir::tags::TypeTag;
+use naga_ir::tags::{OverrideTag, TypeTag};
 use naga_ir::types::{ArraySize, TypeInner};
 use naga_typing::context::{GlobalCtx, to_ctx};
-use naga_typing::type_methods::{override_count, size};
+use naga_typing::type_methods::override_count;
 
 /// Where a leaf is: a scalar, a vector, a matrix or an atomic.
 #[derive(Clone, Copy, Debug, PartialEq, Eq)]
@@ -41,8 +41,21 @@ pub(crate) struct Part {
     pub(crate) first: u64,
 }
 
+/// How many elements an array has that an override sizes: none if the override gives no count.
+#[cold]
+#[inline(never)]
+fn pending_count(override_: Handle<OverrideTag>, gctx: GlobalCtx<'_>) -> u32
+    requires exists { override_ < length gctx.overrides.now }
+    requires references { GlobalReferencesOk (lists_of gctx) }
+    ensures { result ≡ unwrap_or (override_count_of (lists_of gctx.entry) override_) 0 }
+{
+    // Few arrays are sized so: kept apart, this leaves `part_at` small where it is inlined.
+    override_count(override_, gctx).unwrap_or(0)
+}
+
 /// How many elements an array has if a runtime-sized one has `dynamic` elements: none if it is sized
 /// by an override that gives no count.
+#[inline]
 fn element_count(size: ArraySize, dynamic: u32, gctx: GlobalCtx<'_>) -> u32
     requires exists { IfSome (pending size) (λ o. o < length gctx.overrides.now) }
     requires references { GlobalReferencesOk (lists_of gctx) }
@@ -50,12 +63,13 @@ fn element_count(size: ArraySize, dynamic: u32, gctx: GlobalCtx<'_>) -> u32
 {
     match size {
         ArraySize::Constant(count) => count.get(),
-        ArraySize::Pending(override_) => override_count(override_, gctx).unwrap_or(0),
+        ArraySize::Pending(override_) => pending_count(override_, gctx),
         ArraySize::Dynamic => dynamic,
     }
 }
 
 /// The element or the member of an index, if a runtime-sized array has `dynamic` elements.
+#[inline(always)]
 pub(crate) fn part_at(
     inner: &TypeInner,
     index: u32,
@@ -99,20 +113,56 @@ pub(crate) fn part_at(
     }
 }
 
-/// The alignment of a leaf, in bytes, or `None` if `inner` is not a leaf.
-fn leaf_alignment(inner: &TypeInner) -> Option<u32>
-    ensures { result ≡ (if is_leaf inner.now then Some (alignment_of [] inner.now) else None) }
+/// All bytes of a value that is a leaf, or `None` if `inner` is not a leaf.
+#[inline]
+pub(crate) fn whole_leaf(inner: &TypeInner) -> Option<Leaf>
+    ensures { (g : GlobalLists) → option_map bytes_of result ≡ spec.whole_leaf g inner.now }
 {
+    // Neither the size nor the alignment of a leaf depends on another type.
     match inner {
-        TypeInner::Scalar(scalar)
-        | TypeInner::CooperativeMatrix { scalar, .. }
-        | TypeInner::Atomic(scalar) => Some(u32::from(scalar.width)),
-        TypeInner::Vector { size, scalar }
-        | TypeInner::Matrix {
-            rows: size,
+        TypeInner::Scalar(scalar) | TypeInner::Atomic(scalar) => {
+            let width = u32::from(scalar.width);
+            Some(Leaf {
+                first: 0,
+                size: width,
+                alignment: width,
+            })
+        }
+        TypeInner::Vector { size, scalar } => {
+            let width = u32::from(scalar.width);
+            Some(Leaf {
+                first: 0,
+                size: u32::from(size.components()) * width,
+                alignment: Alignment::from(*size).get() * width,
+            })
+        }
+        TypeInner::Matrix {
+            columns,
+            rows,
+            scalar,
+        } => {
+            // WGSL gives a column of three the room of four; cooperative matrices have no gaps.
+            let column = Alignment::from(*rows).get() * u32::from(scalar.width);
+            Some(Leaf {
+                first: 0,
+                size: u32::from(columns.components()) * column,
+                alignment: column,
+            })
+        }
+        TypeInner::CooperativeMatrix {
+            columns,
+            rows,
             scalar,
             ..
-        } => Some(Alignment::from(*size).get() * u32::from(scalar.width)),
+        } => {
+            let width = u32::from(scalar.width);
+            let column = u32::from(rows.components()) * width;
+            Some(Leaf {
+                first: 0,
+                size: u32::from(columns.components()) * column,
+                alignment: width,
+            })
+        }
         TypeInner::Pointer { .. }
         | TypeInner::ValuePointer { .. }
         | TypeInner::Array { .. }
@@ -123,20 +173,6 @@ fn leaf_alignment(inner: &TypeInner) -> Option<u32>
         | TypeInner::RayQuery { .. }
         | TypeInner::BindingArray { .. } => None,
     }
-}
-
-/// All bytes of a value that is a leaf, or `None` if `inner` is not a leaf.
-pub(crate) fn whole_leaf(inner: &TypeInner, gctx: GlobalCtx<'_>) -> Option<Leaf>
-    requires exist { ReferencesExist (lists_of gctx) inner.now }
-    requires references { GlobalReferencesOk (lists_of gctx) }
-    ensures { option_map bytes_of result ≡ spec.whole_leaf (lists_of gctx.entry) inner.now }
-{
-    let alignment = leaf_alignment(inner)?;
-    Some(Leaf {
-        first: 0,
-        size: size(inner, gctx),
-        alignment,
-    })
 }
 
 /// The leaf of the type `ty` to which `path` leads, the indexes of elements and members from the
@@ -166,6 +202,6 @@ pub fn leaf_at(module: &Module, ty: Handle<TypeTag>, path: &[u32], length: u32) 
         first = first.checked_add(part.first)?;
         ty = part.ty;
     }
-    let leaf = whole_leaf(&gctx.types[ty].inner, gctx)?;
+    let leaf = whole_leaf(&gctx.types[ty].inner)?;
     Some(Leaf { first, ..leaf })
 }

@@ -1,13 +1,61 @@
 -- What a step of a cursor does.
-use Rattle.std.specs.Prelude.{◌≡◌, ◌<◌, ℕ, []}
+use Rattle.std.specs.Prelude.{◌≡◌, ◌+◌, ◌<◌, ◌≤◌, ℕ, suc, List, [], ◌∷◌, ◌++◌, Option, Some, None, option_map}
+use Rattle.naga_arena.specs.Numbers.{largest_u32, largest_u64}
 use Rattle.naga_ir.specs.ItemReferences.{GlobalLists}
 use Rattle.naga_leaves.specs.Leaf.{bytes_of}
 use Rattle.naga_leaves.specs.declared.cursor.Place.{Place}
 use Rattle.naga_leaves.specs.declared.cursor.Step.{Step}
 use Rattle.naga_leaves.specs.declared.cursor.Step.TheVariants.{Leaf, Other, End}
-use Rattle.naga_leaves.specs.Places.{IsLeft, IsUnmoved, place_left, place_start}
+use Rattle.naga_leaves.specs.declared.leaf.Part.{Part}
+use Rattle.naga_leaves.specs.Places.{IsLeft, IsUnmoved, part_of_type, place_left, place_start}
 use Rattle.naga_leaves.specs.LeavesFrom.{HasNoneFrom, HasSameFrom, IsFirstLeaf}
-use Rattle.naga_typing.specs.Leaves.{Elements}
+use Rattle.naga_typing.specs.Leaves as spec
+use Rattle.naga_typing.specs.Leaves.{Elements, LeafBytes, leaf_at, moved}
+
+-- a type has no part from an index on
+abbrev pub HasNoPartFrom : GlobalLists → Elements → ℕ → ℕ → Type 0
+HasNoPartFrom g elements_of t next = (m : ℕ) → next ≤ m → m ≤ largest_u32 → part_of_type g elements_of t m ≡ None
+
+-- a place went on to another part of the part around its part
+pub record IsTurned (before now : Place) (index : ℕ) (part : Part) : Type 0 where
+  pub ty : now.ty ≡ before.ty
+  pub part_is : now.part ≡ part
+  pub next : now.next ≡ 0
+  pub outer : now.outer.items ≡ before.outer.items
+  pub path : (rest : List ℕ) (i : ℕ) → before.path.items ≡ rest ++ i ∷ [] → now.path.items ≡ rest ++ index ∷ []
+
+-- a part follows the part of a place in the part around it
+pub record IsFollowing (g : GlobalLists) (elements_of : Elements) (place : Place) (index : ℕ) (part : Part) : Type 0 where
+  pub outer : List Part
+  pub path : List ℕ
+  pub around : Part
+  pub last : ℕ
+  pub child : spec.Part
+  pub outer_is : place.outer.items ≡ outer ++ around ∷ []
+  pub path_is : place.path.items ≡ path ++ last ∷ []
+  pub index_is : index ≡ last + 1
+  pub within : index ≤ largest_u32
+  pub there : part_of_type g elements_of around.ty index ≡ Some child
+  pub part_is : part ≡ record { ty = child.ty; first = around.first + child.first }
+  pub begins : part.first ≤ largest_u64
+
+-- the leaf that the part of a place is
+abbrev pub leaf_of_part : GlobalLists → Elements → Place → Option LeafBytes
+leaf_of_part g elements_of place = option_map (moved place.part.first) (leaf_at g elements_of place.part.ty [])
+
+-- what a visit of a part comes to: the part as a leaf, which has no parts, or no leaf
+abbrev pub Visits : GlobalLists → Elements → Place → Place → Step → Type 0
+Visits g elements_of before now (Leaf leaf) = (leaf_of_part g elements_of before ≡ Some (bytes_of leaf)) × (leaf.first ≡ before.part.first) × (now.next ≡ suc largest_u32)
+Visits g elements_of before now Other = (leaf_of_part g elements_of before ≡ None) × (now.next ≡ before.next)
+Visits g elements_of before now End = ⊥
+
+-- the part of a place was visited
+pub record IsVisited (g : GlobalLists) (elements_of : Elements) (before now : Place) (step : Step) : Type 0 where
+  pub ty : now.ty ≡ before.ty
+  pub part : now.part ≡ before.part
+  pub outer : now.outer.items ≡ before.outer.items
+  pub path : now.path.items ≡ before.path.items
+  pub visits : Visits g elements_of before now step
 
 -- a part was left, or the whole has ended
 abbrev pub Leaves : Place → Place → Step → Type 0

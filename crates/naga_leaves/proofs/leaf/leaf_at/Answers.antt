@@ -70,19 +70,15 @@ loop-index-preserved c =
 pub index-requires-2 : goal.index-requires-2
 index-requires-2 c = c.loop-index.invariant.exists
 
-pub whole_leaf-requires-clause-exist : goal.whole_leaf-requires-clause-exist
-whole_leaf-requires-clause-exist c =
-    references_exist (lists_of c.to_ctx-gctx.result) (subst GlobalReferencesOk (sym c.to_ctx-gctx.ensures.lists) c.requires.references) _ _ c.index-2.ensures
-
 pub returns-in_err-leaf : goal.returns-in_err-leaf
 returns-in_err-leaf c =
     refused _ (lists_of c.to_ctx-gctx.result) _ _ _ _ c.from_residual-in_err-leaf.ensures c.to_ctx-gctx.ensures.lists
-    (begins_nowhere _ (end _ _ _ _ _ _ _ (none_left _ _ _ _ _ _ _ c.loop-index.invariant c.loop-index-test.false) c.index-2.ensures ∙ ap (option_map (moved c.loop-index.first)) (sym c.in_err-leaf.ensures)))
+    (begins_nowhere _ (end _ _ _ _ _ _ _ (none_left _ _ _ _ _ _ _ c.loop-index.invariant c.loop-index-test.false) c.index-2.ensures ∙ ap (option_map (moved c.loop-index.first)) (sym (c.in_err-leaf.ensures (lists_of c.to_ctx-gctx.result)))))
 
 pub returns : goal.returns
 returns c =
-    let e = end _ _ _ _ _ _ _ (none_left _ _ _ _ _ _ _ c.loop-index.invariant c.loop-index-test.false) c.index-2.ensures ∙ ap (option_map (moved c.loop-index.first)) (sym c.in_ok-leaf.ensures) in
-    let begins : c.in_ok-leaf.leaf.first ≡ 0 = begins_at_none _ _ (bytes_of c.in_ok-leaf.leaf) (sym c.in_ok-leaf.ensures) in
+    let e = end _ _ _ _ _ _ _ (none_left _ _ _ _ _ _ _ c.loop-index.invariant c.loop-index-test.false) c.index-2.ensures ∙ ap (option_map (moved c.loop-index.first)) (sym (c.in_ok-leaf.ensures (lists_of c.to_ctx-gctx.result))) in
+    let begins : c.in_ok-leaf.leaf.first ≡ 0 = begins_at_none _ _ (bytes_of c.in_ok-leaf.leaf) (sym (c.in_ok-leaf.ensures (lists_of c.to_ctx-gctx.result))) in
     let sum : c.loop-index.first + c.in_ok-leaf.leaf.first ≡ c.loop-index.first = omega arith in
     subst (λ g. leaf_at g (elements g c.args.length) c.args.ty c.args.path.now ≡ Some (bytes_of record { first = c.loop-index.first; size = c.in_ok-leaf.leaf.size; alignment = c.in_ok-leaf.leaf.alignment })) c.to_ctx-gctx.ensures.lists
     (e ∙ ap (λ (first : ℕ). let leaf : Option LeafBytes = Some (record { first = first; size = c.in_ok-leaf.leaf.size; alignment = c.in_ok-leaf.leaf.alignment }) in leaf) sum)

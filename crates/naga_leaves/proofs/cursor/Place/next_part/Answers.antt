@@ -1,4 +1,4 @@
-use Rattle.std.proofs.Common.{◌≡◌, Option, None, MatchOption, sym, subst, ◌∙◌, arith, rules}
+use Rattle.std.proofs.Common.{◌≡◌, Option, None, MatchOption, sym, subst, ◌∙◌}
 use Rattle.naga_leaves.proofs.Places.{none_of_type_after, part_there_is}
 use Rattle.naga_leaves.specs.Places.{part_of_type}
 use Rattle.naga_typing.proofs.Existence.{references_exist}
@@ -15,8 +15,7 @@ part_at-requires-clause-exist c = references_exist (lists_of c.args.gctx) c.requ
 
 pub returns-in_err-part : goal.returns-in_err-part
 returns-in_err-part c =
-    let same : c.in_ok-index.index ≡ c.args.self.now.next = search rules in
-    let none : part_of_type (lists_of c.args.gctx) (elements (lists_of c.args.gctx) c.args.length) c.args.self.now.part.ty c.in_ok-index.index ≡ None =
-    part_there_is (lists_of c.args.gctx) (elements (lists_of c.args.gctx) c.args.length) c.args.self.now.part.ty c.in_ok-index.index _ c.index.ensures ∙ sym c.in_err-part.ensures in
-    nothing _ _ _ c.from_residual-in_err-part.ensures
-    (λ m from within. none_of_type_after (lists_of c.args.gctx) (elements (lists_of c.args.gctx) c.args.length) c.args.self.now.part.ty c.in_ok-index.index m none (omega (arith, same, from)))
+    let none : part_of_type (lists_of c.args.gctx) (elements (lists_of c.args.gctx) c.args.length) c.args.self.now.part.ty c.args.self.now.next ≡ None =
+    part_there_is (lists_of c.args.gctx) (elements (lists_of c.args.gctx) c.args.length) c.args.self.now.part.ty c.args.self.now.next _ c.index.ensures ∙ sym c.in_err-part.ensures in
+    nothing _ _ _ c.from_residual.ensures
+    (λ m from within. none_of_type_after (lists_of c.args.gctx) (elements (lists_of c.args.gctx) c.args.length) c.args.self.now.part.ty c.args.self.now.next m none (from))
