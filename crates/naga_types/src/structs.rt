@@ -10,7 +10,8 @@ ghost use Rattle.naga_types.specs.Layouts as layouts;
 ghost use Rattle.naga_types.specs.StructRule as rule;
 ghost use Rattle.naga_types.specs.Surroundings.{info_at, surroundings};
 ghost use Rattle.naga_types.specs.steps.KnownTypes.{KnownBefore};
-ghost use Rattle.naga_types.specs.steps.Structs.{MembersKnown, alignment_in, is_noted, layout_in, sources_of, surroundings_of, with_member};
+ghost use Rattle.naga_types.specs.declared.structs.SharedSpace.TheVariants.{Storage, Uniform};
+ghost use Rattle.naga_types.specs.steps.Structs.{AreLaidOut, MembersKnown, alignment_in, checked_layouts, is_noted, layout_in, sources_of, surroundings_of, with_member};
 ghost use Rattle.naga_typing.specs.Context.{lists_of};
 
 use crate::error::{Disalignment, TypeError, VaryingError, saturated};
@@ -92,6 +93,20 @@ impl Sources {
     }
 }
 
+/// What the members of a struct have in common.
+#[derive(Clone, Copy)]
+struct Common {
+    /// What all of them may be used for.
+    flags: TypeFlags,
+    /// Whether immediates may hold all of them.
+    immediates: ImmediateCompatibility,
+    /// How many of them, from the first on, have one alignment in both spaces that hosts share and begin
+    /// at a multiple of it.
+    alike: usize,
+    /// The greatest alignment of these.
+    alignment: Alignment,
+}
+
 /// A struct among the other types.
 #[derive(Clone, Copy)]
 struct StructType<'a> {
@@ -135,16 +150,18 @@ impl StructType<'_> {
         }
     }
 
-    /// Checks that a member begins after the one before it or at 0, and ends within the struct.
-    fn check_place(&self, index: usize, member: &StructMember) -> Result<(), TypeError>
+    /// Checks that a member begins at 0 or not below `before`, the end of the one before it, and ends
+    /// within the struct.
+    fn check_place(&self, index: usize, before: u64, member: &StructMember) -> Result<(), TypeError>
         requires known { MembersKnown self.now }
         requires member { slice_get self.now.members.now index ≡ Some member.now }
+        requires before { before ≡ rule.end_in (surroundings_of self.now) (layouts.before self.now.members.now index) }
         ensures { result ≡ first_error_or
             (rule.place_checks (surroundings_of self.now) self.now.members.now self.now.span index member.now) tt }
     {
         let offset = member.offset;
         // A member at 0 may overlap: structs that hosts don't share needn't have offsets (naga).
-        if offset != 0 && u64::from(offset) < self.end_before(index) {
+        if offset != 0 && u64::from(offset) < before {
             return Err(TypeError::MemberOverlap {
                 index: saturated(index as u64),
                 offset,
@@ -173,10 +190,13 @@ impl StructType<'_> {
         ensures { IsRuleResult (ok_unless
             (rule.member_size_error (surroundings_of self.now) self.now.members.now index member.now) tt) result }
     {
+        if self.info(member).flags.contains(TypeFlags::SIZED) {
+            return Ok(());
+        }
         // What came after a runtime-sized array would have no fixed offset, so it has to be last.
         let is_array = matches!(self.gctx.types[member.ty].inner, TypeInner::Array { .. });
         let is_last = index + 1 == self.members.len();
-        if self.info(member).flags.contains(TypeFlags::SIZED) || is_array && is_last {
+        if is_array && is_last {
             return Ok(());
         }
         let name = match &member.name {
@@ -186,16 +206,19 @@ impl StructType<'_> {
         Err(TypeError::InvalidDynamicArray(name, member.ty))
     }
 
-    /// Checks a member, the one at `index`, and notes the source of blending that it is, if it is one.
+    /// Checks a member, the one at `index` after one that ends at `before`, and notes the source of blending
+    /// that it is, if it is one.
     fn check_member(
         &self,
         alloc: Global,
         index: usize,
+        before: u64,
         member: &StructMember,
         sources: &mut Sources,
     ) -> Result<(), TypeError>
         requires known { MembersKnown self.now }
         requires member { slice_get self.now.members.now index ≡ Some member.now }
+        requires before { before ≡ rule.end_in (surroundings_of self.now) (layouts.before self.now.members.now index) }
         requires noted { sources.old ≡ sources_of (take index self.now.members.now) }
         ensures checks { IsRuleResult (first_error_or
             (rule.member_checks (surroundings_of self.now) self.now.members.now self.now.span (index, member.now)) tt)
@@ -209,7 +232,7 @@ impl StructType<'_> {
         }
         // naga notes the source before it checks the place, so a bad source hides a bad place.
         sources.note(self.ctx.capabilities, member)?;
-        self.check_place(index, member)?;
+        self.check_place(index, before, member)?;
         self.check_size(alloc, index, member)
     }
 
@@ -224,8 +247,11 @@ impl StructType<'_> {
             first: None,
             second: None,
         };
+        let mut end = 0;
         for index in 0..self.members.len() {
-            self.check_member(alloc, index, &self.members[index], &mut sources)?;
+            let member = &self.members[index];
+            self.check_member(alloc, index, end, member, &mut sources)?;
+            end = self.end_of(member);
         }
         Ok(sources)
     }
@@ -300,18 +326,25 @@ impl StructType<'_> {
         }
     }
 
-    /// What all members may be used for.
-    fn common_flags(&self) -> TypeFlags
+    /// What all members may be used for, and whether immediates may hold them all.
+    fn common_uses(&self) -> (TypeFlags, ImmediateCompatibility)
         requires { MembersKnown self.now }
-        ensures { result ≡ record { 0 = rule.common_flags (surroundings_of self.now) self.now.members.now } }
+        ensures flags { result.0 ≡ record { 0 = rule.common_flags (surroundings_of self.now) self.now.members.now } }
+        ensures immediates { result.1 ≡ rule.struct_immediates (surroundings_of self.now) self.now.members.now }
     {
         // `IO_SHAREABLE` is left out: stages share the members one by one, and a whole struct
         // only if its members are the two sources of blending.
         let mut flags = unshared_flags();
+        let mut immediates = Ok(());
         for member in self.members {
-            flags = flags.intersection(self.info(member).flags);
+            let info = self.info(member);
+            flags = flags.intersection(info.flags);
+            // naga overwrites the error with each member, so the last one stays.
+            if info.immediates_compatibility.is_err() {
+                immediates = info.immediates_compatibility;
+            }
         }
-        flags
+        (flags, immediates)
     }
 
     /// Whether a member begins at 0, below the end of the one before it.
@@ -329,13 +362,14 @@ impl StructType<'_> {
         false
     }
 
-    /// What the struct may be used for.
-    fn flags(&self, sources: &Sources) -> TypeFlags
+    /// What the struct may be used for, by what all its members may be used for.
+    fn flags(&self, common: &Common, sources: &Sources) -> TypeFlags
         requires known { MembersKnown self.now }
+        requires common { common.now.flags ≡ record { 0 = rule.common_flags (surroundings_of self.now) self.now.members.now } }
         requires sources { sources.now ≡ sources_of self.now.members.now }
         ensures { result ≡ record { 0 = rule.struct_flags (surroundings_of self.now) self.now.members.now } }
     {
-        let mut flags = self.common_flags();
+        let mut flags = common.flags;
         if self.restarts_at_zero() {
             flags.remove(TypeFlags::HOST_SHAREABLE);
         }
@@ -343,22 +377,6 @@ impl StructType<'_> {
             flags.insert(TypeFlags::IO_SHAREABLE);
         }
         flags
-    }
-
-    /// Whether immediates may hold the struct.
-    fn immediates_compatibility(&self) -> ImmediateCompatibility
-        requires { MembersKnown self.now }
-        ensures { result ≡ rule.struct_immediates (surroundings_of self.now) self.now.members.now }
-    {
-        let mut compatibility = Ok(());
-        for member in self.members {
-            let immediates = self.info(member).immediates_compatibility;
-            // naga overwrites the error with each member, so the last one stays.
-            if immediates.is_err() {
-                compatibility = immediates;
-            }
-        }
-        compatibility
     }
 
     /// Checks that a member is host-shareable and begins at a multiple of its alignment, and returns this
@@ -394,18 +412,59 @@ impl StructType<'_> {
     }
 
     /// Checks the layout of every member, and returns their greatest alignment.
-    fn check_layouts(&self, space: SharedSpace) -> LayoutCompatibility
-        requires { MembersKnown self.now }
-        ensures { let s = surroundings_of self.now in result
-            ≡ first_error_or (layouts.member_layout_errors s (layout_in space) self.now.handle self.now.members.now)
-            (layouts.greatest_alignment s (layout_in space) self.now.members.now) }
+    fn check_layouts(&self, space: SharedSpace, common: &Common) -> LayoutCompatibility
+        requires known { MembersKnown self.now }
+        requires alike { AreLaidOut space self.now common.now.alike common.now.alignment }
+        ensures { result ≡ checked_layouts space self.now }
     {
-        let mut greatest = Alignment::ONE;
-        for index in 0..self.members.len() {
+        // The first members, which are alike in both spaces, were gone over once for both.
+        let mut greatest = common.alignment;
+        for index in common.alike..self.members.len() {
             let alignment = self.check_layout(space, index, &self.members[index])?;
             greatest = greatest.max(alignment);
         }
         Ok(greatest)
+    }
+
+    /// How many members, from the first on, have one alignment in both spaces and begin at a multiple of
+    /// it, and the greatest alignment of these.
+    fn members_alike(&self) -> (usize, Alignment)
+        requires { MembersKnown self.now }
+        ensures uniform { AreLaidOut Uniform self.now result.0 result.1 }
+        ensures storage { AreLaidOut Storage self.now result.0 result.1 }
+    {
+        let mut greatest = Alignment::ONE;
+        for index in 0..self.members.len() {
+            let member = &self.members[index];
+            let Ok(storage) = self.check_layout(SharedSpace::Storage, index, member) else {
+                return (index, greatest);
+            };
+            match self.info(member).uniform_layout {
+                Ok(uniform) if uniform == storage => {}
+                _ => return (index, greatest),
+            }
+            greatest = greatest.max(storage);
+        }
+        (self.members.len(), greatest)
+    }
+
+    /// What the members have in common.
+    fn common(&self) -> Common
+        requires { MembersKnown self.now }
+        ensures flags { result.flags
+            ≡ record { 0 = rule.common_flags (surroundings_of self.now) self.now.members.now } }
+        ensures immediates { result.immediates ≡ rule.struct_immediates (surroundings_of self.now) self.now.members.now }
+        ensures uniform { AreLaidOut Uniform self.now result.alike result.alignment }
+        ensures storage { AreLaidOut Storage self.now result.alike result.alignment }
+    {
+        let (flags, immediates) = self.common_uses();
+        let (alike, alignment) = self.members_alike();
+        Common {
+            flags,
+            immediates,
+            alike,
+            alignment,
+        }
     }
 
     /// Checks that the span is a multiple of the struct's alignment.
@@ -428,14 +487,15 @@ impl StructType<'_> {
     }
 
     /// The layout in the storage address space.
-    fn storage_layout(&self) -> LayoutCompatibility
-        requires { MembersKnown self.now }
+    fn storage_layout(&self, common: &Common) -> LayoutCompatibility
+        requires known { MembersKnown self.now }
+        requires alike { AreLaidOut Storage self.now common.now.alike common.now.alignment }
         ensures { result ≡ layouts.storage_layout_of (surroundings_of self.now) self.now.handle self.now.members.now
             self.now.span }
     {
         // naga checks the span last, but lets it overwrite all else, so it comes first here.
         self.check_span()?;
-        self.check_layouts(SharedSpace::Storage)
+        self.check_layouts(SharedSpace::Storage, common)
     }
 
     /// The first offset that the member at a place may have after the struct before it, and 0 if no
@@ -494,12 +554,17 @@ impl StructType<'_> {
         last
     }
 
-    /// Checks that all members have fixed sizes.
-    fn check_sizes(&self) -> Result<(), (Handle<TypeTag>, Disalignment)>
-        requires { MembersKnown self.now }
+    /// Checks that all members have fixed sizes, by what all of them may be used for.
+    fn check_sizes(&self, flags: TypeFlags) -> Result<(), (Handle<TypeTag>, Disalignment)>
+        requires known { MembersKnown self.now }
+        requires flags { flags ≡ record { 0 = rule.common_flags (surroundings_of self.now) self.now.members.now } }
         ensures { result ≡ first_error_or
             (layouts.unsized_errors (surroundings_of self.now) self.now.handle self.now.members.now) tt }
     {
+        if flags.contains(TypeFlags::SIZED) {
+            return Ok(());
+        }
+        // Some member has no fixed size: the first such is named.
         for index in 0..self.members.len() {
             let info = self.info(&self.members[index]);
             if !info.flags.contains(TypeFlags::SIZED) {
@@ -511,8 +576,10 @@ impl StructType<'_> {
     }
 
     /// The layout in the uniform address space (WGSL "Address Space Layout Constraints").
-    fn uniform_layout(&self) -> LayoutCompatibility
-        requires { MembersKnown self.now }
+    fn uniform_layout(&self, common: &Common) -> LayoutCompatibility
+        requires known { MembersKnown self.now }
+        requires flags { common.now.flags ≡ record { 0 = rule.common_flags (surroundings_of self.now) self.now.members.now } }
+        requires alike { AreLaidOut Uniform self.now common.now.alike common.now.alignment }
         ensures { result ≡ layouts.uniform_layout_of (surroundings_of self.now) self.now.handle self.now.members.now
             self.now.span }
     {
@@ -521,8 +588,8 @@ impl StructType<'_> {
         if let Some(error) = self.last_in_room() {
             return Err(error);
         }
-        let greatest = self.check_layouts(SharedSpace::Uniform)?;
-        self.check_sizes()?;
+        let greatest = self.check_layouts(SharedSpace::Uniform, common)?;
+        self.check_sizes(common.flags)?;
         // WGSL aligns every struct in uniform buffers to 16 bytes at least.
         Ok(greatest.max(Alignment::MIN_UNIFORM))
     }
@@ -555,10 +622,11 @@ pub(crate) fn validate_struct<'a>(
     let sources = ty.check_members(alloc)?;
     ty.check_sources(&sources)
         .map_err(TypeError::InvalidBlendSrc)?;
+    let common = ty.common();
     Ok(TypeInfo {
-        flags: ty.flags(&sources),
-        uniform_layout: ty.uniform_layout(),
-        storage_layout: ty.storage_layout(),
-        immediates_compatibility: ty.immediates_compatibility(),
+        flags: ty.flags(&common, &sources),
+        uniform_layout: ty.uniform_layout(&common),
+        storage_layout: ty.storage_layout(&common),
+        immediates_compatibility: common.immediates,
     })
 }

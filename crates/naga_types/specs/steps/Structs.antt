@@ -1,11 +1,14 @@
 -- A struct as the code validates it.
-use Rattle.std.specs.Prelude.{◌<◌, All, ℕ, zero, suc, Bool, List, Option, is_some}
+use Rattle.std.specs.Prelude.{◌≡◌, ◌<◌, ◌≤◌, All, ℕ, zero, suc, Bool, List, Option, drop, is_some, length, map, take}
+use Rattle.std.specs.List.{enumerate_from}
 use Rattle.std.specs.Option.{option_or}
 use Rattle.std.specs.Result.{result_unwrap_or}
 use Rattle.naga_ir.specs.declared.types.StructMember.{StructMember}
-use Rattle.naga_types.specs.Layouts.{Layout, in_storage, in_uniform}
+use Rattle.naga_types.specs.Checks.{first, first_error_or}
+use Rattle.naga_types.specs.Layouts.{Layout, greatest_alignment, in_storage, in_uniform, member_layout_error, member_layout_errors}
 use Rattle.naga_types.specs.StructRule.{source_of, source_type, type_of_source}
-use Rattle.naga_types.specs.Surroundings.{Surroundings, surroundings}
+use Rattle.naga_types.specs.Surroundings.{Surroundings, info_at, surroundings}
+use Rattle.naga_typing.specs.Layout.{greatest}
 use Rattle.naga_types.specs.declared.info.TypeInfo.{TypeInfo}
 use Rattle.naga_types.specs.declared.structs.SharedSpace.{SharedSpace}
 use Rattle.naga_types.specs.declared.structs.SharedSpace.TheVariants.{Uniform, Storage}
@@ -29,6 +32,18 @@ layout_in Storage = in_storage
 -- the alignment of a type with this info in `space`, and 1 if it has none there
 abbrev pub alignment_in : SharedSpace → TypeInfo → ℕ
 alignment_in space info = result_unwrap_or (layout_in space info) 1
+
+-- what the layouts of all members of a struct in `space` come to: the first failure, or else their greatest alignment
+abbrev pub checked_layouts : SharedSpace → StructType → Layout
+checked_layouts space x =
+    first_error_or (member_layout_errors (surroundings_of x) (layout_in space) x.handle x.members.now) (greatest_alignment (surroundings_of x) (layout_in space) x.members.now)
+
+-- the first members of a struct fail nowhere in `space`: what fails first is among the members from `n` on, and `a` is the greatest alignment of those before
+pub record AreLaidOut (space : SharedSpace) (x : StructType) (n a : ℕ) : Type 0 where
+  pub within : n ≤ length x.members.now
+  pub left : first (map (member_layout_error (surroundings_of x) (layout_in space) x.handle) (enumerate_from n (drop n x.members.now)))
+      ≡ first (member_layout_errors (surroundings_of x) (layout_in space) x.handle x.members.now)
+  pub so_far : a ≡ greatest (map (λ (m : StructMember). alignment_in space (info_at (surroundings_of x) m.ty)) (take n x.members.now))
 
 -- the sources of blending among members
 abbrev pub sources_of : List StructMember → Sources

@@ -1,13 +1,19 @@
-use Rattle.std.proofs.Common.{rules, ◌≡◌, ◌<◌, ap, get_or, length, subst, sym, arith}
+use Rattle.std.proofs.Common.{rules, ◌≡◌, ◌∙◌, ◌+◌, ◌<◌, ℕ, List, Some, add-one, ap, get_or, length, refl, subst, sym, arith}
+use Rattle.std.proofs.lemmas.Option.{slice_get_read}
 use Rattle.std.specs.Prelude.{Err}
 use Rattle.naga_ir.specs.declared.types.StructMember.{StructMember}
 use Rattle.naga_types.specs.RuleResults.{IsRuleResult}
 use Rattle.naga_types.specs.Checks.{first, first_error_or}
+use Rattle.naga_types.specs.Layouts.{before}
 use Rattle.naga_types.specs.StructRule as rule
 use Rattle.naga_types.specs.steps.Structs.{sources_of, surroundings_of}
 use Rattle.naga_types.proofs.FirstLemmas.{passed, refused}
 use Rattle.naga_types.proofs.CheckLemmas.{not_refused, result_first}
 use Rattle.naga_types.proofs.structs.StructType.check_members.Goals as goal
+
+-- the member before the next one is the one at a place
+next : (members : List StructMember) (i : ℕ) (m : StructMember) → m ≡ get_or members i m → i < length members → before members (i + 1) ≡ Some m
+next members i m at within = rw add-one (slice_get_read members (length members) i m refl within at)
 
 pub returns-in_err-check_member : goal.returns-in_err-check_member
 returns-in_err-check_member c =
@@ -34,5 +40,6 @@ loop-index-preserved c =
     let within : c.loop-index.index < length members = omega (arith, c.loop-index-test.true, c.loop-index.auto.index-end) in
     record {
       left = passed refusal members c.loop-index.index member within at c.loop-index.invariant.left (not_refused _ _ _ c.in_ok-check_member.ensures.checks);
+      end = c.end_of-end.ensures ∙ sym (ap (rule.end_in s) (next members c.loop-index.index member at within));
       noted = c.in_ok-check_member.ensures.noted;
     }
