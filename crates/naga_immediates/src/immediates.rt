@@ -103,13 +103,18 @@ impl ImmediateSlots {
         let TypeInner::Struct { members, .. } = ty else {
             return slots_of_part(ty, offset, gctx);
         };
-        let mut walk = SlotWalk::new();
+        let mut slots = ImmediateSlots(0);
         for member in members.as_slice() {
             if let Some(byte) = member_byte(offset, member) {
-                walk.add(member.ty, byte, gctx);
+                let inner = &gctx.types[member.ty].inner;
+                // Only structs in the struct need notes, whose clearing takes longer than a walk through few members.
+                if let TypeInner::Struct { .. } = inner {
+                    return slots_by_notes(ty, offset, gctx);
+                }
+                slots |= slots_of_part(inner, u32::from(byte), gctx);
             }
         }
-        walk.slots
+        slots
     }
 
     /// Whether all slots of `other` are in this set.
@@ -256,6 +261,24 @@ fn slots_of_part(inner: &TypeInner, offset: u32, gctx: GlobalCtx<'_>) -> Immedia
     ensures { IsSetOf (SharesByte offset (size_of (lists_of gctx.entry) inner.now)) result }
 {
     ImmediateSlots::from_range(offset, try_size(inner, gctx).unwrap_or(u32::MAX))
+}
+
+/// The slots of a value, of which a walk notes the structs that it has walked through.
+fn slots_by_notes(ty: &TypeInner, offset: u32, gctx: GlobalCtx<'_>) -> ImmediateSlots
+    requires exist { ReferencesExist (lists_of gctx) ty.now }
+    requires references { GlobalReferencesOk (lists_of gctx) }
+    ensures { IsSetOf (UsesSlot (lists_of gctx.entry) ty.now offset) result }
+{
+    let TypeInner::Struct { members, .. } = ty else {
+        return slots_of_part(ty, offset, gctx);
+    };
+    let mut walk = SlotWalk::new();
+    for member in members.as_slice() {
+        if let Some(byte) = member_byte(offset, member) {
+            walk.add(member.ty, byte, gctx);
+        }
+    }
+    walk.slots
 }
 
 /// The member that a pointer accesses by its index in a global variable, whose type is `whole`.
