@@ -1,5 +1,5 @@
 -- Whether two types are the same: the bool and the relation agree.
-use Rattle.std.proofs.Common.{◌≡◌, ◌==◌, ◌&&◌, ◌↔◌, ℕ, Bool, not, Decides, IsTrue, List, Option, Some, None, refl, sym, ap, subst₂, true≢false, ◌∙◌}
+use Rattle.std.proofs.Common.{◌≡◌, ◌==◌, ◌&&◌, ◌↔◌, ◌⊎◌, inl, inr, ℕ, Bool, not, Decides, IsTrue, List, Option, Some, None, refl, sym, ap, subst₂, true≢false, ◌∙◌}
 use Rattle.std.proofs.lemmas.Bool.Decides.{Decides-and, Decides-eqb, Decides-like, Decides-or, same_from_decides}
 use Rattle.std.proofs.lemmas.Option.{same_Some}
 use Rattle.naga_ir.proofs.SameInner.{inner_decides}
@@ -9,7 +9,7 @@ use Rattle.naga_ir.specs.declared.types.«Type».{«Type»}
 use Rattle.naga_ir.specs.declared.types.TypeInner.{TypeInner}
 use Rattle.naga_ir.specs.declared.types.TypeInner.TheVariants.{Struct}
 use Rattle.naga_typing.specs.Sameness.{are_same, are_same_found, are_same_inners, is_one_handle, is_struct}
-use Rattle.naga_typing.specs.Resolutions.{AreOneHandle, AreSameInners, AreSameTypes, canonical, handle_of}
+use Rattle.naga_typing.specs.Resolutions.{AreOneHandle, AreSameInners, AreSameTypes, canonical, handle_of, inner_in}
 use Rattle.naga_typing.specs.declared.typifier.TypeResolution.{TypeResolution}
 use Rattle.naga_typing.specs.declared.typifier.TypeResolution.TheVariants.{Handle}
 
@@ -72,3 +72,15 @@ same_decides types lhs rhs = found_decides types lhs rhs _ _
 -- a bool that decides the relation is that one
 pub same_types : (types : List «Type») (lhs rhs : TypeResolution) (result : Bool) → IsTrue result ↔ AreSameTypes types lhs rhs → result ≡ are_same types lhs rhs
 same_types types lhs rhs result says = same_from_decides result (are_same types lhs rhs) says (same_decides types lhs rhs)
+
+struct_or_not : (x : TypeInner) → IsStruct x ⊎ IsNoStruct x
+struct_or_not (Struct members span) = inl tt
+struct_or_not _ = inr tt
+
+-- resolutions that are one handle are of the same type
+pub one_handle_is_same : (types : List «Type») (lhs rhs : TypeResolution) (x : TypeInner) → inner_in types lhs ≡ Some x → AreOneHandle lhs rhs → AreSameTypes types lhs rhs
+one_handle_is_same types lhs rhs x at one = (x, x, at, ap (inner_in types) (one.2 ∙ sym one.1) ∙ at, same (struct_or_not x))
+  where
+    same : IsStruct x ⊎ IsNoStruct x → AreSameInners types lhs rhs x x
+    same (inl is) = inl (is, is, one)
+    same (inr is) = inr (is, is, refl)

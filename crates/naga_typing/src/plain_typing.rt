@@ -82,7 +82,7 @@ pub(crate) fn part_of(index: u32, inner: &TypeInner) -> Result<TypeResolution, R
 }
 
 /// The type of a vector of one scalar.
-fn splat_of(size: VectorSize, inner: &TypeInner) -> Result<TypeResolution, ResolveError>
+pub(crate) fn splat_of(size: VectorSize, inner: &TypeInner) -> Result<TypeResolution, ResolveError>
     ensures { result ≡ spec.splat_of size inner.now }
 {
     match *inner {
@@ -104,7 +104,10 @@ fn splat_of(size: VectorSize, inner: &TypeInner) -> Result<TypeResolution, Resol
 }
 
 /// The type of a vector of some components of a vector.
-fn swizzle_of(size: VectorSize, inner: &TypeInner) -> Result<TypeResolution, ResolveError>
+pub(crate) fn swizzle_of(
+    size: VectorSize,
+    inner: &TypeInner,
+) -> Result<TypeResolution, ResolveError>
     ensures { result ≡ spec.swizzle_of size inner.now }
 {
     match *inner {

@@ -1,10 +1,11 @@
 //! The types of expressions, and whether two types are the same.
 
-ghost use Rattle.std.specs.Prelude.{◌≡◌, ◌↔◌, IfOk, IsFalse, IsOk, IsTrue, OnErr, Some, unwrap_or};
+ghost use Rattle.std.specs.Prelude.{◌≡◌, ◌↔◌, List, IfOk, IsFalse, IsOk, IsTrue, OnErr, Some, unwrap_or};
 ghost use Rattle.naga_ir.specs.TypeWords.{IsNoStruct, IsStruct};
+ghost use Rattle.naga_ir.specs.declared.types.«Type».{«Type»};
 ghost use Rattle.naga_typing.specs.ErrorNames.{resolve_error_name};
 ghost use Rattle.naga_typing.specs.Resolutions as spec;
-ghost use Rattle.naga_typing.specs.Resolutions.{AllPartsExist, AreSameTypes, IsStructValue, PartsExist, TypesExist, inner_in};
+ghost use Rattle.naga_typing.specs.Resolutions.{AllPartsExist, AreOneHandle, AreSameTypes, IsStructValue, PartsExist, TypesExist, inner_in};
 ghost use Rattle.naga_typing.specs.Sameness.{are_same};
 
 use naga_ir::handle::Handle;
@@ -135,6 +136,10 @@ fn compare_types_inner(lhs: &TypeResolution, rhs: &TypeResolution, types: &Uniqu
     ensures { IsTrue result ↔ AreSameTypes types.now lhs.now rhs.now }
 {
     let left = lhs.inner_with(types);
+    // Most types are given by handles: equal ones need no look at the types.
+    if are_one_handle(lhs, rhs) {
+        return true;
+    }
     let right = rhs.inner_with(types);
     // WGSL tells structs apart by their declarations, even if their members are equal;
     // a struct that is given as a value has none.
@@ -142,6 +147,16 @@ fn compare_types_inner(lhs: &TypeResolution, rhs: &TypeResolution, types: &Uniqu
         (true, true) => lhs.handle().is_some() && lhs.handle() == rhs.handle(),
         (false, false) => are_equivalent(left, right, types),
         (true, false) | (false, true) => false,
+    }
+}
+
+/// Whether two types are given by handles that are equal.
+fn are_one_handle(lhs: &TypeResolution, rhs: &TypeResolution) -> bool
+    ensures { IsTrue result → AreOneHandle lhs.now rhs.now }
+{
+    match (lhs, rhs) {
+        (TypeResolution::Handle(left), TypeResolution::Handle(right)) => left == right,
+        (TypeResolution::Handle(_) | TypeResolution::Value(_), _) => false,
     }
 }
 
@@ -155,6 +170,25 @@ fn is_struct(inner: &TypeInner) -> bool
 
 /// Whether two types are equal as they are compared.
 fn are_equivalent(left: &TypeInner, right: &TypeInner, types: &UniqueArena) -> bool
+    requires left_exists { PartsExist types.now left.now }
+    requires right_exists { PartsExist types.now right.now }
+    ensures { IsTrue result ↔ (spec.canonical types.now left.now ≡ spec.canonical types.now right.now) }
+{
+    if is_pointer(left) || is_pointer(right) {
+        return are_equivalent_pointers(left, right, types);
+    }
+    left == right
+}
+
+/// Whether `inner` is a pointer to a type of the module. All other types are compared as they are.
+fn is_pointer(inner: &TypeInner) -> bool
+    ensures { IsFalse result → (types : List «Type») → spec.canonical types inner.now ≡ inner.now }
+{
+    matches!(inner, TypeInner::Pointer { .. })
+}
+
+/// Whether two types of which one is a pointer are equal as they are compared.
+fn are_equivalent_pointers(left: &TypeInner, right: &TypeInner, types: &UniqueArena) -> bool
     requires left_exists { PartsExist types.now left.now }
     requires right_exists { PartsExist types.now right.now }
     ensures { IsTrue result ↔ (spec.canonical types.now left.now ≡ spec.canonical types.now right.now) }

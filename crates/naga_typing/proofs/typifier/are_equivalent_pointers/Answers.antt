@@ -1,7 +1,7 @@
 use Rattle.std.proofs.Common.{rules, ◌≡◌}
 use Rattle.naga_ir.proofs.SameInner.{inner_decides}
 use Rattle.naga_typing.specs.Resolutions.{canonical}
-use Rattle.naga_typing.proofs.typifier.are_equivalent.Goals as goal
+use Rattle.naga_typing.proofs.typifier.are_equivalent_pointers.Goals as goal
 
 pub returns : goal.returns
 returns c =
