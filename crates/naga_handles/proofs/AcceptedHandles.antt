@@ -3,13 +3,11 @@ use Rattle.std.proofs.Common.{◌≡◌, ◌<◌, ℕ, List, [], ◌∷◌, ◌+
 use Rattle.std.specs.List.{flat_map}
 use Rattle.std.proofs.lemmas.List.Elements.{All-append, All-contains, Contains-append_left, Contains-append_right}
 use Rattle.naga_ir.specs.Handles.{Counts, Exists, ReferencesPrecede, HandlesAccepted, MemberExists, NamesType, OrderedInModule, OrderedReference, SizesResolveFirst, among_globals, parent_filter, calls_function, function_counts, in_function, initialiser_at, initialiser_of, module_counts, place_of, size_initialiser, sized_by}
-use Rattle.naga_ir.specs.ItemReferences.{all_functions, body_references, constant_references, expression_references, function_references, global_lists, local_references, local_variable_references, named_references, other_references, override_references, signature_references, type_references}
+use Rattle.naga_ir.specs.ItemReferences.{all_functions, body_references, constant_references, expression_references, function_references, global_lists, local_references, named_references, other_references, override_references, signature_references, type_references}
 use Rattle.naga_ir.specs.References.{operands}
 use Rattle.naga_ir.specs.Parts.{parts, size_override}
 use Rattle.naga_ir.specs.declared.expression.Expression.{Expression}
 use Rattle.naga_ir.specs.declared.ir.EntryPoint.{EntryPoint}
-use Rattle.naga_ir.specs.declared.ir.FunctionArgument.{FunctionArgument}
-use Rattle.naga_ir.specs.declared.ir.FunctionResult.{FunctionResult}
 use Rattle.naga_ir.specs.declared.ir.Override.{Override}
 use Rattle.naga_ir.specs.declared.ir.Function.{Function}
 use Rattle.naga_ir.specs.declared.ir.Module.{Module}

@@ -5,6 +5,7 @@ use Rattle.std.specs.Fn.{FnReturnsAt, Shared}
 use Rattle.std.specs.List.{flat_map}
 use Rattle.std.proofs.lemmas.List.{map-append}
 use Rattle.std.proofs.lemmas.List.Concat.{flat_map_single}
+use Rattle.std.proofs.lemmas.List.Elements.{All-weaker}
 use Rattle.naga_ir.specs.Handles.{Counts}
 use Rattle.naga_ir.specs.ItemReferences.{named_references}
 use Rattle.naga_ir.specs.Operands.{present}
@@ -109,6 +110,15 @@ pub checks-visited : {each : Reference → Result (Unit {0}) InvalidHandleError 
     (n : Counts) (subjects : Subjects) (xs : List Reference) → ((x : Reference) (t : Result (Unit {0}) InvalidHandleError) → each x t → IsResult (check n subjects x) t)
     → ChecksEach each xs r → ChecksEach IsResult (checks n subjects xs) r
 checks-visited {each = each} {r = r} n subjects xs means h = checks-map each IsResult (check n subjects) xs r means h
+
+-- references that a closure accepts, with any error for others, are right if what it accepts is
+pub checks-admitted : {E : Type 0} {each : Reference → Result (Unit {0}) E → Type 0}
+    (n : Counts) (subjects : Subjects) (xs : List Reference) → ((x : Reference) → each x (Ok tt) → IsResult (check n subjects x) (Ok tt))
+    → ChecksEach each xs (Ok tt) → ChecksEach IsResult (checks n subjects xs) (Ok tt)
+checks-admitted {each = each} n subjects xs means h =
+    let right : Reference → Result (Unit {0}) InvalidHandleError → Type 0 = λ x r. IsResult (check n subjects x) r in
+    checks-map right IsResult (check n subjects) xs (Ok tt) (λ x t k. k)
+    (record { accepted = All-weaker (λ x. each x (Ok tt)) (λ x. right x (Ok tt)) means xs h.accepted; refused = tt })
 
 -- a reference that may be there, as the references that are
 pub one-present : {A : Type 0} (f : A → Reference) (o : Option A) → present (option_map f o ∷ []) ≡ map f (option_to_list o)

@@ -5,7 +5,7 @@ use Rattle.std.specs.List.{enumerate_from, flat_map}
 use Rattle.std.proofs.lemmas.List.Elements.{All-append, All-contains, All-map, All-nil, All-cons, All-weaker}
 use Rattle.std.proofs.lemmas.Option.{same_Some, slice_get_within}
 use Rattle.naga_ir.specs.Handles.{Counts, Exists, MemberExists, OrderedOperands, function_counts, module_counts, own_operand, place_of}
-use Rattle.naga_ir.specs.ItemReferences.{all_functions, body_references, comment_references, constant_references, entry_point_references, expression_references, function_references, global_variable_references, local_references, local_variable_references, named_references, other_references, override_references, signature_references, special_types}
+use Rattle.naga_ir.specs.ItemReferences.{all_functions, body_references, comment_references, constant_references, entry_point_references, expression_references, function_references, global_variable_references, local_references, named_references, other_references, override_references, signature_references, special_types}
 use Rattle.naga_ir.specs.References.{operands}
 use Rattle.naga_ir.specs.FirstError.{ChecksEach}
 use Rattle.naga_ir.specs.declared.types.«Type».{«Type»}
@@ -13,8 +13,6 @@ use Rattle.naga_ir.specs.declared.expression.Expression.{Expression}
 use Rattle.naga_ir.specs.declared.ir.DiagnosticFilterNode.{DiagnosticFilterNode}
 use Rattle.naga_ir.specs.declared.ir.EntryPoint.{EntryPoint}
 use Rattle.naga_ir.specs.declared.ir.Function.{Function}
-use Rattle.naga_ir.specs.declared.ir.FunctionArgument.{FunctionArgument}
-use Rattle.naga_ir.specs.declared.ir.FunctionResult.{FunctionResult}
 use Rattle.naga_ir.specs.declared.ir.Module.{Module}
 use Rattle.naga_ir.specs.declared.reference.Reference.{Reference}
 use Rattle.naga_ir.specs.declared.reference.Reference.TheVariants as to

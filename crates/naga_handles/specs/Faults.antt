@@ -1,5 +1,5 @@
 -- What is wrong with a module's handles.
-use Rattle.std.specs.Prelude.{◌≡◌, ◌⊎◌, ℕ, ◌<◌, ◌≤◌, List, ◌++◌, Some, Contains, codes, length, map, slice_get, unwrap_or, option_to_list}
+use Rattle.std.specs.Prelude.{◌≡◌, ◌⊎◌, ℕ, ◌<◌, ◌≤◌, List, Some, Contains, codes, length, slice_get, unwrap_or}
 use Rattle.std.specs.List.{flat_map}
 use Rattle.naga_ir.specs.Handles.{Counts, Exists, MemberExists, NamesType, OrderedInModule, OrderedReference, function_counts, module_counts, place_of, size_initialiser}
 use Rattle.naga_ir.specs.ItemReferences.{constant_references, global_lists, named_references, other_references, override_references, references_with}

@@ -1,6 +1,6 @@
 //! Which references are dangling, and which go back.
 
-ghost use Rattle.std.specs.Prelude.{◌≡◌, ◌<◌, ◌↔◌, IfErr, IsOk, MatchResult};
+ghost use Rattle.std.specs.Prelude.{◌≡◌, ◌<◌, ◌↔◌, [], ◌∷◌, IfErr, IsOk, MatchResult};
 ghost use Rattle.naga_ir.specs.Handles.{Exists, function_counts, module_counts};
 ghost use Rattle.naga_ir.specs.References.{operands};
 ghost use Rattle.naga_ir.specs.FirstError.{ChecksEach};
@@ -85,6 +85,7 @@ impl Counts {
     }
 
     /// Whether a reference is not dangling.
+    #[inline(always)]
     pub(crate) fn check_exists(self, reference: Reference) -> Result<(), InvalidHandleError>
         ensures { MatchResult result (λ _. Exists self reference)
             (λ e. (Exists self reference → ⊥) × (e ≡ missing reference)) }
@@ -128,8 +129,46 @@ pub(crate) fn check_dep<K: Kind>(
     }
 }
 
-/// Whether the operands of an expression precede it.
-pub(crate) fn check_operands(
+/// Whether one operand of an expression precedes it.
+#[inline(always)]
+fn check_one(
+    handle: Handle<ExpressionTag>,
+    operand: Handle<ExpressionTag>,
+) -> Result<(), InvalidHandleError>
+    ensures { ChecksEach (IsOperandResult handle) (operand ∷ []) result }
+{
+    check_dep(handle, operand)
+}
+
+/// Whether two operands of an expression precede it.
+#[inline(always)]
+fn check_two(
+    handle: Handle<ExpressionTag>,
+    first: Handle<ExpressionTag>,
+    second: Handle<ExpressionTag>,
+) -> Result<(), InvalidHandleError>
+    ensures { ChecksEach (IsOperandResult handle) (first ∷ second ∷ []) result }
+{
+    check_one(handle, first)?;
+    check_one(handle, second)
+}
+
+/// Whether three operands of an expression precede it.
+#[inline(always)]
+fn check_three(
+    handle: Handle<ExpressionTag>,
+    first: Handle<ExpressionTag>,
+    second: Handle<ExpressionTag>,
+    third: Handle<ExpressionTag>,
+) -> Result<(), InvalidHandleError>
+    ensures { ChecksEach (IsOperandResult handle) (first ∷ second ∷ third ∷ []) result }
+{
+    check_one(handle, first)?;
+    check_two(handle, second, third)
+}
+
+/// Whether any number of operands of an expression precede it.
+fn check_listed(
     handle: Handle<ExpressionTag>,
     expression: &Expression,
 ) -> Result<(), InvalidHandleError>
@@ -139,4 +178,37 @@ pub(crate) fn check_operands(
         check_dep(handle, operand)?;
     }
     Ok(())
+}
+
+/// Whether the operands of an expression precede it.
+///
+/// Each variant checks its own operands: the jump to the variant is all that a processor can't foresee, where a loop
+/// over the operands also ends when it can't.
+#[inline(always)]
+#[tactic(auto, unfolding(naga_ir::specs::References::operands))]
+pub(crate) fn check_operands(
+    handle: Handle<ExpressionTag>,
+    expression: &Expression,
+) -> Result<(), InvalidHandleError>
+    ensures { ChecksEach (IsOperandResult handle) (operands expression.now) result }
+{
+    match *expression {
+        Expression::AccessIndex { base: expr, .. }
+        | Expression::Splat { value: expr, .. }
+        | Expression::Swizzle { vector: expr, .. }
+        | Expression::Load { pointer: expr }
+        | Expression::Unary { expr, .. }
+        | Expression::Derivative { expr }
+        | Expression::Relational { argument: expr, .. }
+        | Expression::As { expr, .. }
+        | Expression::ArrayLength(expr) => check_one(handle, expr),
+        Expression::Access { base, index } => check_two(handle, base, index),
+        Expression::Binary { left, right, .. } => check_two(handle, left, right),
+        Expression::Select {
+            condition,
+            accept,
+            reject,
+        } => check_three(handle, condition, accept, reject),
+        _ => check_listed(handle, expression),
+    }
 }

@@ -1,13 +1,14 @@
 //! Whether all handles of a module are right.
 
-ghost use Rattle.std.specs.Prelude.{◌≡◌, ◌↔◌, ℕ, IfErr, IfOk, IsTrue, List, ◌∷◌, None, OnOk, map, option_to_list};
+ghost use Rattle.std.specs.Prelude.{◌≡◌, ◌↔◌, ℕ, IfErr, IfOk, IsTrue, List, [], ◌∷◌, None, Ok, OnOk, map, option_to_list};
 ghost use Rattle.std.specs.List.{enumerate_from, flat_map};
 ghost use Rattle.std.specs.Fn.{FnReturnsAt};
-ghost use Rattle.naga_ir.specs.ItemReferences.{body_references, constant_references, entry_point_references, global_lists, global_variable_references, local_references, local_variable_references, override_references, signature_references};
+ghost use Rattle.naga_ir.specs.ItemReferences.{named_references, body_references, constant_references, entry_point_references, global_lists, global_variable_references, local_references, local_variable_references, override_references, signature_references};
 ghost use Rattle.naga_ir.specs.References as spec;
 ghost use Rattle.naga_ir.specs.ItemReferences as item;
 ghost use Rattle.naga_ir.specs.Handles.{GlobalReferencesOk, HandlesAccepted, function_counts, module_counts};
 ghost use Rattle.naga_ir.specs.Operands.{present};
+ghost use Rattle.naga_ir.specs.Statements.{block_references};
 ghost use Rattle.naga_ir.specs.declared.reference.Reference.TheVariants as to;
 ghost use Rattle.naga_ir.specs.FirstError.{ChecksEach};
 ghost use Rattle.naga_arena.specs.Memory.{UnlessOutOfMemory};
@@ -28,6 +29,7 @@ use naga_ir::ir::{
 use naga_ir::list::List;
 use naga_ir::memory::OutOfMemory;
 use naga_ir::reference::Reference;
+use naga_ir::statement::Block;
 use naga_ir::tags::{ConstantTag, ExpressionTag, FunctionTag, GlobalVariableTag, TypeTag};
 use naga_ir::text::{StaticText, Text};
 use naga_ir::types::{Type, TypeInner};
@@ -86,6 +88,14 @@ fn try_each<T, E, F: Fn(&T) -> Result<(), E>>(items: &[T], check: &F) -> Result<
     Ok(())
 }
 
+/// That a reference isn't right, with no word why.
+///
+/// A result with room for an error of 40 bytes is copied wherever it is handed on, also if there is no error, and a
+/// processor waits for what it reads wider than it was written. So nearly all references, which are right, are checked
+/// with this error, and what is not right is checked again for the error that says why.
+#[derive(Clone, Copy)]
+struct Refused;
+
 /// What an item may refer to: the items that exist, and of functions those that precede the one that
 /// it belongs to.
 #[derive(Clone, Copy)]
@@ -122,7 +132,8 @@ impl Scope {
         }
     }
 
-    /// Whether an item may refer to this.
+    /// Whether an item may refer to this. Callers know the variant, so that inside of them its check is all that is left.
+    #[inline(always)]
     fn check(&self, reference: Reference) -> Result<(), InvalidHandleError>
         ensures { IsResult (record {
           there = self.now.counts;
@@ -135,6 +146,22 @@ impl Scope {
             check_dep(caller, function)
         } else {
             self.counts.check_exists(reference)
+        }
+    }
+
+    /// Whether an item may refer to this.
+    #[inline(always)]
+    fn admit(&self, reference: Reference) -> Result<(), Refused>
+        ensures { OnOk result (IsResult (record {
+          there = self.now.counts;
+          subject = of_function self.now.caller reference;
+          target = reference;
+        }) (Ok tt)) }
+    {
+        if self.check(reference).is_ok() {
+            Ok(())
+        } else {
+            Err(Refused)
         }
     }
 
@@ -162,6 +189,27 @@ fn check_valued(
     scope.check_all(&[Some(Reference::Type_(ty)), init.map(Reference::Expression)])
 }
 
+/// Whether an expression names no type and no other item, as two of three do.
+#[tactic(auto, unfolding(naga_ir::specs::References::named_type, naga_ir::specs::References::named_item))]
+fn names_nothing(expression: &Expression) -> bool
+    ensures { IsTrue result → named_references expression.now ≡ [] }
+{
+    match expression {
+        Expression::ZeroValue(_)
+        | Expression::Compose { .. }
+        | Expression::Constant(_)
+        | Expression::Override(_)
+        | Expression::GlobalVariable(_)
+        | Expression::LocalVariable(_)
+        | Expression::CallResult(_)
+        | Expression::AtomicResult { .. }
+        | Expression::WorkGroupUniformLoadResult { .. }
+        | Expression::SubgroupOperationResult { .. } => false,
+        _ => true,
+    }
+}
+
+#[inline(always)]
 fn validate_expression_handles(
     scope: &Scope,
     handle: Handle<ExpressionTag>,
@@ -171,11 +219,44 @@ fn validate_expression_handles(
         result }
 {
     // Operands precede the expression, so that one pass in order can type all of them.
+    if names_nothing(expression) {
+        return check_operands(handle, expression);
+    }
     check_operands(handle, expression)?;
     scope.check_all(&[
         expression.named_type().map(Reference::Type_),
         expression.named_item(),
     ])
+}
+
+/// Why the handles of an expression aren't right.
+#[cold]
+#[inline(never)]
+fn refuse_expression(
+    scope: &Scope,
+    handle: Handle<ExpressionTag>,
+    expression: &Expression,
+) -> Result<(), InvalidHandleError>
+    ensures { ChecksEach IsResult (expression_checks scope.now.counts scope.now.caller (handle, expression.now))
+        result }
+{
+    validate_expression_handles(scope, handle, expression)
+}
+
+/// Whether the handles of an expression are right. Of the first check only this is kept, and not an error.
+#[inline(always)]
+fn validate_next_expression(
+    scope: &Scope,
+    handle: Handle<ExpressionTag>,
+    expression: &Expression,
+) -> Result<(), InvalidHandleError>
+    ensures { ChecksEach IsResult (expression_checks scope.now.counts scope.now.caller (handle, expression.now))
+        result }
+{
+    if validate_expression_handles(scope, handle, expression).is_ok() {
+        return Ok(());
+    }
+    refuse_expression(scope, handle, expression)
 }
 
 /// Whether what the expressions of a function refer to exists, and their operands precede them.
@@ -184,7 +265,7 @@ fn validate_expressions(scope: &Scope, function: &Function) -> Result<(), Invali
         (enumerate_from 0 function.now.expressions)) result }
 {
     for (handle, expression) in function.expressions.iter() {
-        validate_expression_handles(scope, handle, expression)?;
+        validate_next_expression(scope, handle, expression)?;
     }
     Ok(())
 }
@@ -219,13 +300,30 @@ fn validate_locals(scope: &Scope, function: &Function) -> Result<(), InvalidHand
     )
 }
 
+/// Whether a scope admits all that the statements of a block refer to.
+fn admits_block(scope: &Scope, block: &Block) -> bool
+    ensures { IsTrue result → ChecksEach IsResult (checks_in scope.now (block_references block.now)) (Ok tt) }
+{
+    block
+        .try_for_each_reference(&|reference: Reference| scope.admit(reference))
+        .is_ok()
+}
+
+/// Whether what the statements of a block refer to exists.
+fn validate_block(scope: &Scope, block: &Block) -> Result<(), InvalidHandleError>
+    ensures { ChecksEach IsResult (checks_in scope.now (block_references block.now)) result }
+{
+    if admits_block(scope, block) {
+        return Ok(());
+    }
+    block.try_for_each_reference(&|reference: Reference| scope.check(reference))
+}
+
 /// Whether what the statements of a function refer to exists, and its filter.
 fn validate_body(scope: &Scope, function: &Function) -> Result<(), InvalidHandleError>
     ensures { ChecksEach IsResult (checks_in scope.now (body_references function.now)) result }
 {
-    function
-        .body
-        .try_for_each_reference(&|reference: Reference| scope.check(reference))?;
+    validate_block(scope, &function.body)?;
     scope.check_all(&[
         function
             .diagnostic_filter_leaf

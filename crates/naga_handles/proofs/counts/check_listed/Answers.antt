@@ -5,7 +5,7 @@ use Rattle.naga_ir.specs.FirstError.{ChecksEach}
 use Rattle.naga_ir.proofs.StatementLemmas.{checks-single}
 use Rattle.naga_handles.specs.steps.ItemChecks.{IsOperandResult}
 use Rattle.naga_handles.proofs.PassedPrefix.{begin, end, left-along, more, stop}
-use Rattle.naga_handles.proofs.counts.check_operands.Goals as goal
+use Rattle.naga_handles.proofs.counts.check_listed.Goals as goal
 
 pub loop-operand-init : goal.loop-operand-init
 loop-operand-init c =

@@ -1,4 +1,4 @@
-use Rattle.std.proofs.Common.{rules, ◌≡◌, ap, subst, sym, map}
+use Rattle.std.proofs.Common.{rules, ◌≡◌, ◌∙◌, ◌++◌, ap, append-nil, subst, sym, map}
 use Rattle.std.specs.Prelude.{Ok, Err}
 use Rattle.naga_ir.specs.ItemReferences.{named_references}
 use Rattle.naga_ir.specs.References.{operands}
@@ -27,3 +27,12 @@ returns c =
     checks-then IsResult (checks n (of_expression c.args.handle) (map to.Expression (operands x))) (checks n s (named_references x)) _
     (checks-operands n c.args.handle (operands x) (Ok _) c.in_ok-check_operands.ensures)
     (checks-along IsResult _ _ _ (ap (checks n s) (named-present x)) (search rules))
+
+pub returns-then-names_nothing : goal.returns-then-names_nothing
+returns-then-names_nothing c =
+    let n = c.args.scope.now.counts in
+    let x = c.args.expression.now in
+    let s = of_function c.args.scope.now.caller in
+    let before = checks n (of_expression c.args.handle) (map to.Expression (operands x)) in
+    checks-along IsResult _ _ _ (sym (ap (λ names. before ++ checks n s names) (c.names_nothing.ensures c.if-names_nothing.true) ∙ append-nil before))
+    (checks-operands n c.args.handle (operands x) _ c.check_operands.ensures)

@@ -16,15 +16,15 @@ pub loop-handle-preserved : goal.loop-handle-preserved
 loop-handle-preserved c =
     let reads = expression_checks c.args.scope.now.counts c.args.scope.now.caller in
     more IsResult (reads (c.in-Some.handle, c.in-Some.expression.now)) (flat_map reads c.next.new.self)
-    (left-along IsResult _ _ (ap (flat_map reads) c.in-Some.ensures.steps) c.loop-handle.invariant) c.in_ok-validate_expression_handles.ensures
+    (left-along IsResult _ _ (ap (flat_map reads) c.in-Some.ensures.steps) c.loop-handle.invariant) c.in_ok-validate_next_expression.ensures
 
-pub returns-in_err-validate_expression_handles : goal.returns-in_err-validate_expression_handles
-returns-in_err-validate_expression_handles c =
+pub returns-in_err-validate_next_expression : goal.returns-in_err-validate_next_expression
+returns-in_err-validate_next_expression c =
     let reads = expression_checks c.args.scope.now.counts c.args.scope.now.caller in
-    let is : c.from_residual.result ≡ Err c.in_err-validate_expression_handles.field-0.0 = search rules in
+    let is : c.from_residual.result ≡ Err c.in_err-validate_next_expression.field-0.0 = search rules in
     subst (ChecksEach IsResult _) (sym is)
     (stop IsResult (reads (c.in-Some.handle, c.in-Some.expression.now)) (flat_map reads c.next.new.self) _
-    (left-along IsResult _ _ (ap (flat_map reads) c.in-Some.ensures.steps) c.loop-handle.invariant) c.in_err-validate_expression_handles.ensures)
+    (left-along IsResult _ _ (ap (flat_map reads) c.in-Some.ensures.steps) c.loop-handle.invariant) c.in_err-validate_next_expression.ensures)
 
 pub returns : goal.returns
 returns c =
