@@ -1,7 +1,6 @@
 use Rattle.std.proofs.Common.{rules, ◌≡◌, ap, subst, sym}
 use Rattle.std.specs.Prelude.{Err}
 use Rattle.naga_ir.specs.FirstError.{ChecksEach}
-use Rattle.naga_ir.specs.Statements.{block_references}
 use Rattle.naga_ir.specs.declared.reference.Reference.TheVariants as to
 use Rattle.naga_ir.proofs.StatementLemmas.{checks-along}
 use Rattle.naga_handles.specs.steps.ItemChecks.{IsResult, checks}
