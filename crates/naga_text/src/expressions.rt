@@ -6,6 +6,7 @@ ghost use Rattle.naga_text.specs.WordForms.{read_each};
 ghost use Rattle.std.specs.Prelude.{◌≡◌, IfOk, map};
 
 use crate::literals::literal;
+use crate::members::push_of;
 use crate::number::handle;
 use crate::words::{binary_operator, equals, size, unary_operator};
 use naga_ir::OutOfMemory;
@@ -86,11 +87,9 @@ fn components(
     ensures { IfOk result (λ read. read ≡ read_each handle_of (map (λ w. w.now) words.now)) }
 {
     let mut components = List::new(alloc);
-    // Where this is refused, the pushes may still find room, which they need only up to a word that is no handle.
-    let _ = components.reserve(words.len());
     for word in words {
         match handle(word) {
-            Some(component) => components.push(component)?,
+            Some(component) => push_of(&mut components, component, words.len())?,
             None => return Ok(None),
         }
     }

@@ -162,7 +162,8 @@ fn add_comment(
     comments.push(((ty, member), List::new(alloc)))
 }
 
-/// Adds what a line says, and returns whether it can stand after the lines before it.
+/// Adds what a line says, and returns whether it can stand after the lines before it. `add_words` adds types and
+/// expressions itself; their arms are here because a `Line` may be one.
 fn add(alloc: Global, so_far: &mut ContentsSoFar, line: Line) -> Result<bool, OutOfMemory>
     ensures { IfOk result (IsAdded so_far.old line so_far.new) }
 {
