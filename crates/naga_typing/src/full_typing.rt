@@ -475,8 +475,8 @@ fn resolve_full(
         ),
         Expression::SubgroupBallotResult => four_of(ScalarKind::Uint),
         Expression::CooperativeMultiplyAdd { c, .. } => same_type(earlier, c),
-        // The most frequent variants that the plain typing resolves alike have arms here, so that the variant is looked
-        // at once.
+        // The most frequent variants that the plain typing resolves alike have arms here, so that the variant is
+        // matched only once.
         Expression::Literal(literal) => scalar(literal.scalar()),
         Expression::ZeroValue(ty) | Expression::Compose { ty, .. } => {
             Ok(TypeResolution::Handle(ty))

@@ -136,7 +136,7 @@ fn compare_types_inner(lhs: &TypeResolution, rhs: &TypeResolution, types: &Uniqu
     ensures { IsTrue result ↔ AreSameTypes types.now lhs.now rhs.now }
 {
     let left = lhs.inner_with(types);
-    // Most types are given by handles: equal ones need no look at the types.
+    // Most types are given by handles: equal ones need no comparison.
     if are_one_handle(lhs, rhs) {
         return true;
     }
