@@ -9,7 +9,7 @@ ghost use Rattle.naga_ir.specs.Handles.{FunctionReferencesOk, HandlesAccepted};
 ghost use Rattle.naga_ir.specs.ItemReferences.{global_lists};
 ghost use Rattle.naga_ir.specs.declared.expression.Expression.TheVariants as form;
 ghost use Rattle.naga_typing.specs.Resolutions.{IsProperResolution, ResolutionExists};
-ghost use Rattle.naga_typing.specs.Typings.{CanResolve, IsResolveResult};
+ghost use Rattle.naga_typing.specs.Typings.{CanResolve};
 
 use crate::module_info::FunctionInfo;
 use bitflags::Flags;
@@ -82,11 +82,12 @@ pub fn infer_types<T: Typing>(
     Ok(info)
 }
 
-/// Adds the type of the next expression of a function to the info.
+/// Adds the type of the next expression of a function to the info, by the types of those before it.
 ///
 /// # Errors
 ///
 /// Those of `infer_types`, which change nothing.
+#[tactic(auto, unfolding(crate::specs::FunctionTypes::function_resolves))]
 fn push_type_of<T: Typing>(
     alloc: Global,
     module: &Module,
@@ -105,43 +106,20 @@ fn push_type_of<T: Typing>(
         ≡ Err e) }
     ensures refused { OnErr result (info.new ≡ info.old) }
 {
-    let earlier = info.types.as_slice();
-    let ty = type_of(alloc, module, function, typing, expression, earlier)?;
-    info.push(ty)?;
-    Ok(())
-}
-
-/// The type of an expression of a function, by the types of those before it.
-///
-/// # Errors
-///
-/// Those of `infer_types`.
-#[tactic(auto, unfolding(crate::specs::FunctionTypes::function_resolves))]
-fn type_of<T: Typing>(
-    alloc: Global,
-    module: &Module,
-    function: &Function,
-    typing: &T,
-    expression: &Expression,
-    earlier: &[TypeResolution],
-) -> Result<TypeResolution, ResolveError>
-    requires can_resolve { CanResolve «module».now expression.now earlier.now }
-    requires variable_exists { (v : ℕ) → expression.now ≡ form.LocalVariable v
-        → v < length function.now.local_variables }
-    ensures { IsResolveResult (function_resolves (T.resolves typing.now) «module».now function.now expression.now
-        earlier.now) result }
-{
     match *expression {
         Expression::FunctionArgument(index) => {
             match function.arguments.as_slice().get(index as usize) {
-                Some(argument) => Ok(TypeResolution::Handle(argument.ty)),
-                None => Err(ResolveError::NotResolvable),
+                Some(argument) => info.push(TypeResolution::Handle(argument.ty))?,
+                None => return Err(ResolveError::NotResolvable),
             }
         }
-        Expression::LocalVariable(variable) => Ok(TypeResolution::Value(TypeInner::Pointer {
-            base: function.local_variables[variable].ty,
-            space: AddressSpace::Function,
-        })),
-        _ => typing.resolve(alloc, module, expression, earlier),
+        Expression::LocalVariable(variable) => info.push(TypeResolution::Value(
+            TypeInner::Pointer {
+                base: function.local_variables[variable].ty,
+                space: AddressSpace::Function,
+            },
+        ))?,
+        _ => typing.push_type(alloc, module, expression, &mut info.types)?,
     }
+    Ok(())
 }

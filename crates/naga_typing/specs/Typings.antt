@@ -1,5 +1,5 @@
 -- What a typing may rely on, and what it promises.
-use Rattle.std.specs.Prelude.{◌≡◌, ℕ, List, Result, Ok, Err, Some, All, length, slice_get}
+use Rattle.std.specs.Prelude.{◌≡◌, ℕ, List, [], ◌∷◌, ◌++◌, Result, Ok, Err, Some, All, length, slice_get}
 use Rattle.naga_arena.specs.InOrder.{AllAcceptedInOrder, RuleInOrder}
 use Rattle.naga_arena.specs.Memory.{UnlessOutOfMemory}
 use Rattle.naga_ir.specs.Handles.{Counts, Exists, HandlesAccepted, module_counts}
@@ -35,6 +35,10 @@ pub record CanResolve (m : Module) (x : Expression) (earlier : List TypeResoluti
 -- a result is what `rule` says, out of memory aside
 abbrev pub IsResolveResult : Result TypeResolution ResolveError → Result TypeResolution ResolveError → Type 0
 IsResolveResult rule result = UnlessOutOfMemory (λ e. e ≡ OutOfMemory) result (λ r. rule ≡ Ok r) (λ e. rule ≡ Err e)
+
+-- the type that `rule` says was added to the types `old`, which are now `new`, or the rule says the error, out of memory aside
+abbrev pub IsPushResult : {A : Type 0} → Result TypeResolution ResolveError → List TypeResolution → List TypeResolution → Result A ResolveError → Type 0
+IsPushResult rule old new result = UnlessOutOfMemory (λ e. e ≡ OutOfMemory) result (λ _. (r : TypeResolution) × (rule ≡ Ok r) × (new ≡ old ++ r ∷ [])) (λ e. rule ≡ Err e)
 
 -- how the type of an expression follows from a module, the expression, and the types of earlier expressions
 abbrev pub Resolves : Type 0

@@ -12,11 +12,13 @@ use crate::plain_typing::{
     self, binary_of, cast_of, element_of, operand, part_of, product, same_type, scalar, splat_of,
     swizzle_of, vector,
 };
+use crate::pushing::push_full;
 use crate::typifier::{ResolveError, TypeResolution};
 use crate::typing::Typing;
 use naga_ir::expression::{BinaryOperator, Expression, ImageQuery, MathFunction, SwizzleComponent};
 use naga_ir::handle::Handle;
 use naga_ir::ir::{Function, Module};
+use naga_ir::list::List;
 use naga_ir::tags::{ExpressionTag, TypeTag};
 use naga_ir::types::{
     AddressSpace, ImageClass, ImageDimension, Scalar, ScalarKind, TypeInner, VectorSize,
@@ -114,7 +116,7 @@ fn value_pointer(
 
 /// The type of a pointer to a part of what a pointer in an address space points to: at a constant
 /// index, or without one at an index that is computed.
-fn part_pointer(
+pub(crate) fn part_pointer(
     index: Option<u32>,
     space: AddressSpace,
     target: &TypeInner,
@@ -150,7 +152,7 @@ fn part_pointer(
 
 /// The type of a part of a value, or of a pointer to a part of what a pointer points to: at a constant
 /// index, or without one at an index that is computed.
-fn part_in(
+pub(crate) fn part_in(
     types: &UniqueArena,
     index: Option<u32>,
     inner: &TypeInner,
@@ -207,7 +209,10 @@ fn loaded(base: Handle<TypeTag>, target: &TypeInner) -> Result<TypeResolution, R
 }
 
 /// The type of what is loaded through a pointer.
-fn load_of(types: &UniqueArena, pointer: &TypeInner) -> Result<TypeResolution, ResolveError>
+pub(crate) fn load_of(
+    types: &UniqueArena,
+    pointer: &TypeInner,
+) -> Result<TypeResolution, ResolveError>
     requires { PartsExist types.now pointer.now }
     ensures { result ≡ spec.load_of types.now pointer.now }
 {
@@ -333,7 +338,7 @@ fn query_of(query: ImageQuery, image: &TypeInner) -> Result<TypeResolution, Reso
 
 /// The type of the product of two operands. A cooperative matrix that a scalar is multiplied by keeps its
 /// type.
-fn full_product(
+pub(crate) fn full_product(
     module: &Module,
     earlier: &[TypeResolution],
     left: Handle<ExpressionTag>,
@@ -376,7 +381,7 @@ fn full_binary_of(
 
 /// The type of a scalar, vector or matrix converted to another kind, and to another width, in bytes, if
 /// one is given. A matrix keeps its kind.
-fn full_cast_of(
+pub(crate) fn full_cast_of(
     kind: ScalarKind,
     convert: Option<u8>,
     inner: &TypeInner,
@@ -415,6 +420,16 @@ impl Typing for FullTyping {
         resolve_full(module, expression, earlier)
     }
 
+    fn push_type(
+        &self,
+        _alloc: Global,
+        module: &Module,
+        expression: &Expression,
+        types: &mut List<TypeResolution>,
+    ) -> Result<(), ResolveError> {
+        push_full(module, types, expression)
+    }
+
     fn accepts(&self, fun: MathFunction, types: &[&TypeInner]) -> bool {
         accepts(fun, types)
     }
@@ -426,7 +441,7 @@ impl Typing for FullTyping {
 
 /// The type of an expression, by its variant.
 #[tactic(auto, unfolding(crate::specs::FullTyping::full_resolves, crate::specs::PlainTyping::plain_resolves))]
-fn resolve_full(
+pub(crate) fn resolve_full(
     module: &Module,
     expression: &Expression,
     earlier: &[TypeResolution],

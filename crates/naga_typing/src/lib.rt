@@ -9,6 +9,7 @@ pub mod index;
 pub mod layouter;
 mod math;
 pub mod plain_typing;
+mod pushing;
 pub mod type_methods;
 pub mod typifier;
 pub mod typing;

@@ -129,7 +129,7 @@ pub(crate) fn swizzle_of(
 }
 
 /// The type of as many bools as a scalar or a vector has components.
-fn bools_of(inner: &TypeInner) -> Result<TypeResolution, ResolveError>
+pub(crate) fn bools_of(inner: &TypeInner) -> Result<TypeResolution, ResolveError>
     ensures { result ≡ spec.bools_of inner.now }
 {
     match *inner {

@@ -1,17 +1,18 @@
 //! What resolves the types of expressions.
 
-ghost use Rattle.std.specs.Prelude.{◌≡◌, ℕ, Bool, List, Result, map};
+ghost use Rattle.std.specs.Prelude.{◌≡◌, ℕ, Bool, List, OnErr, Result, map};
 ghost use Rattle.naga_ir.specs.declared.expression.Expression as expression;
 ghost use Rattle.naga_ir.specs.declared.expression.MathFunction as math;
 ghost use Rattle.naga_ir.specs.declared.ir.Module as modules;
 ghost use Rattle.naga_ir.specs.declared.types.TypeInner as inner;
-ghost use Rattle.naga_typing.specs.Typings.{CanResolve, IsResolveResult, IsLawful};
+ghost use Rattle.naga_typing.specs.Typings.{CanResolve, IsLawful, IsPushResult, IsResolveResult};
 ghost use Rattle.naga_typing.specs.declared.typifier.ResolveError as error;
 ghost use Rattle.naga_typing.specs.declared.typifier.TypeResolution as resolution;
 
 use crate::typifier::{ResolveError, TypeResolution};
 use naga_ir::expression::{Expression, MathFunction};
 use naga_ir::ir::Module;
+use naga_ir::list::List;
 use naga_ir::types::TypeInner;
 use std::alloc::Global;
 
@@ -42,6 +43,29 @@ pub trait Typing: Drop {
     ) -> Result<TypeResolution, ResolveError>
         requires { CanResolve «module».now expression.now earlier.now }
         ensures { IsResolveResult (resolves self.now «module».now expression.now earlier.now) result };
+
+    /// Adds the type of an expression to the types of the expressions before it: what `resolve` returns, without
+    /// handing it on, where a typing has such a way.
+    ///
+    /// # Errors
+    ///
+    /// Those of `resolve`, and `OutOfMemory` if memory was refused for the list. They change nothing.
+    fn push_type(
+        &self,
+        alloc: Global,
+        module: &Module,
+        expression: &Expression,
+        types: &mut List<TypeResolution>,
+    ) -> Result<(), ResolveError>
+        requires { CanResolve «module».now expression.now types.old }
+        ensures result { IsPushResult (resolves self.now «module».now expression.now types.old) types.old types.new
+            result }
+        ensures refused { OnErr result (types.new ≡ types.old) }
+    {
+        let ty = self.resolve(alloc, module, expression, types.as_slice())?;
+        types.push(ty)?;
+        Ok(())
+    }
 
     /// Whether some overload of a math function begins with arguments of these types.
     fn accepts(&self, fun: MathFunction, types: &[&TypeInner]) -> bool
