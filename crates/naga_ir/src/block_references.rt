@@ -17,6 +17,7 @@ use crate::statement::{
     AtomicFunction, Block, GatherMode, RayPipelineFunction, RayQueryFunction, Statement, SwitchCase,
 };
 use naga_arena::handle::Handle;
+use naga_arena::range::Range;
 use naga_arena::tags::ExpressionTag;
 
 impl Block {
@@ -85,11 +86,13 @@ fn try_for_each_in_statement<E, F: Fn(Reference) -> Result<(), E>>(
     }
 }
 
-/// What a statement refers to, without the blocks in it.
+/// What a statement refers to, without the blocks in it. Each variant holds one kind of reference, so that its check is
+/// called where the kind is known, and no `Reference` is put together and handed on.
 #[derive(Clone, Copy)]
 enum OwnReferences {
     Nothing,
-    One(Reference),
+    Emitted(Range<ExpressionTag>),
+    One(Handle<ExpressionTag>),
     Two([Handle<ExpressionTag>; 2]),
     /// Any number of references.
     More,
@@ -103,17 +106,15 @@ fn own_references(statement: &Statement) -> OwnReferences
     ensures { IsOwn statement.now result }
 {
     match statement {
-        Statement::Emit(range) => OwnReferences::One(Reference::Emit(*range)),
+        Statement::Emit(range) => OwnReferences::Emitted(*range),
         Statement::Store { pointer, value } => OwnReferences::Two([*pointer, *value]),
-        Statement::If { condition, .. } => OwnReferences::One(Reference::Expression(*condition)),
-        Statement::Switch { selector, .. } => OwnReferences::One(Reference::Expression(*selector)),
+        Statement::If { condition, .. } => OwnReferences::One(*condition),
+        Statement::Switch { selector, .. } => OwnReferences::One(*selector),
         Statement::Loop {
             break_if: Some(condition),
             ..
-        } => { OwnReferences::One(Reference::Expression(*condition)) }
-        Statement::Return { value: Some(value) } => OwnReferences::One(Reference::Expression(
-            *value,
-        )),
+        } => { OwnReferences::One(*condition) }
+        Statement::Return { value: Some(value) } => OwnReferences::One(*value),
         Statement::Loop { break_if: None, .. }
         | Statement::Return { value: None }
         | Statement::Block(_)
@@ -137,7 +138,8 @@ fn try_for_each_own_reference<E, F: Fn(Reference) -> Result<(), E>>(
 {
     match own_references(statement) {
         OwnReferences::Nothing => Ok(()),
-        OwnReferences::One(reference) => check(reference),
+        OwnReferences::Emitted(range) => check(Reference::Emit(range)),
+        OwnReferences::One(operand) => check(Reference::Expression(operand)),
         OwnReferences::Two(operands) => try_for_each_expression(&operands, check),
         OwnReferences::More => try_for_each_listed_reference(statement, check),
     }
