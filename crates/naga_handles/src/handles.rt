@@ -222,6 +222,18 @@ fn names_nothing(expression: &Expression) -> bool
     }
 }
 
+/// Whether the type and the item exist that an expression names, if it names any. Out of line, what few expressions
+/// need is not made ready for each.
+#[inline(never)]
+fn check_named(scope: &Scope, expression: &Expression) -> Result<(), InvalidHandleError>
+    ensures { ChecksEach IsResult (checks_in scope.now (named_references expression.now)) result }
+{
+    scope.check_all(&[
+        expression.named_type().map(Reference::Type_),
+        expression.named_item(),
+    ])
+}
+
 #[inline(always)]
 fn validate_expression_handles(
     scope: &Scope,
@@ -236,10 +248,7 @@ fn validate_expression_handles(
         return check_operands(handle, expression);
     }
     check_operands(handle, expression)?;
-    scope.check_all(&[
-        expression.named_type().map(Reference::Type_),
-        expression.named_item(),
-    ])
+    check_named(scope, expression)
 }
 
 /// Why the handles of an expression aren't right.

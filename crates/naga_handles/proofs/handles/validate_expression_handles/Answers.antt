@@ -7,7 +7,7 @@ use Rattle.naga_ir.specs.declared.reference.Reference.TheVariants as to
 use Rattle.naga_ir.proofs.StatementLemmas.{checks-along, checks-before, checks-then}
 use Rattle.naga_handles.specs.steps.ItemChecks.{IsResult, checks}
 use Rattle.naga_handles.specs.steps.Checks.{of_expression, of_function}
-use Rattle.naga_handles.proofs.CheckLemmas.{checks-operands, named-present}
+use Rattle.naga_handles.proofs.CheckLemmas.{checks-operands}
 use Rattle.naga_handles.proofs.handles.validate_expression_handles.Goals as goal
 
 pub returns-in_err-check_operands : goal.returns-in_err-check_operands
@@ -26,7 +26,7 @@ returns c =
     let s = of_function c.args.scope.now.caller in
     checks-then IsResult (checks n (of_expression c.args.handle) (map to.Expression (operands x))) (checks n s (named_references x)) _
     (checks-operands n c.args.handle (operands x) (Ok _) c.in_ok-check_operands.ensures)
-    (checks-along IsResult _ _ _ (ap (checks n s) (named-present x)) (search rules))
+    c.check_named.ensures
 
 pub returns-then-names_nothing : goal.returns-then-names_nothing
 returns-then-names_nothing c =
