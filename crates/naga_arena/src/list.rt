@@ -95,6 +95,8 @@ impl<T: Drop> List<T> {
     /// # Errors
     ///
     /// `OutOfMemory` if memory was refused, which leaves the list as it was and drops the item.
+    // Inside its caller, what pushes an item that it puts together writes the item once, where it stays.
+    #[inline(always)]
     pub fn push(&mut self, item: T) -> Result<(), OutOfMemory>
         ensures pushed { OnOk result (self.new ≡ self.old ++ item ∷ []) }
         ensures refused { OnErr result (self.new ≡ self.old) }
