@@ -1,3 +1,4 @@
+pub mod KindLaws
 mod KnownOperands
 mod Operands
 pub mod OverrideValues

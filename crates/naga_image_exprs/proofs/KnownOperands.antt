@@ -29,7 +29,7 @@ operands_of_query image query = refl
 
 module _ (P : ℕ → Type 0) where
   -- what holds of the operands that an option is holds of its value
-  if_there : (o : Option ℕ) → All P (option_to_list o) → IfSome o P
+  pub if_there : (o : Option ℕ) → All P (option_to_list o) → IfSome o P
   if_there None all = tt
   if_there (Some e) all = all 0 e (omega arith)
 

@@ -1,2 +1,3 @@
 pub mod Forms
 pub mod FunctionTypes
+pub mod KindOperands

@@ -1,5 +1,5 @@
 -- What the validation of an expression of a function depends on, besides the expression.
-use Rattle.std.specs.Prelude.{◌≡◌, ◌<◌, ◌≤◌, ℕ, Bool as Boolean, false, List, Option, Some, None, All, length, slice_get}
+use Rattle.std.specs.Prelude.{◌≡◌, ◌<◌, ◌≤◌, ℕ, Bool as Boolean, false, List, [], Option, Some, None, All, length, option_to_list, slice_get}
 use Rattle.naga_flags.specs.declared.flags.ShaderStages.{ShaderStages}
 use Rattle.naga_flags.specs.declared.flags.TypeFlags.{TypeFlags}
 use Rattle.naga_info.specs.ModuleInfo.{ModuleInfoLists}
@@ -74,13 +74,18 @@ ArgumentsExist s root = (e i : ℕ) → e < root → slice_get s.function.expres
 abbrev pub ResultIsKnown : ExpressionSurroundings → Expression → Type 0
 ResultIsKnown s x = (f : ℕ) → x ≡ form.CallResult f → f < length s.infos.functions
 
--- expression `x` can be validated at place `root`: all that it refers to exists, its operands precede it, and their types and kinds are known
+-- the operands of an expression whose kinds its rule asks for: the offset of a sample
+abbrev pub kind_operands : Expression → List ℕ
+kind_operands (form.ImageSample image sampler gather coordinate array_index offset level depth_ref clamp_to_edge) = option_to_list offset
+kind_operands x = []
+
+-- expression `x` can be validated at place `root`: all that it refers to exists, its operands precede it, their types are known, and so are the kinds that its rule asks for
 pub record IsReady (s : ExpressionSurroundings) (root : ℕ) (x : Expression) : Type 0 where
   pub sound : AreSound s
   pub references : All (Exists (function_counts s.«module» s.function)) (expression_references x)
   pub before : All (λ o. o < root) (operands x)
   pub typed : All (λ o. o < length s.types) (operands x)
-  pub kinds : All (λ o. o < length s.kinds) (operands x)
+  pub kinds : All (λ o. o < length s.kinds) (kind_operands x)
   pub arguments : ArgumentsExist s root
   pub called : ResultIsKnown s x
 

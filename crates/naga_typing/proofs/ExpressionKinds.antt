@@ -1,6 +1,6 @@
 -- Kinds of expressions: the latest kind of the operands, and laws of the kinds of all.
-use Rattle.std.proofs.Common.{◌≡◌, ◌<◌, ◌++◌, ◌∷◌, ℕ, suc, List, [], Some, Contains, map, length, slice_get, refl, sym, subst, ap, ◌∙◌, arith}
-use Rattle.std.specs.Option.{unwrap_or}
+use Rattle.std.proofs.Common.{◌≡◌, ◌<◌, ◌≤◌, ◌++◌, ◌∷◌, ℕ, zero, suc, List, [], Some, Ok, Contains, map, length, length-append, slice_get, refl, sym, subst, ap, ◌∙◌, arith}
+use Rattle.std.specs.Option.{option_map, unwrap_or}
 use Rattle.naga_ir.specs.Handles.{ReferencesPrecede, OrderedOperands, own_operand}
 use Rattle.naga_ir.specs.References.{operands}
 use Rattle.naga_ir.specs.declared.expression.Expression.{Expression}
@@ -8,7 +8,8 @@ use Rattle.naga_ir.specs.declared.expression.Expression.TheVariants as form
 use Rattle.naga_typing.specs.Kinds.{AreKinds, kind_at, kind_in_order, kind_of, later, latest, of_operands}
 use Rattle.naga_typing.specs.declared.expression_kind.ExpressionKind.{ExpressionKind}
 use Rattle.naga_typing.specs.declared.expression_kind.ExpressionKind.TheVariants.{Const, Override, Runtime}
-use Rattle.naga_arena.proofs.InOrder.{accepted_once, get_stays}
+use Rattle.naga_arena.proofs.InOrder.{accepted_once, found_at, get_stays, none_follow, one_more_follows}
+use Rattle.naga_arena.specs.InOrder.{FollowInOrder, given_at}
 use Rattle.naga_typing.proofs.InOrder.{value_by_all}
 use Rattle.naga_typing.proofs.Iteration.{Computing, accepts_all, next_index, next_item}
 
@@ -101,3 +102,20 @@ pub next_operands : (xs : List Expression) → ReferencesPrecede (OrderedOperand
 next_operands xs back kinds left n x more w e o names =
     subst (λ (k : ℕ). o < k) (next_index accepts_all xs (length kinds) left n x more w.iterating e)
     (operands_precede xs back n x o (next_item accepts_all xs (length kinds) left n x more w.iterating e) names)
+
+-- the kinds of the first expressions, of so many
+kinds_of_first : (xs : List Expression) (n : ℕ) → n ≤ length xs → (kinds : List ExpressionKind) × (length kinds ≡ n) × FollowInOrder kind_in_order xs kinds
+kinds_of_first xs zero within = ([], refl, none_follow kind_in_order xs [] refl)
+kinds_of_first xs (suc n) within =
+    let before = kinds_of_first xs n (omega (arith, within)) in
+    let next = found_at xs n (omega (arith, within)) in
+    let kind = kind_of before.0 next.0 in
+    let given : given_at kind_in_order xs before.0 (length before.0) ≡ Some (Ok kind) =
+    ap (λ k. option_map (kind_in_order before.0 k) (slice_get xs k)) before.1 ∙ ap (option_map (kind_in_order before.0 n)) next.1 in
+    (before.0 ++ kind ∷ [], length-append before.0 (kind ∷ []) ∙ omega (arith, before.1), one_more_follows kind_in_order xs before.0 _ kind before.2 given refl)
+
+-- expressions have kinds, whether or not any are found
+pub kinds_exist : (xs : List Expression) → (kinds : List ExpressionKind) × AreKinds xs kinds
+kinds_exist xs =
+    let all = kinds_of_first xs (length xs) (omega arith) in
+    (all.0, record { as_many = all.1; follow = all.2 })

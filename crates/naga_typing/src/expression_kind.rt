@@ -1,6 +1,6 @@
 //! When the values of expressions are known.
 
-ghost use Rattle.std.specs.Prelude.{◌≡◌, ◌<◌, [], ◌∷◌, Contains, IfOk, IsOk, length, slice_get, ℕ};
+ghost use Rattle.std.specs.Prelude.{◌≡◌, ◌==◌, ◌<◌, [], ◌∷◌, Contains, IfOk, IsOk, length, slice_get, ℕ};
 ghost use Rattle.naga_ir.specs.Handles.{ReferencesPrecede, OrderedOperands};
 ghost use Rattle.naga_ir.specs.References as references;
 ghost use Rattle.naga_typing.specs.Kinds as spec;
@@ -43,6 +43,22 @@ impl Model for ExpressionKindTracker {
 }
 
 impl ExpressionKindTracker {
+    /// No kinds. It takes no memory.
+    pub fn new(alloc: Global) -> ExpressionKindTracker
+        ensures { result ≡ [] }
+    {
+        ExpressionKindTracker {
+            inner: HandleVec::new(alloc),
+        }
+    }
+
+    /// Whether there are no kinds.
+    pub fn is_empty(&self) -> bool
+        ensures { result ≡ (length self.now == 0) }
+    {
+        self.inner.is_empty()
+    }
+
     /// The kinds of the expressions of an arena, by the rule of naga's
     /// `ExpressionKindTracker::from_arena`. Literals, zero values and constants are `Const`, overrides
     /// `Override`. `Compose`, `Splat`, `Access`, `AccessIndex`, `Swizzle`, `Unary`, `Binary`, `Math`,

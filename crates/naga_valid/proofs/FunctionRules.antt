@@ -1,10 +1,10 @@
 -- Asking the rules of a function's expressions in order, and what follows from what they say.
-use Rattle.std.proofs.Common.{◌≡◌, ◌⊎◌, ◌<◌, ◌≤◌, ◌∙◌, ⊎_elim, ℕ, Contains, List, [], ◌∷◌, ◌++◌, Option, Some, None, Result, Ok, Err, inl, inr, length, slice_get, take, refl, sym, ap, subst, arith, length-append}
+use Rattle.std.proofs.Common.{◌≡◌, ◌⊎◌, ◌<◌, ◌≤◌, ◌∙◌, ⊎_elim, ℕ, All, Contains, List, [], ◌∷◌, ◌++◌, Option, Some, None, Result, Ok, Err, inl, inr, length, slice_get, take, refl, sym, ap, subst, arith, length-append}
 use Rattle.std.specs.List.{enumerate_from}
 use Rattle.std.specs.Prelude.{bit_and, fold, map, option_map}
 use Rattle.std.proofs.Math.Nat.{eq-or-lt_of_le}
 use Rattle.std.proofs.lemmas.List.{length-take-le, map-append}
-use Rattle.std.proofs.lemmas.List.Elements.{All-contains}
+use Rattle.std.proofs.lemmas.List.Elements.{All-contains, All-nil}
 use Rattle.std.proofs.lemmas.List.Sums.{fold-append}
 use Rattle.std.proofs.lemmas.Option.{same_Some, slice_get_within}
 use Rattle.naga_arena.proofs.Elements.{all-of}
@@ -26,7 +26,10 @@ use Rattle.naga_ir.specs.declared.ir.Function.{Function}
 use Rattle.naga_ir.specs.declared.ir.FunctionArgument.{FunctionArgument}
 use Rattle.naga_ir.specs.declared.ir.Module.{Module}
 use Rattle.naga_info.specs.Results.{IsRuleResult}
-use Rattle.naga_info.specs.Surroundings.{IsReady}
+use Rattle.naga_info.specs.Surroundings.{IsReady, kind_operands}
+use Rattle.naga_info.proofs.KindOperands.{of_kind_operands}
+use Rattle.naga_exprs.proofs.KindLaws.{any_kinds}
+use Rattle.naga_typing.proofs.ExpressionKinds.{kinds_exist}
 use Rattle.naga_info.specs.declared.expression_error.ExpressionError.{ExpressionError}
 use Rattle.naga_info.specs.declared.expression_error.ExpressionError.TheVariants as refusal
 use Rattle.naga_typing.proofs.Iteration.{Iterating, accepts_all, all_counted, begin, next_index, next_item, one_more}
@@ -39,7 +42,7 @@ use Rattle.naga_valid.proofs.Meanings.{allows, not_both, refuses}
 use Rattle.naga_valid.specs.Functions.{AreTypesReached, FunctionSurroundings, IsFirstUntyped, IsFunctionAccepted, IsRuleAt, KeepRules, RefusesFunction, breaks_rule, common_stages, has_no_type, expression_surroundings}
 use Rattle.naga_valid.specs.declared.function.FunctionError.{FunctionError}
 use Rattle.naga_valid.specs.declared.function.FunctionError.TheVariants.{Expression as Expression_, OutOfMemory}
-use Rattle.naga_valid.specs.steps.Functions.{AllowInCommon, CanCheckRules, IsFirstBreach, IsFirstBreachAs}
+use Rattle.naga_valid.specs.steps.Functions.{AllowInCommon, CanCheckRules, IsFirstBreach, IsFirstBreachAs, SufficeFor}
 
 -- an argument that has a type exists
 argument_there : (arguments : List FunctionArgument) (i : ℕ) (found : Option FunctionArgument) (ty : TypeResolution) → slice_get arguments i ≡ found → type_of_argument found ≡ Ok ty → i < length arguments
@@ -78,8 +81,8 @@ module _ (s : FunctionSurroundings) where
 
   -- an expression up to the first without a type can be validated
   pub ready_next : (types : List TypeResolution) (kinds : List ExpressionKind) (place : ℕ) (x : Expression)
-      → CanCheckRules s types → AreKinds f.expressions kinds → slice_get f.expressions place ≡ Some x → place ≤ length types → IsReady (expression_surroundings s types kinds) place x
-  ready_next types kinds place x can are at typed =
+      → CanCheckRules s types → SufficeFor f.expressions x kinds → slice_get f.expressions place ≡ Some x → place ≤ length types → IsReady (expression_surroundings s types kinds) place x
+  ready_next types kinds place x can suffice at typed =
       let earlier : (o : ℕ) → Contains (operands x) o → o < place = λ o names. can.in_function.back _ _ (own_operand place o x at names) in
       let within = slice_get_within f.expressions place x at in
       record {
@@ -87,7 +90,11 @@ module _ (s : FunctionSurroundings) where
         references = all-of (Exists (function_counts m f)) (expression_references x) (λ r names. All-contains (Exists (function_counts m f)) _ r can.in_function.expressions (within_all expression_references f.expressions place x r at names));
         before = all-of (λ o. o < place) (operands x) earlier;
         typed = all-of (λ o. o < length types) (operands x) (λ o names. omega (arith, earlier o names, typed));
-        kinds = all-of (λ o. o < length kinds) (operands x) (λ o names. omega (arith, earlier o names, within, are.as_many));
+        kinds =
+            ⊎_elim
+            (λ (none : kind_operands x ≡ []). subst (All (λ o. o < length kinds)) (sym none) (All-nil (λ o. o < length kinds)))
+            (λ (are : AreKinds f.expressions kinds). of_kind_operands (λ o. o < length kinds) x (all-of (λ o. o < length kinds) (operands x) (λ o names. omega (arith, earlier o names, within, are.as_many))))
+            suffice;
         arguments = λ e i before there. typed_arguments_exist s.resolves m f types (follows types can.reached) e i (omega (arith, before, typed)) there;
         called = λ called is. can.calls place called (at ∙ ap Some is);
       }
@@ -169,9 +176,15 @@ module _ (s : FunctionSurroundings) where
       same_error : (a b : ExpressionError) → refuses a ≡ refuses b → a ≡ b
       same_error a b e = cc e
 
-  module _ (types : List TypeResolution) (kinds : List ExpressionKind) (place : ℕ) (x : Expression) (are : AreKinds f.expressions kinds) (at : slice_get f.expressions place ≡ Some x) where
-    abbrev at_place : (meant : Result ShaderStages ExpressionError) → IsRule s.math (expression_surroundings s types kinds) x meant → IsRuleAt s types place meant
-    at_place meant is = (x, kinds, at, are, is)
+  module _ (types : List TypeResolution) (kinds : List ExpressionKind) (place : ℕ) (x : Expression) (suffice : SufficeFor f.expressions x kinds) (at : slice_get f.expressions place ≡ Some x) where
+    at_place : (meant : Result ShaderStages ExpressionError) → IsRule s.math (expression_surroundings s types kinds) x meant → IsRuleAt s types place meant
+    at_place meant is =
+        ⊎_elim
+        (λ (none : kind_operands x ≡ []).
+        let all = kinds_exist f.expressions in
+        (x, all.0, at, all.1, any_kinds (expression_surroundings s types kinds) all.0 s.math x meant none is))
+        (λ (are : AreKinds f.expressions kinds). (x, kinds, at, are, is))
+        suffice
 
     -- a call says what the rule of the expression at a place says
     pub allowed_at : (allowed : ShaderStages) → IsExpressionResult s.math (expression_surroundings s types kinds) x (allows allowed) → IsRuleAt s types place (allows allowed)

@@ -1,8 +1,9 @@
 //! The expressions of a function: their types and their rules (naga's valid/function.rs).
 
-ghost use Rattle.std.specs.Prelude.{◌≡◌, ◌≤◌, [], IfErr, OnErr, OnOk, Some, length};
+ghost use Rattle.std.specs.Prelude.{◌≡◌, ◌≤◌, [], IfErr, IsFalse, OnErr, OnOk, Some, length};
 ghost use Rattle.naga_arena.specs.Memory.{UnlessOutOfMemory};
-ghost use Rattle.naga_ir.specs.Handles.{FunctionReferencesOk, HandlesAccepted};
+ghost use Rattle.naga_info.specs.Surroundings.{kind_operands};
+ghost use Rattle.naga_ir.specs.Handles.{FunctionReferencesOk, HandlesAccepted, OrderedOperands, ReferencesPrecede};
 ghost use Rattle.naga_exprs.specs.Math.{math_typing};
 ghost use Rattle.naga_valid.specs.Accepted.{Accepts};
 ghost use Rattle.naga_valid.specs.AllFunctions.{AddsInfos, AreInfosInOrder, HaveInfos, IsNext, IsNextRefused, IsThere, ValidatesFunctions, function_of};
@@ -10,7 +11,7 @@ ghost use Rattle.naga_valid.specs.ErrorNames.{function_error_name};
 ghost use Rattle.naga_valid.specs.Functions.{CallsBefore, IsFunctionAccepted, RefusesFunction, function_surroundings};
 ghost use Rattle.naga_valid.specs.State.{settings_of};
 ghost use Rattle.naga_valid.specs.steps.AllFunctions.{HaveFunctionInfos, IsInfoAdded, with_info};
-ghost use Rattle.naga_valid.specs.steps.Functions.{AllowInCommon, CanCheckRules, IsFirstBreachAs};
+ghost use Rattle.naga_valid.specs.steps.Functions.{AllowInCommon, AreFoundKinds, CanCheckRules, IsFirstBreachAs, SufficeFor};
 
 use crate::driver::Validator;
 use bitflags::Flags;
@@ -18,6 +19,7 @@ use naga_flags::flags::ShaderStages;
 use naga_info::expression_error::ExpressionError;
 use naga_info::infer::{UntypedExpression, infer_types};
 use naga_info::module_info::{FunctionInfo, ModuleInfo};
+use naga_ir::expression::Expression;
 use naga_ir::handle::Handle;
 use naga_ir::ir::{Function, Module};
 use naga_ir::memory::OutOfMemory;
@@ -25,6 +27,7 @@ use naga_ir::tags::{ExpressionTag, FunctionTag};
 use naga_typing::expression_kind::ExpressionKindTracker;
 use naga_typing::typifier::ResolveError;
 use naga_typing::typing::Typing;
+use std::alloc::Global;
 use thiserror::Error;
 
 /// Why a function is refused: naga's `FunctionError`, as far as expressions are validated.
@@ -103,6 +106,36 @@ fn add_info(mod_info: &mut ModuleInfo, at: &Callable, info: FunctionInfo) -> Res
         Callable::Function(_) => mod_info.push_function(info),
         Callable::EntryPoint(_) => mod_info.push_entry_point(info),
     }
+}
+
+/// Whether the rule of an expression asks for the kind of an operand: that of a sample for the kind of its offset.
+fn asks_for_kinds(expression: &Expression) -> bool
+    ensures { IsFalse result → kind_operands expression.now ≡ [] }
+{
+    matches!(expression, Expression::ImageSample { offset: Some(_), .. })
+}
+
+/// Finds the kinds of the expressions of a function, unless they are found, if the rule of an expression asks for one.
+/// Few functions have such an expression.
+///
+/// # Errors
+///
+/// `OutOfMemory` if memory was refused.
+fn find_kinds(
+    alloc: Global,
+    function: &Function,
+    expression: &Expression,
+    kinds: &mut ExpressionKindTracker,
+) -> Result<(), OutOfMemory>
+    requires back { ReferencesPrecede (OrderedOperands function.now.expressions) }
+    requires found { AreFoundKinds function.now.expressions kinds.old }
+    ensures found { OnOk result (AreFoundKinds function.now.expressions kinds.new) }
+    ensures suffice { OnOk result (SufficeFor function.now.expressions expression.now kinds.new) }
+{
+    if asks_for_kinds(expression) && kinds.is_empty() {
+        *kinds = ExpressionKindTracker::from_arena(alloc, &function.expressions)?;
+    }
+    Ok(())
 }
 
 impl<T: Typing> Validator<T> {
@@ -199,13 +232,14 @@ impl<T: Typing> Validator<T> {
             (λ common. AllowInCommon s info.now.types common)
             (λ e. IsFirstBreachAs s info.now.types e) }
     {
-        let kinds = ExpressionKindTracker::from_arena(self.alloc, &function.expressions)?;
+        let mut kinds = ExpressionKindTracker::new(self.alloc);
         let mut stages = ShaderStages::all();
         for (handle, expression) in function.expressions.iter() {
             // The first without a type is included: its rule only needs the types before it.
             if handle.index() > info.types.len() {
                 break;
             }
+            find_kinds(self.alloc, function, expression, &mut kinds)?;
             match self.validate_expression(
                 overrides_resolved,
                 handle,

@@ -1,9 +1,13 @@
 -- What is known when the rules of a function's expressions are checked.
-use Rattle.std.specs.Prelude.{◌≡◌, ◌⊎◌, ◌<◌, ◌≤◌, ℕ, List, All, Err, length}
+use Rattle.std.specs.Prelude.{◌≡◌, ◌⊎◌, ◌<◌, ◌≤◌, ℕ, List, [], All, Err, length}
 use Rattle.naga_flags.specs.declared.flags.ShaderStages.{ShaderStages}
+use Rattle.naga_info.specs.Surroundings.{kind_operands}
 use Rattle.naga_ir.specs.Handles.{ExpressionReferencesOk, HandlesAccepted}
 use Rattle.naga_ir.specs.ItemReferences.{global_lists}
+use Rattle.naga_ir.specs.declared.expression.Expression.{Expression as Expression_}
 use Rattle.naga_info.specs.declared.expression_error.ExpressionError.{ExpressionError}
+use Rattle.naga_typing.specs.Kinds.{AreKinds}
+use Rattle.naga_typing.specs.declared.expression_kind.ExpressionKind.{ExpressionKind}
 use Rattle.naga_typing.specs.Resolutions.{ResolutionExists}
 use Rattle.naga_typing.specs.declared.typifier.TypeResolution.{TypeResolution}
 use Rattle.naga_valid.specs.Functions.{AreTypesReached, CallsBefore, FunctionSurroundings, IsRuleAt, KeepRules, common_stages}
@@ -18,6 +22,14 @@ pub record CanCheckRules (s : FunctionSurroundings) (types : List TypeResolution
   pub calls : CallsBefore s.function (length s.infos.functions)
   pub reached : AreTypesReached s types
   pub exist : All (ResolutionExists (global_lists s.«module»)) types
+
+-- these are the kinds of expressions, or none, while they aren't found
+abbrev pub AreFoundKinds : List Expression_ → List ExpressionKind → Type 0
+AreFoundKinds xs kinds = (kinds ≡ []) ⊎ AreKinds xs kinds
+
+-- by these kinds the rule of expression `x`, one of `xs`, can be checked: it asks for none, or they are found
+abbrev pub SufficeFor : List Expression_ → Expression_ → List ExpressionKind → Type 0
+SufficeFor xs x kinds = (kind_operands x ≡ []) ⊎ AreKinds xs kinds
 
 -- all expressions, or at least one more than have types, keep their rules, and have these stages in common
 pub record AllowInCommon (s : FunctionSurroundings) (types : List TypeResolution) (common : ShaderStages) : Type 0 where

@@ -2,7 +2,7 @@ use Rattle.std.proofs.Common.{◌≡◌, ◌∙◌, ◌<◌, Contains, ap, lengt
 use Rattle.std.proofs.lemmas.List.Elements.{All-contains_itself}
 use Rattle.std.specs.Prelude.{Err, Ok}
 use Rattle.naga_image_exprs.proofs.FirstConditions.{broken_at, none_broken}
-use Rattle.naga_image_exprs.proofs.KnownOperands.{known_of_sample, looked_up}
+use Rattle.naga_image_exprs.proofs.KnownOperands.{if_there, known_of_sample, looked_up}
 use Rattle.naga_image_exprs.proofs.Results.{clamp_result, sample_result, text_passed, unfound_result}
 use Rattle.naga_image_exprs.proofs.Texts.{empty_text}
 use Rattle.naga_image_exprs.proofs.sample.validate_image_sample.Goals as goal
@@ -36,7 +36,7 @@ pub check_level-requires-clause-known : goal.check_level-requires-clause-known
 check_level-requires-clause-known c = (known_of_sample (λ e. e < length c.args.context.info.now.types) c.args.sample.now c.requires.1.typed).level
 
 pub check_offset-requires-clause-kind : goal.check_offset-requires-clause-kind
-check_offset-requires-clause-kind c = (known_of_sample (λ e. e < length c.args.context.kinds.now) c.args.sample.now c.requires.1.kinds).offset
+check_offset-requires-clause-kind c = if_there (λ e. e < length c.args.context.kinds.now) c.args.sample.now.offset c.requires.1.kinds
 
 pub returns-in_err-image : goal.returns-in_err-image
 returns-in_err-image c =

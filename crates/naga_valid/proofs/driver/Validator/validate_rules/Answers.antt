@@ -1,4 +1,4 @@
-use Rattle.std.proofs.Common.{rules, ◌≡◌, ◌≤◌, ◌<◌, ◌∙◌, ℕ, inr, length, ap, arith}
+use Rattle.std.proofs.Common.{rules, ◌≡◌, ◌≤◌, ◌<◌, ◌∙◌, ℕ, inl, inr, length, ap, arith}
 use Rattle.bitflags.specs.Sets.{known_from}
 use Rattle.naga_flags.specs.declared.flags.ShaderStages.{ShaderStages}
 use Rattle.naga_info.specs.declared.expression_error.ExpressionError.TheVariants as refusal
@@ -15,7 +15,10 @@ unfolding known_from
 loop-handle-init g c =
     let state = c.args.self.now in
     let s = function_surroundings (g.T.Typing.resolves state.typing) (record { accepts = g.T.Typing.accepts_types state.typing; least_arguments = g.T.Typing.least_arguments state.typing }) state c.args.overrides_resolved c.args.module.now c.args.function.now c.args.mod_info.now.lists in
-    none_asked s c.args.info.now.types c.all-stages.result _ (ap stages (c.all-stages.ensures tt)) (c.into_iter-handle-iterator.ensures.into_iter_gives ∙ c.iter-handle-items.ensures)
+    record {
+      asked = none_asked s c.args.info.now.types c.all-stages.result _ (ap stages (c.all-stages.ensures tt)) (c.into_iter-handle-iterator.ensures.into_iter_gives ∙ c.iter-handle-items.ensures);
+      found = inl c.new-kinds.ensures;
+    }
 
 pub validate_expression-requires : goal.validate_expression-requires
 validate_expression-requires g c =
@@ -25,8 +28,8 @@ validate_expression-requires g c =
     let typed : c.in-Some.handle ≤ length types = omega (arith, c.if-index-len.false, c.index.ensures.value, c.len.ensures) in
     record {
       ready =
-          ready_next s types c.in_ok-kinds.kinds c.in-Some.handle c.in-Some.expression.now c.requires c.in_ok-kinds.ensures.kinds
-          (next_there s types _ _ _ _ _ c.loop-handle.invariant c.in-Some.ensures.steps) typed;
+          ready_next s types c.find_kinds.new.kinds c.in-Some.handle c.in-Some.expression.now c.requires c.in_ok-find_kinds.ensures.suffice
+          (next_there s types _ _ _ _ _ c.loop-handle.invariant.asked c.in-Some.ensures.steps) typed;
     }
 
 pub loop-handle-preserved : goal.loop-handle-preserved
@@ -34,21 +37,25 @@ loop-handle-preserved g c =
     let state = c.args.self.now in
     let s = function_surroundings (g.T.Typing.resolves state.typing) (record { accepts = g.T.Typing.accepts_types state.typing; least_arguments = g.T.Typing.least_arguments state.typing }) state c.args.overrides_resolved c.args.module.now c.args.function.now c.args.mod_info.now.lists in
     let types = c.args.info.now.types in
-    let at = next_there s types _ _ _ c.in-Some.expression.now _ c.loop-handle.invariant c.in-Some.ensures.steps in
-    one_allowed s types c.loop-handle.stages _ c.in-Some.handle c.in-Some.expression.now _ c.loop-handle.invariant c.in-Some.ensures.steps c.in-Ok.allowed c.intersection-stages.result
-    (allowed_at s types c.in_ok-kinds.kinds c.in-Some.handle c.in-Some.expression.now c.in_ok-kinds.ensures.kinds at c.in-Ok.allowed c.in-Ok.ensures)
-    (c.intersection-stages.ensures tt)
+    let at = next_there s types _ _ _ c.in-Some.expression.now _ c.loop-handle.invariant.asked c.in-Some.ensures.steps in
+    record {
+      asked =
+          one_allowed s types c.loop-handle.stages _ c.in-Some.handle c.in-Some.expression.now _ c.loop-handle.invariant.asked c.in-Some.ensures.steps c.in-Ok.allowed c.intersection-stages.result
+          (allowed_at s types c.find_kinds.new.kinds c.in-Some.handle c.in-Some.expression.now c.in_ok-find_kinds.ensures.suffice at c.in-Ok.allowed c.in-Ok.ensures)
+          (c.intersection-stages.ensures tt);
+      found = c.in_ok-find_kinds.ensures.found;
+    }
 
 pub returns-in-Err : goal.returns-in-Err
 returns-in-Err g c =
     let state = c.args.self.now in
     let s = function_surroundings (g.T.Typing.resolves state.typing) (record { accepts = g.T.Typing.accepts_types state.typing; least_arguments = g.T.Typing.least_arguments state.typing }) state c.args.overrides_resolved c.args.module.now c.args.function.now c.args.mod_info.now.lists in
     let types = c.args.info.now.types in
-    let at = next_there s types _ _ _ c.in-Some.expression.now _ c.loop-handle.invariant c.in-Some.ensures.steps in
+    let at = next_there s types _ _ _ c.in-Some.expression.now _ c.loop-handle.invariant.asked c.in-Some.ensures.steps in
     let typed : c.in-Some.handle ≤ length types = omega (arith, c.if-index-len.false, c.index.ensures.value, c.len.ensures) in
     let other : c.in-Err.source ≡ refusal.OutOfMemory → ⊥ = search rules in
-    inr (one_breach s types c.loop-handle.stages _ c.in-Some.handle c.in-Some.expression.now _ c.loop-handle.invariant c.in-Some.ensures.steps c.in-Err.source typed
-    (refused_at s types c.in_ok-kinds.kinds c.in-Some.handle c.in-Some.expression.now c.in_ok-kinds.ensures.kinds at c.in-Err.source other c.in-Err.ensures))
+    inr (one_breach s types c.loop-handle.stages _ c.in-Some.handle c.in-Some.expression.now _ c.loop-handle.invariant.asked c.in-Some.ensures.steps c.in-Err.source typed
+    (refused_at s types c.find_kinds.new.kinds c.in-Some.handle c.in-Some.expression.now c.in_ok-find_kinds.ensures.suffice at c.in-Err.source other c.in-Err.ensures))
 
 pub returns : goal.returns
 returns g c =
@@ -56,8 +63,8 @@ returns g c =
     let s = function_surroundings (g.T.Typing.resolves state.typing) (record { accepts = g.T.Typing.accepts_types state.typing; least_arguments = g.T.Typing.least_arguments state.typing }) state c.args.overrides_resolved c.args.module.now c.args.function.now c.args.mod_info.now.lists in
     let types = c.args.info.now.types in
     elim c.match-next.branch [
-      | in-None w ↦ all_asked s types c.loop-handle.stages _ c.loop-handle.invariant w.in-None.ensures.steps.0
+      | in-None w ↦ all_asked s types c.loop-handle.stages _ c.loop-handle.invariant.asked w.in-None.ensures.steps.0
       | in-Some+then-index-len w ↦
           let beyond : length types < w.in-Some.handle = omega (arith, w.if-index-len.true, w.index.ensures.value, w.len.ensures) in
-          enough_asked s types c.loop-handle.stages _ w.in-Some.handle w.in-Some.expression.now _ c.loop-handle.invariant w.in-Some.ensures.steps beyond
+          enough_asked s types c.loop-handle.stages _ w.in-Some.handle w.in-Some.expression.now _ c.loop-handle.invariant.asked w.in-Some.ensures.steps beyond
     ]
