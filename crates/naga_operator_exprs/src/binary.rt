@@ -1,7 +1,8 @@
 //! The rule of operators on two values.
 
-ghost use Rattle.std.specs.Prelude.{◌≡◌, ◌<◌, Err, length};
+ghost use Rattle.std.specs.Prelude.{◌≡◌, ◌↔◌, ◌<◌, Err, IsTrue, Ok, length};
 ghost use Rattle.naga_info.specs.Results.{IsRuleResult};
+ghost use Rattle.naga_info.specs.Stages as stages;
 ghost use Rattle.naga_info.specs.Surroundings.{AreSound, surroundings};
 ghost use Rattle.naga_ir.specs.TypeWords.{vector_size_and_scalar};
 ghost use Rattle.naga_info.specs.Words.{consists_of, is_bool, is_number};
@@ -217,4 +218,28 @@ pub fn validate_binary(
         return refuse_constant(forbidden, left_type, right);
     }
     Ok(every_stage())
+}
+
+/// Whether every stage may use an operator on two values: whether `validate_binary` accepts it. It makes no
+/// error, so that the many expressions that are accepted don't pay for one. The cost is that of `validate_binary`.
+pub fn admits_binary(
+    context: FunctionContext<'_>,
+    op: BinaryOperator,
+    left: Handle<ExpressionTag>,
+    right: Handle<ExpressionTag>,
+) -> bool
+    requires sound { AreSound (surroundings context) }
+    requires left { left < length context.info.now.types }
+    requires right { right < length context.info.now.types }
+    requires exists { right < length context.function.now.expressions }
+    ensures { IsTrue result ↔ rule.IsBinaryRule (surroundings context.entry) op left right (Ok stages.every_stage) }
+{
+    let left_type = context.type_of(left);
+    if !operands_fit(op, left_type, context.type_of(right)) {
+        return false;
+    }
+    match forbidden_on_right(op, left_type) {
+        Some(forbidden) => !has_forbidden(context, forbidden, Place::InFunction(right)),
+        None => true,
+    }
 }

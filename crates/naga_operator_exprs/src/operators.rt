@@ -1,7 +1,8 @@
 //! The rules of operators on one value, of selections, derivatives, queries and conversions.
 
-ghost use Rattle.std.specs.Prelude.{◌≡◌, ◌<◌, length};
+ghost use Rattle.std.specs.Prelude.{◌≡◌, ◌↔◌, ◌<◌, IsTrue, Ok, length, unwrap_or};
 ghost use Rattle.naga_info.specs.Results.{IsRuleResult};
+ghost use Rattle.naga_info.specs.Stages as stages;
 ghost use Rattle.naga_info.specs.Surroundings.{AreSound, surroundings};
 ghost use Rattle.naga_operator_exprs.specs.Operators as rule;
 ghost use Rattle.naga_types.specs.Checks.{ok_unless};
@@ -44,6 +45,23 @@ pub fn validate_unary(
     match context.type_of(expr).vector_size_and_scalar() {
         Some((_, scalar)) if takes(op, scalar.kind) => Ok(every_stage()),
         Some(_) | None => Err(ExpressionError::InvalidUnaryOperandType(op, expr)),
+    }
+}
+
+/// Whether every stage may use an operator on one value: whether `validate_unary` accepts it. It makes no
+/// error.
+pub fn admits_unary(
+    context: FunctionContext<'_>,
+    op: UnaryOperator,
+    expr: Handle<ExpressionTag>,
+) -> bool
+    requires sound { AreSound (surroundings context) }
+    requires expr { expr < length context.info.now.types }
+    ensures { IsTrue result ↔ (rule.unary_rule (surroundings context.entry) op expr ≡ Ok stages.every_stage) }
+{
+    match context.type_of(expr).vector_size_and_scalar() {
+        Some((_, scalar)) => takes(op, scalar.kind),
+        None => false,
     }
 }
 
@@ -110,6 +128,30 @@ pub fn validate_select(
         });
     }
     Ok(every_stage())
+}
+
+/// Whether every stage may use a selection: whether `validate_select` accepts it. It makes no error.
+///
+/// The cost is linear in the members of structs that it compares.
+pub fn admits_select(
+    context: FunctionContext<'_>,
+    condition: Handle<ExpressionTag>,
+    accept: Handle<ExpressionTag>,
+    reject: Handle<ExpressionTag>,
+) -> bool
+    requires sound { AreSound (surroundings context) }
+    requires condition { condition < length context.info.now.types }
+    requires accept { accept < length context.info.now.types }
+    requires reject { reject < length context.info.now.types }
+    ensures { IsTrue result ↔ (rule.select_rule (surroundings context.entry) condition accept reject
+        ≡ Ok stages.every_stage) }
+{
+    let accept_type = context.type_of(accept);
+    if accept_type != context.type_of(reject) {
+        return false;
+    }
+    let shape = context.type_of(condition).vector_size_and_scalar();
+    chooses(shape, accept_type.vector_size_and_scalar())
 }
 
 /// The stages that may use a derivative (WGSL "Derivative Built-in Functions"): fragments.
@@ -200,6 +242,17 @@ fn cast_scalar(inner: &TypeInner) -> Option<Scalar>
     }
 }
 
+/// The scalar that a conversion makes of another: of this kind, and of this width in bytes or else the same.
+fn converted(scalar: Scalar, kind: ScalarKind, convert: Option<u8>) -> Scalar
+    ensures { result ≡ record { kind = kind; width = unwrap_or convert scalar.width } }
+{
+    // Without a width the bits are kept as they are, and so is the width.
+    Scalar {
+        kind,
+        width: convert.unwrap_or(scalar.width),
+    }
+}
+
 /// The stages that may use a conversion of scalars, vectors or matrices to another scalar: to this kind,
 /// and to this width in bytes or else the same (WGSL "Value Constructor Built-in Functions" and "bitcast").
 ///
@@ -219,13 +272,28 @@ pub fn validate_as(
     let Some(scalar) = cast_scalar(context.type_of(expr)) else {
         return Err(ExpressionError::InvalidCastArgument);
     };
-    // Without a width the bits are kept as they are, and so is the width.
-    let target = Scalar {
-        kind,
-        width: convert.unwrap_or(scalar.width),
-    };
+    let target = converted(scalar, kind, convert);
     match check_width(context.capabilities, target) {
         Ok(_) => Ok(every_stage()),
         Err(_) => Err(ExpressionError::InvalidCastArgument),
+    }
+}
+
+/// Whether every stage may use a conversion: whether `validate_as` accepts it. It makes no error.
+pub fn admits_as(
+    context: FunctionContext<'_>,
+    expr: Handle<ExpressionTag>,
+    kind: ScalarKind,
+    convert: Option<u8>,
+) -> bool
+    requires sound { AreSound (surroundings context) }
+    requires expr { expr < length context.info.now.types }
+    ensures { IsTrue result ↔ (rule.as_rule (surroundings context.entry) expr kind convert ≡ Ok stages.every_stage) }
+{
+    match cast_scalar(context.type_of(expr)) {
+        Some(scalar) => {
+            check_width(context.capabilities, converted(scalar, kind, convert)).is_ok()
+        }
+        None => false,
     }
 }
