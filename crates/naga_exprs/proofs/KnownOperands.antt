@@ -1,15 +1,21 @@
 -- What has to be known of the operands of an expression that can be validated.
-use Rattle.std.proofs.Common.{◌≡◌, ◌<◌, ℕ, All, Bool, Contains, List, [], ◌∷◌, Some, length, map, refl, sym, ap, subst, arith, ◌∙◌}
-use Rattle.std.proofs.lemmas.List.Elements.{All-contains, Contains-append_left}
+use Rattle.std.proofs.Common.{◌≡◌, ◌<◌, ℕ, All, Bool, Contains, IfSome, List, [], ◌∷◌, Option, Some, length, map, refl, sym, ap, subst, arith, ◌∙◌}
+use Rattle.std.proofs.lemmas.List.Elements.{All-contains, All-weaker, Contains-append_left}
 use Rattle.naga_arena.proofs.Elements.{contains-map}
 use Rattle.naga_ir.proofs.ReferencesOfItems.{type_in}
 use Rattle.naga_ir.specs.Handles.{Exists, function_counts}
-use Rattle.naga_ir.specs.ItemReferences.{expression_references, named_references}
+use Rattle.naga_ir.specs.ItemReferences.{expression_references, global_lists, named_references}
 use Rattle.naga_ir.specs.References.{named_type, operands}
 use Rattle.naga_ir.specs.declared.expression.Expression.{Expression}
 use Rattle.naga_ir.specs.declared.expression.Expression.TheVariants as form
+use Rattle.naga_ir.specs.declared.expression.MathFunction.{MathFunction}
 use Rattle.naga_ir.specs.declared.reference.Reference.TheVariants as to
-use Rattle.naga_info.specs.Surroundings.{IsReady, ExpressionSurroundings}
+use Rattle.naga_ir.specs.declared.types.«Type».{«Type»}
+use Rattle.naga_info.specs.Surroundings.{AreSound, ExpressionSurroundings, IsReady, IsReadySomewhere}
+use Rattle.naga_typing.proofs.MathOperands.{OfArguments, of_arguments}
+use Rattle.naga_typing.specs.PlainLaws.{types_exist}
+use Rattle.naga_typing.specs.Resolutions.{ResolutionExists, TypesExist}
+use Rattle.naga_typing.specs.declared.typifier.TypeResolution.{TypeResolution}
 
 operands_of_access : (base index : ℕ) → operands (form.Access base index) ≡ base ∷ index ∷ []
 unfolding operands
@@ -129,3 +135,19 @@ module _ (s : ExpressionSurroundings) (root : ℕ) (x : Expression) (can : IsRea
   -- the types of components are known
   pub components_typed : (ty : ℕ) (components : List ℕ) → x ≡ form.Compose ty components → All (λ o. o < length s.types) components
   components_typed ty components is = subst (λ (os : List ℕ). All (λ o. o < length s.types) os) (ap operands is ∙ operands_of_composition ty components) can.typed
+
+-- the types that the known types of expressions name exist
+pub known_types_exist : (s : ExpressionSurroundings) → AreSound s → (types : List «Type») (known : List TypeResolution) → types ≡ s.«module».types → known ≡ s.types → All (TypesExist types) known
+known_types_exist s sound types known these those =
+    let g = global_lists s.«module» in
+    let exist : All (TypesExist g.types) s.types = All-weaker (ResolutionExists g) (TypesExist g.types) (types_exist g) s.types sound.types_exist in
+    subst (λ (types : List «Type»). All (TypesExist types) known) (sym these)
+    (subst (λ (rs : List TypeResolution). All (TypesExist g.types) rs) (sym those) exist)
+
+-- the types of the arguments of a mathematical function are known
+pub arguments_typed : (s : ExpressionSurroundings) (fun : MathFunction) (arg : ℕ) (arg1 arg2 arg3 : Option ℕ) → IsReadySomewhere s (form.Math fun arg arg1 arg2 arg3) → OfArguments (λ (e : ℕ). e < length s.types) arg arg1 arg2 arg3
+arguments_typed s fun arg arg1 arg2 arg3 can = of_arguments (λ (e : ℕ). e < length s.types) (form.Math fun arg arg1 arg2 arg3) fun arg arg1 arg2 arg3 can.1.typed refl
+
+-- and so is the type of each that is given
+pub argument_typed : (n : ℕ) (given : Option ℕ) (e : ℕ) → IfSome given (λ (e : ℕ). e < n) → given ≡ Some e → e < n
+argument_typed n given e all is = subst (λ (o : Option ℕ). IfSome o (λ (e : ℕ). e < n)) is all

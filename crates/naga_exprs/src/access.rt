@@ -1,12 +1,13 @@
 //! The rules of accesses to parts of values, and of swizzles.
 
-ghost use Rattle.std.specs.Prelude.{◌≡◌, ◌<◌, length};
+ghost use Rattle.std.specs.Prelude.{◌≡◌, ◌↔◌, ◌<◌, ℕ, IsTrue, Ok, is_none, length};
 ghost use Rattle.naga_exprs.specs.Accesses as rule;
 ghost use Rattle.naga_exprs.specs.Accesses.{IsAccessRule, access_index_rule};
 ghost use Rattle.naga_exprs.specs.Vectors as vectors;
 ghost use Rattle.naga_exprs.specs.Vectors.{swizzle_rule};
 ghost use Rattle.naga_ir.specs.Handles.{GlobalReferencesOk};
 ghost use Rattle.naga_ir.specs.ItemReferences.{global_lists};
+ghost use Rattle.naga_info.specs.Stages as stages;
 ghost use Rattle.naga_info.specs.Surroundings.{AreSound, surroundings};
 ghost use Rattle.naga_types.specs.Checks.{ok_unless};
 ghost use Rattle.naga_typing.specs.Context.{ReferencesExist};
@@ -137,6 +138,46 @@ pub fn validate_access(
     Ok(every_stage())
 }
 
+/// Whether a constant index is below the length of its base, if that is known.
+fn is_within(value: u32, length: Result<IndexableLength, IndexableLengthError>) -> bool
+    ensures { (base : ℕ) → result ≡ is_none (rule.index_error base value length) }
+{
+    match length {
+        Ok(IndexableLength::Known(known)) => value < known,
+        Ok(IndexableLength::Pending | IndexableLength::Dynamic) => true,
+        Err(_) => false,
+    }
+}
+
+/// Whether every stage may use an access at an index that is computed: whether `validate_access` accepts it.
+/// It makes no error.
+pub(crate) fn admits_access(
+    context: FunctionContext<'_>,
+    base: Handle<ExpressionTag>,
+    index: Handle<ExpressionTag>,
+) -> bool
+    requires sound { AreSound (surroundings context) }
+    requires base { base < length context.info.now.types }
+    requires index { index < length context.info.now.types }
+    requires exists { index < length context.function.now.expressions }
+    ensures { IsTrue result ↔ IsAccessRule (surroundings context.entry) base index (Ok stages.every_stage) }
+{
+    let base_type = context.type_of(base);
+    if !has_parts(base_type) || !is_integer_scalar(context.type_of(index)) {
+        return false;
+    }
+    let gctx = to_ctx(context.module);
+    match get_const_val_from(index, &context.function.expressions, gctx) {
+        // The length is only asked for a constant index.
+        Ok(value) => {
+            let length = indexable_length(context.overrides_resolved, base_type, context.module);
+            is_within(value, length)
+        }
+        Err(ConstValueError::NonConst) => true,
+        Err(ConstValueError::Negative | ConstValueError::InvalidType) => false,
+    }
+}
+
 /// The limit of the known indexes into a value of a type that is not a pointer to a type of the module.
 fn part_limit(inner: &TypeInner) -> Option<usize>
     ensures { result ≡ rule.part_limit inner.now }
@@ -204,6 +245,23 @@ pub fn validate_access_index(
     Ok(every_stage())
 }
 
+/// Whether every stage may use an access at a known index: whether `validate_access_index` accepts it. It
+/// makes no error.
+pub(crate) fn admits_access_index(
+    context: FunctionContext<'_>,
+    base: Handle<ExpressionTag>,
+    index: u32,
+) -> bool
+    requires sound { AreSound (surroundings context) }
+    requires base { base < length context.info.now.types }
+    ensures { IsTrue result ↔ (access_index_rule (surroundings context.entry) base index ≡ Ok stages.every_stage) }
+{
+    match index_limit(context.type_of(base), context.module) {
+        Some(limit) => (index as usize) < limit,
+        None => false,
+    }
+}
+
 /// The index of a component.
 fn component_index(component: SwizzleComponent) -> u8
     ensures { result ≡ vectors.component_index component }
@@ -258,4 +316,37 @@ pub fn validate_swizzle(
     let taken = usize::from(size.components());
     check_components(*vector_size, &pattern[..taken])?;
     Ok(every_stage())
+}
+
+/// Whether a vector of this size has each of some components.
+fn has_components(size: VectorSize, components: &[SwizzleComponent]) -> bool
+    ensures { result ≡ is_none (vectors.first_lacking size components.now) }
+{
+    for component in components {
+        if size.components() <= component_index(*component) {
+            return false;
+        }
+    }
+    true
+}
+
+/// Whether every stage may use a swizzle: whether `validate_swizzle` accepts it. It makes no error.
+pub(crate) fn admits_swizzle(
+    context: FunctionContext<'_>,
+    size: VectorSize,
+    vector: Handle<ExpressionTag>,
+    pattern: &[SwizzleComponent; 4],
+) -> bool
+    requires sound { AreSound (surroundings context) }
+    requires vector { vector < length context.info.now.types }
+    ensures { IsTrue result ↔ (swizzle_rule (surroundings context.entry) size vector pattern.now
+        ≡ Ok stages.every_stage) }
+{
+    match context.type_of(vector) {
+        TypeInner::Vector {
+            size: vector_size,
+            ..
+        } => has_components(*vector_size, &pattern[..usize::from(size.components())]),
+        _ => false,
+    }
 }

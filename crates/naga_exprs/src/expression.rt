@@ -1,16 +1,23 @@
 //! The rule of one expression of a function (naga's `Validator::validate_expression`).
 
-ghost use Rattle.naga_exprs.specs.ExpressionRule.{IsExpressionResult};
+ghost use Rattle.std.specs.Prelude.{IsTrue, Ok};
+ghost use Rattle.naga_exprs.specs.ExpressionRule.{IsExpressionResult, IsRule};
 ghost use Rattle.naga_exprs.specs.Math.{math_typing};
+ghost use Rattle.naga_info.specs.Stages as stages;
 ghost use Rattle.naga_info.specs.Surroundings.{IsReadySomewhere, surroundings};
 
-use crate::access::{validate_access, validate_access_index, validate_swizzle};
-use crate::math::validate_math;
-use crate::memory::{validate_array_length, validate_cooperative_load, validate_load};
+use crate::access::{
+    admits_access, admits_access_index, admits_swizzle, validate_access, validate_access_index,
+    validate_swizzle,
+};
+use crate::math::{admits_math, validate_math};
+use crate::memory::{admits_load, validate_array_length, validate_cooperative_load, validate_load};
 use crate::ray_query::{validate_ray_query_get_intersection, validate_ray_query_vertex_positions};
 use crate::value::{
-    validate_call_result, validate_composition, validate_function_argument, validate_literal_value,
-    validate_splat, validate_workgroup_uniform_load_result, validate_zero_value,
+    admits_composition, admits_function_argument, admits_literal_value, admits_splat,
+    admits_zero_value, validate_call_result, validate_composition, validate_function_argument,
+    validate_literal_value, validate_splat, validate_workgroup_uniform_load_result,
+    validate_zero_value,
 };
 use naga_flags::flags::ShaderStages;
 use naga_image_exprs::load::validate_image_load;
@@ -19,36 +26,71 @@ use naga_image_exprs::sample::{Sample, validate_image_sample};
 use naga_info::context::{FunctionContext, every_stage};
 use naga_info::expression_error::ExpressionError;
 use naga_ir::expression::Expression;
-use naga_operator_exprs::binary::validate_binary;
+use naga_operator_exprs::binary::{admits_binary, validate_binary};
 use naga_operator_exprs::cooperative::validate_cooperative_multiply_add;
 use naga_operator_exprs::operators::{
-    validate_as, validate_derivative, validate_relational, validate_select, validate_unary,
+    admits_as, admits_select, admits_unary, validate_as, validate_derivative, validate_relational,
+    validate_select, validate_unary,
 };
 use naga_typing::typing::Typing;
 use std::alloc::Global;
 
-/// The pipeline stages that may use an expression of a function (naga's `Validator::validate_expression`).
-///
-/// The handles of the module are right, and the handles of the function except the types of its variables.
-/// `context` knows what each type of the module may be used for. All that the expression refers to exists. Its
-/// operands precede its place in the function, and `context` knows their types and kinds; what these types refer
-/// to exists. Each `FunctionArgument` before that place names an argument. If the expression is the result of a
-/// call, `context` knows the function. What mathematical functions take is what the typing accepts.
-///
-/// Accepting takes no memory. The cost is linear in the expression's own components, in the members of
-/// structs that it compares, and in the pointers through which its base is reached, except for the search for
-/// forbidden integers on the right of a division or a shift. It goes through the compositions that a constant
-/// is made of as if they were written out in full, and calls itself at compositions of several components. If all
-/// these are accepted, they have at most as many components as a vector. Expressions that nobody has checked,
-/// global ones without the flag `CONSTANTS` or earlier ones of the function, can make the search take
-/// exponential time, by `vec2(E0, E0)`, `vec2(E1, E1)` and so on, or a stack as deep as their arena, by
-/// `vec2(E0, 1)`, `vec2(E1, 1)` and so on.
-///
-/// # Errors
-///
-/// The error of the first condition of its variant that the expression breaks; the functions of variants list
-/// them. `OutOfMemory` if memory was refused for a struct or a text that an error holds.
-pub fn validate_expression<T: Typing>(
+/// Whether every stage may use an expression, as far as that is told without making an error: of the variants that
+/// are frequent by their rules, and of the others never.
+fn admits_at_once<T: Typing>(
+    typing: &T,
+    context: FunctionContext<'_>,
+    expression: &Expression,
+) -> bool
+    requires ready { IsReadySomewhere (surroundings context) expression.now }
+    ensures { IsTrue result → IsRule (math_typing (T.accepts_types typing.now) (T.least_arguments typing.now))
+        (surroundings context.entry) expression.now (Ok stages.every_stage) }
+{
+    match *expression {
+        Expression::LocalVariable(_) | Expression::GlobalVariable(_) => true,
+        Expression::Override(_) | Expression::Constant(_) => true,
+        Expression::Literal(literal) => admits_literal_value(context, literal),
+        Expression::ZeroValue(ty) => admits_zero_value(context, ty),
+        Expression::Compose { ty, ref components } => {
+            admits_composition(context, ty, components.as_slice())
+        }
+        Expression::Access { base, index } => admits_access(context, base, index),
+        Expression::AccessIndex { base, index } => admits_access_index(context, base, index),
+        Expression::Splat { value, .. } => admits_splat(context, value),
+        Expression::Swizzle {
+            size,
+            vector,
+            ref pattern,
+        } => admits_swizzle(context, size, vector, pattern),
+        Expression::FunctionArgument(index) => admits_function_argument(context, index),
+        Expression::Load { pointer } => admits_load(context, pointer),
+        Expression::Unary { op, expr } => admits_unary(context, op, expr),
+        Expression::Binary { op, left, right } => admits_binary(context, op, left, right),
+        Expression::Select {
+            condition,
+            accept,
+            reject,
+        } => admits_select(context, condition, accept, reject),
+        Expression::As {
+            expr,
+            kind,
+            convert,
+        } => admits_as(context, expr, kind, convert),
+        Expression::Math {
+            fun,
+            arg,
+            arg1,
+            arg2,
+            arg3,
+        } => admits_math(context, typing, fun, arg, arg1, arg2, arg3),
+        _ => false,
+    }
+}
+
+/// The stages that may use an expression, or the error of the rule of its variant. It isn't inlined, so that its
+/// wide result takes no room where an expression is accepted at once.
+#[inline(never)]
+fn validate_variant<T: Typing>(
     alloc: Global,
     typing: &T,
     context: FunctionContext<'_>,
@@ -152,4 +194,43 @@ pub fn validate_expression<T: Typing>(
             validate_cooperative_multiply_add(context, a, b, c)
         }
     }
+}
+
+/// The pipeline stages that may use an expression of a function (naga's `Validator::validate_expression`).
+///
+/// The handles of the module are right, and the handles of the function except the types of its variables.
+/// `context` knows what each type of the module may be used for. All that the expression refers to exists. Its
+/// operands precede its place in the function, and `context` knows their types and kinds; what these types refer
+/// to exists. Each `FunctionArgument` before that place names an argument. If the expression is the result of a
+/// call, `context` knows the function. What mathematical functions take is what the typing accepts.
+///
+/// Accepting takes no memory. The cost is linear in the expression's own components, in the members of
+/// structs that it compares, and in the pointers through which its base is reached, except for the search for
+/// forbidden integers on the right of a division or a shift. It goes through the compositions that a constant
+/// is made of as if they were written out in full, and calls itself at compositions of several components. If all
+/// these are accepted, they have at most as many components as a vector. Expressions that nobody has checked,
+/// global ones without the flag `CONSTANTS` or earlier ones of the function, can make the search take
+/// exponential time, by `vec2(E0, E0)`, `vec2(E1, E1)` and so on, or a stack as deep as their arena, by
+/// `vec2(E0, 1)`, `vec2(E1, 1)` and so on.
+///
+/// # Errors
+///
+/// The error of the first condition of its variant that the expression breaks; the functions of variants list
+/// them. `OutOfMemory` if memory was refused for a struct or a text that an error holds.
+pub fn validate_expression<T: Typing>(
+    alloc: Global,
+    typing: &T,
+    context: FunctionContext<'_>,
+    expression: &Expression,
+) -> Result<ShaderStages, ExpressionError>
+    requires ready { IsReadySomewhere (surroundings context) expression.now }
+    ensures { IsExpressionResult (math_typing (T.accepts_types typing.now) (T.least_arguments typing.now))
+        (surroundings context.entry) expression.now result }
+{
+    // Almost every expression is accepted. What tells only that makes no error, which is wide and would be copied
+    // from function to function.
+    if admits_at_once(typing, context, expression) {
+        return Ok(every_stage());
+    }
+    validate_variant(alloc, typing, context, expression)
 }

@@ -1,6 +1,6 @@
 //! The rule of mathematical functions.
 
-ghost use Rattle.std.specs.Prelude.{◌≡◌, ◌≤◌, length, map};
+ghost use Rattle.std.specs.Prelude.{◌≡◌, ◌↔◌, ◌≤◌, IsTrue, None, Ok, length, map};
 ghost use Rattle.naga_ir.specs.declared.expression.Expression.TheVariants as form;
 ghost use Rattle.naga_exprs.specs.Math as rule;
 ghost use Rattle.naga_exprs.specs.Math.{argument_checks, first_argument_error, math_rule, math_typing};
@@ -18,15 +18,22 @@ use naga_ir::tags::ExpressionTag;
 use naga_ir::types::TypeInner;
 use naga_typing::typing::Typing;
 
+/// Whether a function keeps floating-point numbers of 16 bits in ones of 32.
+fn keeps_halves(fun: MathFunction) -> bool
+    ensures { result ≡ rule.keeps_float16 fun }
+{
+    matches!(
+        fun,
+        MathFunction::QuantizeToF16 | MathFunction::Pack2x16float | MathFunction::Unpack2x16float
+    )
+}
+
 /// Checks that the capability of a function is given, if it needs one.
 fn check_capability(capabilities: Capabilities, fun: MathFunction) -> Result<(), ExpressionError>
     ensures { result ≡ ok_unless (rule.float16_error capabilities.0 fun) tt }
 {
     // These need no type of 16 bits, only halves within 32 bits: a capability of its own.
-    let keeps_float16 = matches!(
-        fun,
-        MathFunction::QuantizeToF16 | MathFunction::Pack2x16float | MathFunction::Unpack2x16float
-    );
+    let keeps_float16 = keeps_halves(fun);
     let needed = Capabilities::SHADER_FLOAT16_IN_FLOAT32;
     if keeps_float16 && !capabilities.contains(needed) {
         return Err(ExpressionError::MissingCapabilities(needed));
@@ -121,5 +128,88 @@ pub fn validate_math<T: Typing>(
         (None, Some(_), _) | (None, None, Some(_)) | (Some(_), None, Some(_)) => {
             Err(ExpressionError::WrongArgumentCount(fun))
         }
+    }
+}
+
+/// Whether the capability of a function is given, if it needs one.
+fn has_capability(capabilities: Capabilities, fun: MathFunction) -> bool
+    ensures { IsTrue result ↔ (rule.float16_error capabilities.0 fun ≡ None) }
+{
+    !keeps_halves(fun) || capabilities.contains(Capabilities::SHADER_FLOAT16_IN_FLOAT32)
+}
+
+/// Whether a function takes each of some arguments, which have these types.
+fn accepts_each<T: Typing>(
+    typing: &T,
+    fun: MathFunction,
+    arguments: &[Handle<ExpressionTag>],
+    types: &[&TypeInner],
+) -> bool
+    requires typed { length arguments.now ≡ length types.now }
+    requires few { length arguments.now ≤ 4 }
+    ensures { IsTrue result ↔ (first_argument_error
+        (math_typing (T.accepts_types typing.now) (T.least_arguments typing.now)) fun (map (λ t. t.now) types.now)
+        arguments.now ≡ None) }
+{
+    for (index, _) in arguments.iter().enumerate() {
+        let accepted = typing.accepts(fun, &types[..index + 1]);
+        if !accepted {
+            return false;
+        }
+    }
+    true
+}
+
+/// Whether every stage may use a function of these arguments, which have these types.
+fn admits_arguments<T: Typing>(
+    typing: &T,
+    fun: MathFunction,
+    arguments: &[Handle<ExpressionTag>],
+    types: &[&TypeInner],
+) -> bool
+    requires typed { length arguments.now ≡ length types.now }
+    requires few { length arguments.now ≤ 4 }
+    ensures { IsTrue result ↔ (first_error_or
+        (argument_checks (math_typing (T.accepts_types typing.now) (T.least_arguments typing.now)) fun
+        (map (λ t. t.now) types.now) arguments.now) stages.every_stage ≡ Ok stages.every_stage) }
+{
+    accepts_each(typing, fun, arguments, types) && typing.min_arguments(fun, types) <= types.len()
+}
+
+/// Whether every stage may use a mathematical function: whether `validate_math` accepts it. It makes no error.
+pub(crate) fn admits_math<T: Typing>(
+    context: FunctionContext<'_>,
+    typing: &T,
+    fun: MathFunction,
+    arg: Handle<ExpressionTag>,
+    arg1: Option<Handle<ExpressionTag>>,
+    arg2: Option<Handle<ExpressionTag>>,
+    arg3: Option<Handle<ExpressionTag>>,
+) -> bool
+    requires { IsReadySomewhere (surroundings context) (form.Math fun arg arg1 arg2 arg3) }
+    ensures { IsTrue result ↔ (math_rule (math_typing (T.accepts_types typing.now) (T.least_arguments typing.now))
+        (surroundings context.entry) fun arg arg1 arg2 arg3 ≡ Ok stages.every_stage) }
+{
+    if !has_capability(context.capabilities, fun) {
+        return false;
+    }
+    let first = context.type_of(arg);
+    match (arg1, arg2, arg3) {
+        (None, None, None) => admits_arguments(typing, fun, &[arg], &[first]),
+        (Some(second), None, None) => {
+            let types = [first, context.type_of(second)];
+            admits_arguments(typing, fun, &[arg, second], &types)
+        }
+        (Some(second), Some(third), None) => {
+            let types = [first, context.type_of(second), context.type_of(third)];
+            admits_arguments(typing, fun, &[arg, second, third], &types)
+        }
+        (Some(second), Some(third), Some(fourth)) => {
+            let second_type = context.type_of(second);
+            let third_type = context.type_of(third);
+            let types = [first, second_type, third_type, context.type_of(fourth)];
+            admits_arguments(typing, fun, &[arg, second, third, fourth], &types)
+        }
+        (None, Some(_), _) | (None, None, Some(_)) | (Some(_), None, Some(_)) => false,
     }
 }

@@ -1,9 +1,10 @@
 //! The rules of loads, of cooperative matrices too, and of the lengths of arrays.
 
-ghost use Rattle.std.specs.Prelude.{◌≡◌, ◌<◌, Some, length};
+ghost use Rattle.std.specs.Prelude.{◌≡◌, ◌↔◌, ◌<◌, IsTrue, Ok, Some, length};
 ghost use Rattle.naga_exprs.specs.Memory as rule;
 ghost use Rattle.naga_exprs.specs.Memory.{array_length_rule, cooperative_load_rule, load_rule};
 ghost use Rattle.naga_ir.specs.ItemReferences.{global_lists};
+ghost use Rattle.naga_info.specs.Stages as stages;
 ghost use Rattle.naga_info.specs.Surroundings.{AreSound, surroundings};
 ghost use Rattle.naga_typing.specs.Context.{ReferencesExist};
 
@@ -60,6 +61,15 @@ pub fn validate_load(
         return Err(ExpressionError::InvalidPointerType(pointer));
     }
     Ok(every_stage())
+}
+
+/// Whether every stage may use a load: whether `validate_load` accepts it. It makes no error.
+pub(crate) fn admits_load(context: FunctionContext<'_>, pointer: Handle<ExpressionTag>) -> bool
+    requires sound { AreSound (surroundings context) }
+    requires pointer { pointer < length context.info.now.types }
+    ensures { IsTrue result ↔ (load_rule (surroundings context.entry) pointer ≡ Ok stages.every_stage) }
+{
+    can_load(context, context.type_of(pointer))
 }
 
 /// Whether a type is a runtime-sized array.

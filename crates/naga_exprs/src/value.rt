@@ -1,7 +1,8 @@
 //! The rules of literals, zero values, compositions, splats and arguments, and of the results of calls
 //! and of loads for a whole workgroup.
 
-ghost use Rattle.std.specs.Prelude.{◌≡◌, ◌<◌, All, length};
+ghost use Rattle.std.specs.Prelude.{◌≡◌, ◌↔◌, ◌<◌, All, IsTrue, Ok, length};
+ghost use Rattle.naga_info.specs.Stages as stages;
 ghost use Rattle.naga_info.specs.Surroundings.{AreSound, surroundings};
 ghost use Rattle.naga_exprs.specs.Values as rule;
 
@@ -31,6 +32,14 @@ pub fn validate_literal_value(
     Ok(every_stage())
 }
 
+/// Whether every stage may use a literal: whether `validate_literal_value` accepts it. It makes no error of an
+/// expression.
+pub(crate) fn admits_literal_value(context: FunctionContext<'_>, literal: Literal) -> bool
+    ensures { IsTrue result ↔ (rule.literal_value_rule (surroundings context.entry) literal ≡ Ok stages.every_stage) }
+{
+    validate_literal(context.capabilities, literal).is_ok()
+}
+
 /// The stages that may use a zero value (WGSL "Zero Value").
 ///
 /// # Errors
@@ -48,6 +57,15 @@ pub fn validate_zero_value(
         return Err(ExpressionError::InvalidZeroValue(ty));
     }
     Ok(every_stage())
+}
+
+/// Whether every stage may use a zero value: whether `validate_zero_value` accepts it. It makes no error.
+pub(crate) fn admits_zero_value(context: FunctionContext<'_>, ty: Handle<TypeTag>) -> bool
+    requires sound { AreSound (surroundings context) }
+    requires exists { ty < length context.«module».now.types }
+    ensures { IsTrue result ↔ (rule.zero_value_rule (surroundings context.entry) ty ≡ Ok stages.every_stage) }
+{
+    context.type_flags(ty).contains(TypeFlags::CONSTRUCTIBLE)
 }
 
 /// The stages that may use a composition (WGSL "Value Constructor Built-in Functions").
@@ -74,6 +92,23 @@ pub fn validate_composition(
     Ok(every_stage())
 }
 
+/// Whether every stage may use a composition: whether `validate_composition` accepts it. It makes no error of
+/// an expression.
+pub(crate) fn admits_composition(
+    context: FunctionContext<'_>,
+    ty: Handle<TypeTag>,
+    components: &[Handle<ExpressionTag>],
+) -> bool
+    requires sound { AreSound (surroundings context) }
+    requires exists { ty < length context.«module».now.types }
+    requires components { All (λ o. o < length context.info.now.types) components.now }
+    ensures { IsTrue result ↔ (rule.composition_rule (surroundings context.entry) ty components.now
+        ≡ Ok stages.every_stage) }
+{
+    let types = context.info.types.as_slice();
+    validate_compose_at(ty, to_ctx(context.module), components, types).is_ok()
+}
+
 /// The stages that may use a splat (WGSL "Value Constructor Built-in Functions").
 ///
 /// # Errors
@@ -93,6 +128,18 @@ pub fn validate_splat(
     }
 }
 
+/// Whether every stage may use a splat: whether `validate_splat` accepts it. It makes no error.
+pub(crate) fn admits_splat(context: FunctionContext<'_>, value: Handle<ExpressionTag>) -> bool
+    requires sound { AreSound (surroundings context) }
+    requires value { value < length context.info.now.types }
+    ensures { IsTrue result ↔ (rule.splat_rule (surroundings context.entry) value ≡ Ok stages.every_stage) }
+{
+    match context.type_of(value).vector_size_and_scalar() {
+        Some((None, _)) => true,
+        Some((Some(_), _)) | None => false,
+    }
+}
+
 /// The stages that may use an argument (WGSL "Formal Parameter Expression").
 ///
 /// # Errors
@@ -108,6 +155,13 @@ pub fn validate_function_argument(
         return Err(ExpressionError::FunctionArgumentDoesntExist(index));
     }
     Ok(every_stage())
+}
+
+/// Whether every stage may use an argument: whether `validate_function_argument` accepts it. It makes no error.
+pub(crate) fn admits_function_argument(context: FunctionContext<'_>, index: u32) -> bool
+    ensures { IsTrue result ↔ (rule.argument_rule (surroundings context.entry) index ≡ Ok stages.every_stage) }
+{
+    (index as usize) < context.function.arguments.len()
 }
 
 /// The stages that may use the result of a call (WGSL "Function Call Expression"): those that may use the
