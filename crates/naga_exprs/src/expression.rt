@@ -35,8 +35,8 @@ use naga_operator_exprs::operators::{
 use naga_typing::typing::Typing;
 use std::alloc::Global;
 
-/// Whether every stage may use an expression, as far as that is told without making an error: of the variants that
-/// are frequent by their rules, and of the others never.
+/// Whether every stage may use an expression of a frequent variant, by the rule of the variant. It makes no
+/// `ExpressionError`, and returns `false` for the other variants, also where their rules accept.
 fn admits_at_once<T: Typing>(
     typing: &T,
     context: FunctionContext<'_>,
@@ -83,12 +83,13 @@ fn admits_at_once<T: Typing>(
             arg2,
             arg3,
         } => admits_math(context, typing, fun, arg, arg1, arg2, arg3),
+        // The rest are rare, or not for every stage.
         _ => false,
     }
 }
 
-/// The stages that may use an expression, or the error of the rule of its variant. It isn't inlined, so that its
-/// wide result takes no room where an expression is accepted at once.
+/// The stages that may use an expression, or the first error by the rule of its variant. It is not inlined, since
+/// `validate_expression` seldom calls it, and an `ExpressionError` in each arm takes much of the stack.
 #[inline(never)]
 fn validate_variant<T: Typing>(
     alloc: Global,
@@ -227,8 +228,8 @@ pub fn validate_expression<T: Typing>(
     ensures { IsExpressionResult (math_typing (T.accepts_types typing.now) (T.least_arguments typing.now))
         (surroundings context.entry) expression.now result }
 {
-    // Almost every expression is accepted. What tells only that makes no error, which is wide and would be copied
-    // from function to function.
+    // Almost every expression is accepted, and then a `bool` is enough. An `ExpressionError` is wide: to return
+    // one from function to function takes longer than to check most expressions.
     if admits_at_once(typing, context, expression) {
         return Ok(every_stage());
     }

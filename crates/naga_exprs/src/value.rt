@@ -32,12 +32,16 @@ pub fn validate_literal_value(
     Ok(every_stage())
 }
 
-/// Whether every stage may use a literal: whether `validate_literal_value` accepts it. It makes no error of an
-/// expression.
+/// Whether every stage may use a literal: whether `validate_literal_value` accepts it. It makes no
+/// `ExpressionError`.
 pub(crate) fn admits_literal_value(context: FunctionContext<'_>, literal: Literal) -> bool
     ensures { IsTrue result ↔ (rule.literal_value_rule (surroundings context.entry) literal ≡ Ok stages.every_stage) }
 {
-    validate_literal(context.capabilities, literal).is_ok()
+    match literal {
+        // The usual literals need no capability.
+        Literal::F32(_) | Literal::U32(_) | Literal::I32(_) | Literal::Bool(_) => true,
+        _ => validate_literal(context.capabilities, literal).is_ok(),
+    }
 }
 
 /// The stages that may use a zero value (WGSL "Zero Value").
@@ -92,8 +96,8 @@ pub fn validate_composition(
     Ok(every_stage())
 }
 
-/// Whether every stage may use a composition: whether `validate_composition` accepts it. It makes no error of
-/// an expression.
+/// Whether every stage may use a composition: whether `validate_composition` accepts it. It makes no
+/// `ExpressionError`.
 pub(crate) fn admits_composition(
     context: FunctionContext<'_>,
     ty: Handle<TypeTag>,

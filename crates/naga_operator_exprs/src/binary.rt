@@ -220,8 +220,9 @@ pub fn validate_binary(
     Ok(every_stage())
 }
 
-/// Whether every stage may use an operator on two values: whether `validate_binary` accepts it. It makes no
-/// error, so that the many expressions that are accepted don't pay for one. The cost is that of `validate_binary`.
+/// Whether every stage may use an operator on two values: whether `validate_binary` accepts it. The rule and the
+/// cost of the search for forbidden constants are the same, but no error is made, which takes less time where most
+/// operands are accepted, and no memory.
 pub fn admits_binary(
     context: FunctionContext<'_>,
     op: BinaryOperator,
