@@ -14,6 +14,7 @@ use Rattle.naga_ir.specs.declared.expression.Expression.TheVariants as form
 use Rattle.naga_ir.specs.declared.ir.Function.{Function}
 use Rattle.naga_ir.specs.declared.ir.Module.{Module}
 use Rattle.naga_ir.specs.declared.reference.Reference.{Reference}
+use Rattle.naga_info.proofs.KindOperands.{of_kind_operands}
 use Rattle.naga_info.specs.Surroundings.{AreSound, IsReady, ExpressionSurroundings}
 use Rattle.naga_query.specs.Accepted.{CanValidateIn, IsKnownBefore, IsThereOrArgument}
 use Rattle.naga_typing.proofs.ExpressionTypes.{Typed, next_place}
@@ -41,7 +42,7 @@ module _ (s : ExpressionSurroundings) (place : ℕ) (known : CanValidateIn s.«m
         references = all-of Here (expression_references x) (λ r names. All-contains Here (flat_map expression_references s.function.expressions) r in_function.expressions (within_all expression_references s.function.expressions place x r at names));
         before = all-of (λ (o : ℕ). o < place) (operands x) earlier;
         typed = all-of (λ (o : ℕ). o < length s.types) (operands x) (λ o names. let b = earlier o names in omega (arith, b, before.types_known));
-        kinds = all-of (λ (o : ℕ). o < length s.kinds) (operands x) (λ o names. let b = earlier o names in omega (arith, b, before.kinds_known));
+        kinds = of_kind_operands (λ (o : ℕ). o < length s.kinds) x (all-of (λ (o : ℕ). o < length s.kinds) (operands x) (λ o names. let b = earlier o names in omega (arith, b, before.kinds_known)));
         arguments = λ e i below there. known.arguments e i there;
         called = λ f same. known.function.calls place f (subst (λ (y : Expression). slice_get s.function.expressions place ≡ Some y) same at);
       }
@@ -61,7 +62,7 @@ module _ (s : ExpressionSurroundings) (place : ℕ) (known : CanValidateIn s.«m
     references = subst (All Here) (sym (no_references i)) (All-nil Here);
     before = subst (All (λ (o : ℕ). o < place)) (sym (no_operands i)) (All-nil (λ (o : ℕ). o < place));
     typed = subst (All (λ (o : ℕ). o < length s.types)) (sym (no_operands i)) (All-nil (λ (o : ℕ). o < length s.types));
-    kinds = subst (All (λ (o : ℕ). o < length s.kinds)) (sym (no_operands i)) (All-nil (λ (o : ℕ). o < length s.kinds));
+    kinds = All-nil (λ (o : ℕ). o < length s.kinds);
     arguments = λ e i below there. known.arguments e i there;
     called = λ f same. cc same;
   }

@@ -112,7 +112,13 @@ fn add_info(mod_info: &mut ModuleInfo, at: &Callable, info: FunctionInfo) -> Res
 fn asks_for_kinds(expression: &Expression) -> bool
     ensures { IsFalse result → kind_operands expression.now ≡ [] }
 {
-    matches!(expression, Expression::ImageSample { offset: Some(_), .. })
+    matches!(
+        expression,
+        Expression::ImageSample {
+            offset: Some(_),
+            ..
+        }
+    )
 }
 
 /// Finds the kinds of the expressions of a function, unless they are found, if the rule of an expression asks for one.

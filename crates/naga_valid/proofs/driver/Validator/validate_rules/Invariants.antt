@@ -7,8 +7,8 @@ use Rattle.naga_valid.specs.steps.Functions.{AreFoundKinds}
 abbrev pub invariant-loop-handle : goal.invariant-loop-handle
 invariant-loop-handle g l = record {
   asked :
-    Asked
-    (function_surroundings (g.T.Typing.resolves l.self.typing) (record { accepts = g.T.Typing.accepts_types l.self.typing; least_arguments = g.T.Typing.least_arguments l.self.typing }) l.self l.overrides_resolved l.module l.function l.mod_info.lists)
-    l.info.types l.stages l.handle-iterator;
+      Asked
+      (function_surroundings (g.T.Typing.resolves l.self.typing) (record { accepts = g.T.Typing.accepts_types l.self.typing; least_arguments = g.T.Typing.least_arguments l.self.typing }) l.self l.overrides_resolved l.module l.function l.mod_info.lists)
+      l.info.types l.stages l.handle-iterator;
   found : AreFoundKinds l.function.expressions l.kinds;
 }
