@@ -1,5 +1,5 @@
 -- The rule of an expression of a function, by its variant.
-use Rattle.std.specs.Prelude.{◌≡◌, Result, Ok}
+use Rattle.std.specs.Prelude.{◌≡◌, Bool, true, false, Result, Ok}
 use Rattle.naga_exprs.specs.Accesses.{IsAccessRule, access_index_rule}
 use Rattle.naga_exprs.specs.Memory.{array_length_rule, cooperative_load_rule, load_rule}
 use Rattle.naga_exprs.specs.RayQueries.{ray_query_get_intersection_rule, ray_query_vertex_positions_rule}
@@ -63,3 +63,40 @@ IsRule t s (form.CooperativeMultiplyAdd a b c) rule = rule ≡ cooperative_multi
 -- what a call returns for an expression: what the rule says, out of memory aside
 abbrev pub IsExpressionResult : MathTyping → ExpressionSurroundings → Expression → Result ShaderStages ExpressionError → Type 0
 IsExpressionResult t s x result = (rule : Result ShaderStages ExpressionError) × IsRule t s x rule × IsRuleResult rule result
+
+-- expression `x` is of a variant that most expressions of shaders are of, and whose rule lets every stage use it or none
+abbrev pub is_frequent : Expression → Bool
+is_frequent (form.Literal value) = true
+is_frequent (form.Constant c) = true
+is_frequent (form.Override o) = true
+is_frequent (form.ZeroValue ty) = true
+is_frequent (form.Compose ty components) = true
+is_frequent (form.Access base index) = true
+is_frequent (form.AccessIndex base index) = true
+is_frequent (form.Splat size value) = true
+is_frequent (form.Swizzle size vector pattern) = true
+is_frequent (form.FunctionArgument index) = true
+is_frequent (form.GlobalVariable v) = true
+is_frequent (form.LocalVariable v) = true
+is_frequent (form.Load pointer) = true
+is_frequent (form.Unary op expr) = true
+is_frequent (form.Binary op left right) = true
+is_frequent (form.Select condition accept reject) = true
+is_frequent (form.Derivative expr) = false
+is_frequent (form.Relational fun argument) = false
+is_frequent (form.As expr kind convert) = true
+is_frequent (form.CallResult f) = false
+is_frequent (form.AtomicResult ty comparison) = false
+is_frequent (form.WorkGroupUniformLoadResult ty) = false
+is_frequent (form.ArrayLength expr) = false
+is_frequent (form.ImageSample image sampler gather coordinate array_index offset level depth_ref clamp_to_edge) = false
+is_frequent (form.ImageLoad image coordinate array_index sample level) = false
+is_frequent (form.ImageQuery image query) = false
+is_frequent (form.Math fun arg arg1 arg2 arg3) = true
+is_frequent form.RayQueryProceedResult = false
+is_frequent (form.RayQueryGetIntersection query committed) = false
+is_frequent (form.RayQueryVertexPositions query committed) = false
+is_frequent form.SubgroupBallotResult = false
+is_frequent (form.SubgroupOperationResult ty) = false
+is_frequent (form.CooperativeLoad pointer stride) = false
+is_frequent (form.CooperativeMultiplyAdd a b c) = false

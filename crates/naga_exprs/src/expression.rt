@@ -1,7 +1,7 @@
 //! The rule of one expression of a function (naga's `Validator::validate_expression`).
 
-ghost use Rattle.std.specs.Prelude.{IsTrue, Ok};
-ghost use Rattle.naga_exprs.specs.ExpressionRule.{IsExpressionResult, IsRule};
+ghost use Rattle.std.specs.Prelude.{◌↔◌, IsTrue, Ok};
+ghost use Rattle.naga_exprs.specs.ExpressionRule.{IsExpressionResult, IsRule, is_frequent};
 ghost use Rattle.naga_exprs.specs.Math.{math_typing};
 ghost use Rattle.naga_info.specs.Stages as stages;
 ghost use Rattle.naga_info.specs.Surroundings.{IsReadySomewhere, surroundings};
@@ -35,63 +35,28 @@ use naga_operator_exprs::operators::{
 use naga_typing::typing::Typing;
 use std::alloc::Global;
 
-/// Whether every stage may use an expression of a frequent variant, by the rule of the variant. It makes no
-/// `ExpressionError`, and returns `false` for the other variants, also where their rules accept.
-fn admits_at_once<T: Typing>(
-    typing: &T,
-    context: FunctionContext<'_>,
-    expression: &Expression,
-) -> bool
-    requires ready { IsReadySomewhere (surroundings context) expression.now }
-    ensures { IsTrue result → IsRule (math_typing (T.accepts_types typing.now) (T.least_arguments typing.now))
-        (surroundings context.entry) expression.now (Ok stages.every_stage) }
-{
-    match *expression {
-        Expression::LocalVariable(_) | Expression::GlobalVariable(_) => true,
-        Expression::Override(_) | Expression::Constant(_) => true,
-        Expression::Literal(literal) => admits_literal_value(context, literal),
-        Expression::ZeroValue(ty) => admits_zero_value(context, ty),
-        Expression::Compose { ty, ref components } => {
-            admits_composition(context, ty, components.as_slice())
-        }
-        Expression::Access { base, index } => admits_access(context, base, index),
-        Expression::AccessIndex { base, index } => admits_access_index(context, base, index),
-        Expression::Splat { value, .. } => admits_splat(context, value),
-        Expression::Swizzle {
-            size,
-            vector,
-            ref pattern,
-        } => admits_swizzle(context, size, vector, pattern),
-        Expression::FunctionArgument(index) => admits_function_argument(context, index),
-        Expression::Load { pointer } => admits_load(context, pointer),
-        Expression::Unary { op, expr } => admits_unary(context, op, expr),
-        Expression::Binary { op, left, right } => admits_binary(context, op, left, right),
-        Expression::Select {
-            condition,
-            accept,
-            reject,
-        } => admits_select(context, condition, accept, reject),
-        Expression::As {
-            expr,
-            kind,
-            convert,
-        } => admits_as(context, expr, kind, convert),
-        Expression::Math {
-            fun,
-            arg,
-            arg1,
-            arg2,
-            arg3,
-        } => admits_math(context, typing, fun, arg, arg1, arg2, arg3),
-        // The rest are rare, or not for every stage.
-        _ => false,
-    }
-}
-
-/// The stages that may use an expression, or the first error by the rule of its variant. It is not inlined, since
-/// `validate_expression` seldom calls it, and an `ExpressionError` in each arm takes much of the stack.
-#[inline(never)]
-fn validate_variant<T: Typing>(
+/// The pipeline stages that may use an expression of a function (naga's `Validator::validate_expression`).
+///
+/// The handles of the module are right, and the handles of the function except the types of its variables.
+/// `context` knows what each type of the module may be used for. All that the expression refers to exists. Its
+/// operands precede its place in the function, and `context` knows their types, and of a sample the kind of its
+/// offset; what these types refer to exists. Each `FunctionArgument` before that place names an argument. If the expression is the result of a
+/// call, `context` knows the function. What mathematical functions take is what the typing accepts.
+///
+/// Accepting takes no memory. The cost is linear in the expression's own components, in the members of
+/// structs that it compares, and in the pointers through which its base is reached, except for the search for
+/// forbidden integers on the right of a division or a shift. It goes through the compositions that a constant
+/// is made of as if they were written out in full, and calls itself at compositions of several components. If all
+/// these are accepted, they have at most as many components as a vector. Expressions that nobody has checked,
+/// global ones without the flag `CONSTANTS` or earlier ones of the function, can make the search take
+/// exponential time, by `vec2(E0, E0)`, `vec2(E1, E1)` and so on, or a stack as deep as their arena, by
+/// `vec2(E0, 1)`, `vec2(E1, 1)` and so on.
+///
+/// # Errors
+///
+/// The error of the first condition of its variant that the expression breaks; the functions of variants list
+/// them. `OutOfMemory` if memory was refused for a struct or a text that an error holds.
+pub fn validate_expression<T: Typing>(
     alloc: Global,
     typing: &T,
     context: FunctionContext<'_>,
@@ -197,41 +162,75 @@ fn validate_variant<T: Typing>(
     }
 }
 
-/// The pipeline stages that may use an expression of a function (naga's `Validator::validate_expression`).
+/// Whether an expression is of a frequent variant, keeps its rule, and may be used by every stage. What is required is as
+/// for `validate_expression`, which accepts it then.
 ///
-/// The handles of the module are right, and the handles of the function except the types of its variables.
-/// `context` knows what each type of the module may be used for. All that the expression refers to exists. Its
-/// operands precede its place in the function, and `context` knows their types and kinds; what these types refer
-/// to exists. Each `FunctionArgument` before that place names an argument. If the expression is the result of a
-/// call, `context` knows the function. What mathematical functions take is what the typing accepts.
-///
-/// Accepting takes no memory. The cost is linear in the expression's own components, in the members of
-/// structs that it compares, and in the pointers through which its base is reached, except for the search for
-/// forbidden integers on the right of a division or a shift. It goes through the compositions that a constant
-/// is made of as if they were written out in full, and calls itself at compositions of several components. If all
-/// these are accepted, they have at most as many components as a vector. Expressions that nobody has checked,
-/// global ones without the flag `CONSTANTS` or earlier ones of the function, can make the search take
-/// exponential time, by `vec2(E0, E0)`, `vec2(E1, E1)` and so on, or a stack as deep as their arena, by
-/// `vec2(E0, 1)`, `vec2(E1, 1)` and so on.
-///
-/// # Errors
-///
-/// The error of the first condition of its variant that the expression breaks; the functions of variants list
-/// them. `OutOfMemory` if memory was refused for a struct or a text that an error holds.
-pub fn validate_expression<T: Typing>(
-    alloc: Global,
+/// A function is accepted sooner if its expressions are asked this first: an `ExpressionError` is wide, and to hand on a
+/// result that may hold one takes longer than to check most expressions. The cost is as of `validate_expression`. It
+/// takes no memory.
+pub fn admits_expression<T: Typing>(
     typing: &T,
     context: FunctionContext<'_>,
     expression: &Expression,
-) -> Result<ShaderStages, ExpressionError>
+) -> bool
     requires ready { IsReadySomewhere (surroundings context) expression.now }
-    ensures { IsExpressionResult (math_typing (T.accepts_types typing.now) (T.least_arguments typing.now))
-        (surroundings context.entry) expression.now result }
+    ensures { IsTrue result ↔ (IsTrue (is_frequent expression.now)
+        × IsRule (math_typing (T.accepts_types typing.now) (T.least_arguments typing.now)) (surroundings context.entry)
+        expression.now (Ok stages.every_stage)) }
 {
-    // Almost every expression is accepted, and then a `bool` is enough. An `ExpressionError` is wide: to return
-    // one from function to function takes longer than to check most expressions.
-    if admits_at_once(typing, context, expression) {
-        return Ok(every_stage());
+    match *expression {
+        Expression::LocalVariable(_) | Expression::GlobalVariable(_) => true,
+        Expression::Override(_) | Expression::Constant(_) => true,
+        Expression::Literal(literal) => admits_literal_value(context, literal),
+        Expression::ZeroValue(ty) => admits_zero_value(context, ty),
+        Expression::Compose { ty, ref components } => {
+            admits_composition(context, ty, components.as_slice())
+        }
+        Expression::Access { base, index } => admits_access(context, base, index),
+        Expression::AccessIndex { base, index } => admits_access_index(context, base, index),
+        Expression::Splat { value, .. } => admits_splat(context, value),
+        Expression::Swizzle {
+            size,
+            vector,
+            ref pattern,
+        } => admits_swizzle(context, size, vector, pattern),
+        Expression::FunctionArgument(index) => admits_function_argument(context, index),
+        Expression::Load { pointer } => admits_load(context, pointer),
+        Expression::Unary { op, expr } => admits_unary(context, op, expr),
+        Expression::Binary { op, left, right } => admits_binary(context, op, left, right),
+        Expression::Select {
+            condition,
+            accept,
+            reject,
+        } => admits_select(context, condition, accept, reject),
+        Expression::As {
+            expr,
+            kind,
+            convert,
+        } => admits_as(context, expr, kind, convert),
+        Expression::Math {
+            fun,
+            arg,
+            arg1,
+            arg2,
+            arg3,
+        } => admits_math(context, typing, fun, arg, arg1, arg2, arg3),
+        // The rules of these take longer, or don't let every stage use them.
+        Expression::ImageSample { .. }
+        | Expression::ImageLoad { .. }
+        | Expression::ImageQuery { .. }
+        | Expression::Derivative { .. }
+        | Expression::Relational { .. }
+        | Expression::CallResult(_)
+        | Expression::AtomicResult { .. }
+        | Expression::WorkGroupUniformLoadResult { .. }
+        | Expression::ArrayLength(_)
+        | Expression::RayQueryProceedResult
+        | Expression::RayQueryGetIntersection { .. }
+        | Expression::RayQueryVertexPositions { .. }
+        | Expression::SubgroupBallotResult
+        | Expression::SubgroupOperationResult { .. }
+        | Expression::CooperativeLoad { .. }
+        | Expression::CooperativeMultiplyAdd { .. } => false,
     }
-    validate_variant(alloc, typing, context, expression)
 }

@@ -177,7 +177,7 @@ module _ (s : FunctionSurroundings) where
       same_error a b e = cc e
 
   module _ (types : List TypeResolution) (kinds : List ExpressionKind) (place : ℕ) (x : Expression) (suffice : SufficeFor f.expressions x kinds) (at : slice_get f.expressions place ≡ Some x) where
-    at_place : (meant : Result ShaderStages ExpressionError) → IsRule s.math (expression_surroundings s types kinds) x meant → IsRuleAt s types place meant
+    pub at_place : (meant : Result ShaderStages ExpressionError) → IsRule s.math (expression_surroundings s types kinds) x meant → IsRuleAt s types place meant
     at_place meant is =
         ⊎_elim
         (λ (none : kind_operands x ≡ []).

@@ -9,7 +9,7 @@ ghost use Rattle.naga_exprs.specs.Math.{math_typing};
 ghost use Rattle.naga_flags.specs.Width.{width_rule};
 ghost use Rattle.naga_ir.specs.Handles.{GlobalReferencesOk, HandlesAccepted};
 ghost use Rattle.naga_ir.specs.ItemReferences.{global_lists};
-ghost use Rattle.naga_info.specs.Surroundings.{IsReady};
+ghost use Rattle.naga_info.specs.Surroundings.{IsReady, surroundings};
 ghost use Rattle.naga_types.specs.AcceptedTypes.{IsLaidOut, surroundings_by, rule_at};
 ghost use Rattle.naga_types.specs.HostLeaves.{AllLeavesAreSeparate};
 ghost use Rattle.naga_types.specs.RuleResults.{IsRuleResult};
@@ -377,7 +377,24 @@ impl<T: Typing> Validator<T> {
             (surroundings_under self.now overrides_resolved «module».now function.now
             mod_info.now.lists info.now.types kinds.now) expression.now result }
     {
-        let context = FunctionContext {
+        let context = self.context(overrides_resolved, function, module, info, mod_info, kinds);
+        validate_expression(self.alloc, &self.typing, context, expression)
+    }
+
+    /// What the validation of an expression of a function depends on under the validator.
+    pub(super) fn context<'a>(
+        &self,
+        overrides_resolved: bool,
+        function: &'a Function,
+        module: &'a Module,
+        info: &'a FunctionInfo,
+        mod_info: &'a ModuleInfo,
+        kinds: &'a ExpressionKindTracker,
+    ) -> FunctionContext<'a>
+        ensures { surroundings result ≡ surroundings_under self.now overrides_resolved «module».now function.now
+            mod_info.now.lists info.now.types kinds.now }
+    {
+        FunctionContext {
             capabilities: self.capabilities,
             overrides_resolved,
             subgroup_stages: self.subgroup_stages,
@@ -386,8 +403,7 @@ impl<T: Typing> Validator<T> {
             info,
             mod_info,
             kinds,
-        };
-        validate_expression(self.alloc, &self.typing, context, expression)
+        }
     }
 
     /// How many types the module last accepted has.

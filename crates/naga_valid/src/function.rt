@@ -15,7 +15,9 @@ ghost use Rattle.naga_valid.specs.steps.Functions.{AllowInCommon, AreFoundKinds,
 
 use crate::driver::Validator;
 use bitflags::Flags;
+use naga_exprs::expression::admits_expression;
 use naga_flags::flags::ShaderStages;
+use naga_info::context::every_stage;
 use naga_info::expression_error::ExpressionError;
 use naga_info::infer::{UntypedExpression, infer_types};
 use naga_info::module_info::{FunctionInfo, ModuleInfo};
@@ -246,6 +248,20 @@ impl<T: Typing> Validator<T> {
                 break;
             }
             find_kinds(self.alloc, function, expression, &mut kinds)?;
+            // Most expressions get by with a bool. The result of `validate_expression` is wide, and is moved before it
+            // is looked at.
+            let context = self.context(
+                overrides_resolved,
+                function,
+                module,
+                info,
+                mod_info,
+                &kinds,
+            );
+            if admits_expression(&self.typing, context, expression) {
+                stages = stages.intersection(every_stage());
+                continue;
+            }
             match self.validate_expression(
                 overrides_resolved,
                 handle,

@@ -1,9 +1,14 @@
-use Rattle.std.proofs.Common.{rules, ◌≡◌, ◌≤◌, ◌<◌, ◌∙◌, ℕ, inl, inr, length, ap, arith}
+use Rattle.std.proofs.Common.{rules, ◌≡◌, ◌≤◌, ◌<◌, ◌∙◌, ℕ, inl, inr, length, ap, arith, subst, sym}
 use Rattle.bitflags.specs.Sets.{known_from}
 use Rattle.naga_flags.specs.declared.flags.ShaderStages.{ShaderStages}
 use Rattle.naga_info.specs.declared.expression_error.ExpressionError.TheVariants as refusal
-use Rattle.naga_valid.proofs.FunctionRules.{all_asked, allowed_at, ready_next, enough_asked, next_there, none_asked, one_allowed, one_breach, refused_at}
-use Rattle.naga_valid.specs.Functions.{function_surroundings}
+use Rattle.naga_valid.proofs.FunctionRules.{all_asked, allowed_at, at_place, ready_next, enough_asked, next_there, none_asked, one_allowed, one_breach, refused_at}
+use Rattle.naga_exprs.specs.ExpressionRule.{IsRule}
+use Rattle.naga_exprs.specs.Math.{math_typing}
+use Rattle.naga_info.specs.Stages.{every_stage}
+use Rattle.naga_info.specs.Surroundings.{IsReady, surroundings}
+use Rattle.naga_valid.proofs.Meanings.{allows}
+use Rattle.naga_valid.specs.Functions.{expression_surroundings, function_surroundings}
 use Rattle.naga_valid.proofs.driver.Validator.validate_rules.Goals as goal
 use Rattle.naga_valid.proofs.driver.Validator.validate_rules.Goals.{in-None, in-Some+then-index-len}
 
@@ -32,6 +37,36 @@ validate_expression-requires g c =
           (next_there s types _ _ _ _ _ c.loop-handle.invariant.asked c.in-Some.ensures.steps) typed;
     }
 
+pub admits_expression-requires : goal.admits_expression-requires
+admits_expression-requires g c =
+    let state = c.args.self.now in
+    let s = function_surroundings (g.T.Typing.resolves state.typing) (record { accepts = g.T.Typing.accepts_types state.typing; least_arguments = g.T.Typing.least_arguments state.typing }) state c.args.overrides_resolved c.args.module.now c.args.function.now c.args.mod_info.now.lists in
+    let types = c.args.info.now.types in
+    let typed : c.in-Some.handle ≤ length types = omega (arith, c.if-index-len.false, c.index.ensures.value, c.len.ensures) in
+    let ready =
+    ready_next s types c.find_kinds.new.kinds c.in-Some.handle c.in-Some.expression.now c.requires c.in_ok-find_kinds.ensures.suffice
+    (next_there s types _ _ _ _ _ c.loop-handle.invariant.asked c.in-Some.ensures.steps) typed in
+    record { ready = (c.in-Some.handle, subst (λ s. IsReady s c.in-Some.handle c.in-Some.expression.now) (sym c.context-context.ensures) ready) }
+
+pub loop-handle-preserved-then-admits_expression : goal.loop-handle-preserved-then-admits_expression
+loop-handle-preserved-then-admits_expression g c =
+    let state = c.args.self.now in
+    let s = function_surroundings (g.T.Typing.resolves state.typing) (record { accepts = g.T.Typing.accepts_types state.typing; least_arguments = g.T.Typing.least_arguments state.typing }) state c.args.overrides_resolved c.args.module.now c.args.function.now c.args.mod_info.now.lists in
+    let types = c.args.info.now.types in
+    let x = c.in-Some.expression.now in
+    let every = c.every_stage.result in
+    let at = next_there s types _ _ _ x _ c.loop-handle.invariant.asked c.in-Some.ensures.steps in
+    let kept = (c.admits_expression.ensures.0 c.if-admits_expression.true).1 in
+    let by_typing = subst (λ state. IsRule (math_typing (g.T.Typing.accepts_types state.typing) (g.T.Typing.least_arguments state.typing)) (surroundings c.context-context.result) x (allows every_stage)) c.self.view_is kept in
+    let rule = subst (λ around. IsRule s.math around x (allows every_stage)) c.context-context.ensures by_typing in
+    record {
+      asked =
+          one_allowed s types c.loop-handle.stages _ c.in-Some.handle x _ c.loop-handle.invariant.asked c.in-Some.ensures.steps every c.intersection-stages.result
+          (at_place s types c.find_kinds.new.kinds c.in-Some.handle x c.in_ok-find_kinds.ensures.suffice at (allows every) (subst (λ st. IsRule s.math (expression_surroundings s types c.find_kinds.new.kinds) x (allows st)) (sym c.every_stage.ensures) rule))
+          (c.intersection-stages.ensures tt);
+      found = c.in_ok-find_kinds.ensures.found;
+    }
+
 pub loop-handle-preserved : goal.loop-handle-preserved
 loop-handle-preserved g c =
     let state = c.args.self.now in
@@ -40,9 +75,9 @@ loop-handle-preserved g c =
     let at = next_there s types _ _ _ c.in-Some.expression.now _ c.loop-handle.invariant.asked c.in-Some.ensures.steps in
     record {
       asked =
-          one_allowed s types c.loop-handle.stages _ c.in-Some.handle c.in-Some.expression.now _ c.loop-handle.invariant.asked c.in-Some.ensures.steps c.in-Ok.allowed c.intersection-stages.result
+          one_allowed s types c.loop-handle.stages _ c.in-Some.handle c.in-Some.expression.now _ c.loop-handle.invariant.asked c.in-Some.ensures.steps c.in-Ok.allowed c.intersection-stages-in-Ok.result
           (allowed_at s types c.find_kinds.new.kinds c.in-Some.handle c.in-Some.expression.now c.in_ok-find_kinds.ensures.suffice at c.in-Ok.allowed c.in-Ok.ensures)
-          (c.intersection-stages.ensures tt);
+          (c.intersection-stages-in-Ok.ensures tt);
       found = c.in_ok-find_kinds.ensures.found;
     }
 

@@ -1,7 +1,7 @@
 use Rattle.std.proofs.Common.{◌≡◌, ◌<◌, All, List, length, subst, sym, ℕ}
 use Rattle.naga_ir.specs.declared.expression.Expression.{Expression}
 use Rattle.naga_exprs.proofs.KnownOperands.{components_typed, composed_type, condition_of_select, index_of_access, of_load, reject_of_select, there, typed, zero_type}
-use Rattle.naga_exprs.proofs.expression.admits_at_once.Goals as goal
+use Rattle.naga_exprs.proofs.expression.admits_expression.Goals as goal
 use Rattle.naga_info.specs.Surroundings.{ExpressionSurroundings, IsReadySomewhere, surroundings}
 use Rattle.naga_typing.proofs.FormOperands.{accepted_of_select, left_of_binary, of_access, of_access_index, of_as, of_splat, of_swizzle, of_unary, right_of_binary}
 

@@ -6,7 +6,7 @@ use Rattle.naga_info.specs.declared.expression_error.ExpressionError.{Expression
 use Rattle.naga_image_exprs.specs.Samples.{IsImageSampleResult, expression_of}
 use Rattle.naga_image_exprs.specs.declared.sample.Sample.{Sample}
 use Rattle.naga_exprs.proofs.KnownOperands.{components_typed, composed_type, condition_of_select, index_of_access, left_of_multiply_add, of_array_length, of_cooperative_load, of_intersection, of_load, of_vertices, reject_of_select, right_of_multiply_add, summand_of_multiply_add, there, typed, workgroup_load_type, zero_type}
-use Rattle.naga_exprs.proofs.expression.validate_variant.Goals as goal
+use Rattle.naga_exprs.proofs.expression.validate_expression.Goals as goal
 use Rattle.naga_ir.specs.declared.expression.Expression.TheVariants as form
 use Rattle.naga_exprs.specs.Math.{MathTyping}
 use Rattle.naga_info.specs.Stages.{every_stage}
