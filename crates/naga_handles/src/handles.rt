@@ -1,6 +1,6 @@
 //! Whether all handles of a module are right.
 
-ghost use Rattle.std.specs.Prelude.{◌≡◌, ◌↔◌, ℕ, IfErr, IfOk, IsTrue, List, [], ◌∷◌, None, Ok, OnOk, map, option_to_list};
+ghost use Rattle.std.specs.Prelude.{◌≡◌, ◌↔◌, ℕ, IfErr, IfOk, IsTrue, List, [], ◌∷◌, MatchResult, None, Ok, OnOk, map, option_to_list};
 ghost use Rattle.std.specs.List.{enumerate_from, flat_map};
 ghost use Rattle.std.specs.Fn.{FnReturnsAt};
 ghost use Rattle.naga_ir.specs.ItemReferences.{named_references, body_references, constant_references, entry_point_references, global_lists, global_variable_references, local_references, local_variable_references, override_references, signature_references};
@@ -88,14 +88,6 @@ fn try_each<T, E, F: Fn(&T) -> Result<(), E>>(items: &[T], check: &F) -> Result<
     Ok(())
 }
 
-/// That a reference isn't right, with no word why.
-///
-/// A result with room for an error of 40 bytes is copied wherever it is handed on, also if there is no error, and a
-/// processor waits for what it reads wider than it was written. So nearly all references, which are right, are checked
-/// with this error, and what is not right is checked again for the error that says why.
-#[derive(Clone, Copy)]
-struct Refused;
-
 /// What an item may refer to: the items that exist, and of functions those that precede the one that
 /// it belongs to.
 #[derive(Clone, Copy)]
@@ -149,33 +141,40 @@ impl Scope {
         }
     }
 
-    /// Whether an item may refer to this.
+    /// Whether an item may refer to this, as a bool.
     #[inline(always)]
-    fn admit(&self, reference: Reference) -> Result<(), Refused>
-        ensures { OnOk result (IsResult (record {
+    fn is_right(&self, reference: &Reference) -> bool
+        ensures { IsTrue result ↔ IsResult (record {
           there = self.now.counts;
-          subject = of_function self.now.caller reference;
-          target = reference;
-        }) (Ok tt)) }
+          subject = of_function self.now.caller reference.now;
+          target = reference.now;
+        }) (Ok tt) }
     {
-        if self.check(reference).is_ok() {
-            Ok(())
-        } else {
-            Err(Refused)
-        }
+        self.check(*reference).is_ok()
     }
 
-    /// `check` out of line: what calls this takes less of the stack, and once more for each block in another.
-    #[cold]
-    #[inline(never)]
-    fn check_again(&self, reference: Reference) -> Result<(), InvalidHandleError>
-        ensures { IsResult (record {
-          there = self.now.counts;
-          subject = of_function self.now.caller reference;
-          target = reference;
-        }) result }
+    /// Whether an item may refer to this, and else the reference, of which `check` says why.
+    ///
+    /// A result with room for an error of 40 bytes is copied wherever it is handed on, also if there is no error, a
+    /// processor waits for what it reads wider than it was written, and each block inside another takes room for it.
+    #[inline(always)]
+    fn admit(&self, reference: Reference) -> Result<(), Reference>
+        ensures { MatchResult result
+            (λ _. IsResult (record {
+              there = self.now.counts;
+              subject = of_function self.now.caller reference;
+              target = reference;
+            }) (Ok tt))
+            (λ refused. (refused ≡ reference) × (IsResult (record {
+              there = self.now.counts;
+              subject = of_function self.now.caller reference;
+              target = reference;
+            }) (Ok tt) → ⊥)) }
     {
-        self.check(reference)
+        if self.is_right(&reference) {
+            return Ok(());
+        }
+        Err(reference)
     }
 
     /// Whether an item may refer to all of these. `None` is a reference that it doesn't have.
@@ -322,23 +321,14 @@ fn validate_locals(scope: &Scope, function: &Function) -> Result<(), InvalidHand
     )
 }
 
-/// Whether a scope admits all that the statements of a block refer to.
-fn admits_block(scope: &Scope, block: &Block) -> bool
-    ensures { IsTrue result → ChecksEach IsResult (checks_in scope.now (block_references block.now)) (Ok tt) }
-{
-    block
-        .try_for_each_reference(&|reference: Reference| scope.admit(reference))
-        .is_ok()
-}
-
 /// Whether what the statements of a block refer to exists.
 fn validate_block(scope: &Scope, block: &Block) -> Result<(), InvalidHandleError>
     ensures { ChecksEach IsResult (checks_in scope.now (block_references block.now)) result }
 {
-    if admits_block(scope, block) {
-        return Ok(());
+    match block.try_for_each_reference(&|reference: Reference| scope.admit(reference)) {
+        Ok(()) => Ok(()),
+        Err(reference) => scope.check(reference),
     }
-    block.try_for_each_reference(&|reference: Reference| scope.check_again(reference))
 }
 
 /// Whether what the statements of a function refer to exists, and its filter.
