@@ -95,7 +95,7 @@ impl<T: Drop> List<T> {
     /// # Errors
     ///
     /// `OutOfMemory` if memory was refused, which leaves the list as it was and drops the item.
-    // Inside its caller, what pushes an item that it puts together writes the item once, where it stays.
+    // Inlined, so that a caller that builds an item writes it once, in its place in the list.
     #[inline(always)]
     pub fn push(&mut self, item: T) -> Result<(), OutOfMemory>
         ensures pushed { OnOk result (self.new ≡ self.old ++ item ∷ []) }

@@ -29,21 +29,18 @@ module _ (s : ExpressionSurroundings) (k : List ExpressionKind) where
   contained _ _ (initialiser p c d n e f h) = initialiser p c d n e f (contained _ n h)
 
 module _ (s : ExpressionSurroundings) (k : List ExpressionKind) where
-  abbrev with : ExpressionSurroundings
-  with = record s { kinds = k }
-
-  right_forbidden : (op : BinaryOperator) (left right : ℕ) (f : Forbidden) → RightIsForbidden s op left right f → RightIsForbidden with op left right f
+  right_forbidden : (op : BinaryOperator) (left right : ℕ) (f : Forbidden) → RightIsForbidden s op left right f → RightIsForbidden (by s k) op left right f
   right_forbidden op left right f h = (h.0, (h.1.0, contained s k _ _ h.1.1, h.1.2))
 
-  right_not_forbidden : (op : BinaryOperator) (left right : ℕ) (f : Forbidden) → RightIsForbidden with op left right f → RightIsForbidden s op left right f
-  right_not_forbidden op left right f h = (h.0, (h.1.0, contained with s.kinds _ _ h.1.1, h.1.2))
+  right_not_forbidden : (op : BinaryOperator) (left right : ℕ) (f : Forbidden) → RightIsForbidden (by s k) op left right f → RightIsForbidden s op left right f
+  right_not_forbidden op left right f h = (h.0, (h.1.0, contained (by s k) s.kinds _ _ h.1.1, h.1.2))
 
-  binary : (op : BinaryOperator) (left right : ℕ) (rule : Result ShaderStages ExpressionError) → IsBinaryRule s op left right rule → IsBinaryRule with op left right rule
+  binary : (op : BinaryOperator) (left right : ℕ) (rule : Result ShaderStages ExpressionError) → IsBinaryRule s op left right rule → IsBinaryRule (by s k) op left right rule
   binary op left right _ (wrong_operands e) = wrong_operands e
   binary op left right _ (forbidden_constant f e h) = forbidden_constant f e (right_forbidden op left right f h)
   binary op left right _ (accepted e none) = accepted e (λ f h. none f (right_not_forbidden op left right f h))
 
-  pub any_kinds : (t : MathTyping) (x : Expression) (rule : Result ShaderStages ExpressionError) → kind_operands x ≡ [] → IsRule t s x rule → IsRule t with x rule
+  pub any_kinds : (t : MathTyping) (x : Expression) (rule : Result ShaderStages ExpressionError) → kind_operands x ≡ [] → IsRule t s x rule → IsRule t (by s k) x rule
   any_kinds t (form.Literal value) rule none h = h
   any_kinds t (form.Constant c) rule none h = h
   any_kinds t (form.Override o) rule none h = h

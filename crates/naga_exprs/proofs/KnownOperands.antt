@@ -151,3 +151,7 @@ arguments_typed s fun arg arg1 arg2 arg3 can = of_arguments (λ (e : ℕ). e < l
 -- and so is the type of each that is given
 pub argument_typed : (n : ℕ) (given : Option ℕ) (e : ℕ) → IfSome given (λ (e : ℕ). e < n) → given ≡ Some e → e < n
 argument_typed n given e all is = subst (λ (o : Option ℕ). IfSome o (λ (e : ℕ). e < n)) is all
+
+-- what is ready is ready as its variant
+pub ready_as : (s : ExpressionSurroundings) (x y : Expression) → x ≡ y → IsReadySomewhere s x → IsReadySomewhere s y
+ready_as s x y is ready = subst (IsReadySomewhere s) is ready

@@ -150,7 +150,7 @@ fn is_within(value: u32, length: Result<IndexableLength, IndexableLengthError>) 
 }
 
 /// Whether every stage may use an access at an index that is computed: whether `validate_access` accepts it.
-/// It makes no error.
+/// It makes no `ExpressionError`.
 pub(crate) fn admits_access(
     context: FunctionContext<'_>,
     base: Handle<ExpressionTag>,
@@ -246,7 +246,7 @@ pub fn validate_access_index(
 }
 
 /// Whether every stage may use an access at a known index: whether `validate_access_index` accepts it. It
-/// makes no error.
+/// makes no `ExpressionError`.
 pub(crate) fn admits_access_index(
     context: FunctionContext<'_>,
     base: Handle<ExpressionTag>,
@@ -330,7 +330,8 @@ fn has_components(size: VectorSize, components: &[SwizzleComponent]) -> bool
     true
 }
 
-/// Whether every stage may use a swizzle: whether `validate_swizzle` accepts it. It makes no error.
+/// Whether every stage may use a swizzle: whether `validate_swizzle` accepts it. It makes no
+/// `ExpressionError`.
 pub(crate) fn admits_swizzle(
     context: FunctionContext<'_>,
     size: VectorSize,

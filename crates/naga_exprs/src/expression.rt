@@ -40,8 +40,9 @@ use std::alloc::Global;
 /// The handles of the module are right, and the handles of the function except the types of its variables.
 /// `context` knows what each type of the module may be used for. All that the expression refers to exists. Its
 /// operands precede its place in the function, and `context` knows their types, and of a sample the kind of its
-/// offset; what these types refer to exists. Each `FunctionArgument` before that place names an argument. If the expression is the result of a
-/// call, `context` knows the function. What mathematical functions take is what the typing accepts.
+/// offset; what these types refer to exists. Each `FunctionArgument` before that place names an argument. If the
+/// expression is the result of a call, `context` knows the function. What mathematical functions take is what the
+/// typing accepts.
 ///
 /// Accepting takes no memory. The cost is linear in the expression's own components, in the members of
 /// structs that it compares, and in the pointers through which its base is reached, except for the search for
@@ -162,11 +163,11 @@ pub fn validate_expression<T: Typing>(
     }
 }
 
-/// Whether an expression is of a frequent variant, keeps its rule, and may be used by every stage. What is required is as
-/// for `validate_expression`, which accepts it then.
+/// Whether an expression is of a frequent variant, keeps its rule, and may be used by every stage. What is required is
+/// as for `validate_expression`, which accepts it then.
 ///
-/// A function is accepted sooner if its expressions are asked this first: an `ExpressionError` is wide, and to hand on a
-/// result that may hold one takes longer than to check most expressions. The cost is as of `validate_expression`. It
+/// A function is accepted sooner if this is asked of its expressions first: an `ExpressionError` is wide, and to hand on
+/// a result that may hold one takes longer than to check most expressions. The cost is as of `validate_expression`. It
 /// takes no memory.
 pub fn admits_expression<T: Typing>(
     typing: &T,
@@ -216,13 +217,13 @@ pub fn admits_expression<T: Typing>(
             arg3,
         } => admits_math(context, typing, fun, arg, arg1, arg2, arg3),
         // The rules of these take longer, or don't let every stage use them.
-        Expression::ImageSample { .. }
+        Expression::AtomicResult { .. }
+        | Expression::ImageSample { .. }
         | Expression::ImageLoad { .. }
         | Expression::ImageQuery { .. }
         | Expression::Derivative { .. }
         | Expression::Relational { .. }
         | Expression::CallResult(_)
-        | Expression::AtomicResult { .. }
         | Expression::WorkGroupUniformLoadResult { .. }
         | Expression::ArrayLength(_)
         | Expression::RayQueryProceedResult

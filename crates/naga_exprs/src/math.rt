@@ -176,7 +176,8 @@ fn admits_arguments<T: Typing>(
     accepts_each(typing, fun, arguments, types) && typing.min_arguments(fun, types) <= types.len()
 }
 
-/// Whether every stage may use a mathematical function: whether `validate_math` accepts it. It makes no error.
+/// Whether every stage may use a mathematical function: whether `validate_math` accepts it. It makes no
+/// `ExpressionError`.
 pub(crate) fn admits_math<T: Typing>(
     context: FunctionContext<'_>,
     typing: &T,

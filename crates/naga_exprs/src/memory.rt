@@ -63,7 +63,8 @@ pub fn validate_load(
     Ok(every_stage())
 }
 
-/// Whether every stage may use a load: whether `validate_load` accepts it. It makes no error.
+/// Whether every stage may use a load: whether `validate_load` accepts it. It makes no
+/// `ExpressionError`.
 pub(crate) fn admits_load(context: FunctionContext<'_>, pointer: Handle<ExpressionTag>) -> bool
     requires sound { AreSound (surroundings context) }
     requires pointer { pointer < length context.info.now.types }

@@ -63,7 +63,8 @@ pub fn validate_zero_value(
     Ok(every_stage())
 }
 
-/// Whether every stage may use a zero value: whether `validate_zero_value` accepts it. It makes no error.
+/// Whether every stage may use a zero value: whether `validate_zero_value` accepts it. It makes no
+/// `ExpressionError`.
 pub(crate) fn admits_zero_value(context: FunctionContext<'_>, ty: Handle<TypeTag>) -> bool
     requires sound { AreSound (surroundings context) }
     requires exists { ty < length context.«module».now.types }
@@ -132,7 +133,8 @@ pub fn validate_splat(
     }
 }
 
-/// Whether every stage may use a splat: whether `validate_splat` accepts it. It makes no error.
+/// Whether every stage may use a splat: whether `validate_splat` accepts it. It makes no
+/// `ExpressionError`.
 pub(crate) fn admits_splat(context: FunctionContext<'_>, value: Handle<ExpressionTag>) -> bool
     requires sound { AreSound (surroundings context) }
     requires value { value < length context.info.now.types }
@@ -161,7 +163,8 @@ pub fn validate_function_argument(
     Ok(every_stage())
 }
 
-/// Whether every stage may use an argument: whether `validate_function_argument` accepts it. It makes no error.
+/// Whether every stage may use an argument: whether `validate_function_argument` accepts it. It makes no
+/// `ExpressionError`.
 pub(crate) fn admits_function_argument(context: FunctionContext<'_>, index: u32) -> bool
     ensures { IsTrue result ↔ (rule.argument_rule (surroundings context.entry) index ≡ Ok stages.every_stage) }
 {

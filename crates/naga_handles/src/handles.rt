@@ -221,8 +221,8 @@ fn names_nothing(expression: &Expression) -> bool
     }
 }
 
-/// Whether the type and the item exist that an expression names, if it names any. Out of line, what few expressions
-/// need is not made ready for each.
+/// Whether the type and the item exist that an expression names, if it names any. Out of line, so that the room for this
+/// list is not cleared for each expression.
 #[inline(never)]
 fn check_named(scope: &Scope, expression: &Expression) -> Result<(), InvalidHandleError>
     ensures { ChecksEach IsResult (checks_in scope.now (named_references expression.now)) result }

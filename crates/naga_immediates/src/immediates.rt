@@ -82,13 +82,13 @@ impl ImmediateSlots {
     ///
     /// `types` stands for the types of `gctx`.
     ///
-    /// The cost is linear in the members of structs, each counted once for each way by which it is
-    /// reached, and those of the outermost struct twice. But a struct type isn't walked through again from a byte from which it was walked through,
-    /// unless a type whose index leaves the same remainder by 8 was since. So a chain of structs of two
-    /// members of the struct before is linear, and one of pairs of neighbours of which each has both before
-    /// as members. What takes time that doubles with each step is a chain of pairs of structs, eight apart
-    /// among the types, of which each has both structs of the pair before as members at one byte: nine types
-    /// a step. It calls itself as deep as structs are nested.
+    /// The cost is linear in the members of structs, each counted once for each way by which it is reached,
+    /// and those of the outermost struct twice. But a struct type isn't walked through again from a byte
+    /// from which it was walked through, unless a type whose index leaves the same remainder by 8 was
+    /// since. So a chain of structs of two members of the struct before is linear, and one of pairs of
+    /// neighbours of which each has both before as members. What takes time that doubles with each step is
+    /// a chain of pairs of structs, eight apart among the types, of which each has both structs of the pair
+    /// before as members at one byte: nine types a step. It calls itself as deep as structs are nested.
     pub fn from_type(
         ty: &TypeInner,
         offset: u32,

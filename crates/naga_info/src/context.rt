@@ -43,7 +43,7 @@ pub struct FunctionContext<'a> {
     pub info: &'a FunctionInfo,
     /// What is known of the module.
     pub mod_info: &'a ModuleInfo,
-    /// When the values of the function's expressions are known, at least of the operands.
+    /// When the values of the function's expressions are known, at least of the offset of a sample.
     pub kinds: &'a ExpressionKindTracker,
 }
 

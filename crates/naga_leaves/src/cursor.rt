@@ -1,6 +1,6 @@
 //! All leaves of a type, one after another.
 
-ghost use Rattle.std.specs.Prelude.{◌≡◌, ◌+◌, ◌<◌, [], ◌≤◌, ℕ, length as length_of, IfErr, IfOk, IfSome, MatchOption, OnErr, OnOk, None, Some, option_map, true};
+ghost use Rattle.std.specs.Prelude.{◌≡◌, ◌+◌, ◌<◌, [], ◌≤◌, length as length_of, IfErr, IfOk, IfSome, MatchOption, OnErr, OnOk, None, Some, option_map, true};
 ghost use Rattle.naga_arena.specs.Numbers.{largest_u32};
 ghost use Rattle.naga_ir.specs.Handles.{GlobalReferencesOk};
 ghost use Rattle.naga_ir.specs.ItemReferences.{global_lists};

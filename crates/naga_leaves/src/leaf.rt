@@ -1,6 +1,6 @@
 //! The leaf of a type to which a path of indexes leads.
 
-ghost use Rattle.std.specs.Prelude.{[], ◌≡◌, ◌<◌, IfSome, MatchOption, None, Some, length, option_map, unwrap_or};
+ghost use Rattle.std.specs.Prelude.{◌≡◌, ◌<◌, IfSome, MatchOption, None, Some, length, option_map, unwrap_or};
 ghost use Rattle.std.specs.Prelude.{length as length_of};
 ghost use Rattle.naga_arena.specs.Numbers.{largest_u64};
 ghost use Rattle.naga_ir.specs.Handles.{GlobalReferencesOk};

@@ -221,7 +221,7 @@ pub fn validate_binary(
 }
 
 /// Whether every stage may use an operator on two values: whether `validate_binary` accepts it. The rule and the
-/// cost of the search for forbidden constants are the same, but no error is made, which takes less time where most
+/// cost of the search for forbidden constants are the same, but no `ExpressionError` is made, which takes less time where most
 /// operands are accepted, and no memory.
 pub fn admits_binary(
     context: FunctionContext<'_>,

@@ -51,7 +51,7 @@ pub fn validate_unary(
 }
 
 /// Whether every stage may use an operator on one value: whether `validate_unary` accepts it. The rule is the
-/// same, but no error is made, which takes less time where most operands are accepted.
+/// same, but no `ExpressionError` is made, which takes less time where most operands are accepted.
 pub fn admits_unary(
     context: FunctionContext<'_>,
     op: UnaryOperator,

@@ -2,7 +2,8 @@
 //!
 //! A type as a result takes 56 bytes. They are written by their parts, and a processor waits where they are read in
 //! wider pieces as the result is handed on. So these functions write a type once, where it stays. What they don't
-//! resolve themselves they leave to the functions of `FullTyping`, whose contracts give the same types.
+//! resolve themselves they leave to the functions of `FullTyping`, whose contracts give the same types. Each form of type
+//! is written by a function out of line: inlined, the ends of all arms would be merged into one, which copies.
 
 ghost use Rattle.std.specs.Prelude.{◌≡◌, ◌<◌, All, Ok, OnErr, Some, length, slice_get};
 ghost use Rattle.naga_ir.specs.ItemReferences.{global_lists};
@@ -62,7 +63,8 @@ fn push_vector(
     size: VectorSize,
     scalar: Scalar,
 ) -> Result<(), ResolveError>
-    ensures result { IsPushResult (Ok (TypeResolution.Value (TypeInner.Vector size scalar))) types.old types.new result }
+    ensures result { IsPushResult (Ok (TypeResolution.Value (TypeInner.Vector size scalar)))
+        types.old types.new result }
     ensures refused { OnErr result (types.new ≡ types.old) }
 {
     types.push(TypeResolution::Value(TypeInner::Vector { size, scalar }))?;
@@ -76,7 +78,8 @@ fn push_pointer(
     base: Handle<TypeTag>,
     space: AddressSpace,
 ) -> Result<(), ResolveError>
-    ensures result { IsPushResult (Ok (TypeResolution.Value (TypeInner.Pointer base space))) types.old types.new result }
+    ensures result { IsPushResult (Ok (TypeResolution.Value (TypeInner.Pointer base space)))
+        types.old types.new result }
     ensures refused { OnErr result (types.new ≡ types.old) }
 {
     types.push(TypeResolution::Value(TypeInner::Pointer { base, space }))?;

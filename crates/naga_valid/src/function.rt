@@ -110,7 +110,7 @@ fn add_info(mod_info: &mut ModuleInfo, at: &Callable, info: FunctionInfo) -> Res
     }
 }
 
-/// Whether the rule of an expression asks for the kind of an operand: that of a sample for the kind of its offset.
+/// Whether the rule of an expression asks for the kind of an operand: only the rule of a sample does, for its offset.
 fn asks_for_kinds(expression: &Expression) -> bool
     ensures { IsFalse result → kind_operands expression.now ≡ [] }
 {
@@ -157,8 +157,8 @@ impl<T: Typing> Validator<T> {
     /// expressions, so functions are validated in order, and each info is pushed to `mod_info` before the
     /// next. The law `laws::functions` says that this can be done in a module that `validate` accepts.
     ///
-    /// It takes memory for the types and the kinds of the expressions. The cost is linear in their number,
-    /// besides what `validate_expression` says of each.
+    /// It takes memory for the types of the expressions, and for their kinds if one is a sample with an offset. The
+    /// cost is linear in their number, besides what `validate_expression` says of each.
     ///
     /// # Errors
     ///
@@ -248,8 +248,8 @@ impl<T: Typing> Validator<T> {
                 break;
             }
             find_kinds(self.alloc, function, expression, &mut kinds)?;
-            // Most expressions get by with a bool. The result of `validate_expression` is wide, and is moved before it
-            // is looked at.
+            // For most expressions a bool is enough. The result of `validate_expression` is wide, and is moved before it is
+            // looked at.
             let context = self.context(
                 overrides_resolved,
                 function,

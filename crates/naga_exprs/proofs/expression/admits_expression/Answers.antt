@@ -1,8 +1,7 @@
-use Rattle.std.proofs.Common.{◌≡◌, ◌<◌, All, List, length, subst, sym, ℕ}
-use Rattle.naga_ir.specs.declared.expression.Expression.{Expression}
-use Rattle.naga_exprs.proofs.KnownOperands.{components_typed, composed_type, condition_of_select, index_of_access, of_load, reject_of_select, there, typed, zero_type}
+use Rattle.std.proofs.Common.{◌<◌, All, List, length, subst, sym, ℕ}
+use Rattle.naga_exprs.proofs.KnownOperands.{components_typed, composed_type, condition_of_select, index_of_access, of_load, ready_as, reject_of_select, there, typed, zero_type}
 use Rattle.naga_exprs.proofs.expression.admits_expression.Goals as goal
-use Rattle.naga_info.specs.Surroundings.{ExpressionSurroundings, IsReadySomewhere, surroundings}
+use Rattle.naga_info.specs.Surroundings.{surroundings}
 use Rattle.naga_typing.proofs.FormOperands.{accepted_of_select, left_of_binary, of_access, of_access_index, of_as, of_splat, of_swizzle, of_unary, right_of_binary}
 
 pub admits_access-requires-clause-base : goal.admits_access-requires-clause-base
@@ -62,10 +61,6 @@ admits_composition-requires-clause-components g c =
     let bound = length c.args.context.info.now.types in
     subst (λ (os : List ℕ). All (λ o. o < bound) os) (sym c.as_slice.ensures)
     (components_typed (surroundings c.args.context) c.requires.ready.0 c.args.expression.now c.requires.ready.1 c.in-Compose.ty c.in-Compose.components c.in-Compose.is)
-
--- what is ready is ready as its variant
-ready_as : (s : ExpressionSurroundings) (x y : Expression) → x ≡ y → IsReadySomewhere s x → IsReadySomewhere s y
-ready_as s x y is ready = subst (IsReadySomewhere s) is ready
 
 pub admits_math-requires : goal.admits_math-requires
 admits_math-requires g c = ready_as _ _ _ c.in-Math.is c.requires.ready

@@ -5,7 +5,7 @@ use Rattle.naga_exprs.specs.ExpressionRule.{IsExpressionResult, IsRule}
 use Rattle.naga_info.specs.declared.expression_error.ExpressionError.{ExpressionError}
 use Rattle.naga_image_exprs.specs.Samples.{IsImageSampleResult, expression_of}
 use Rattle.naga_image_exprs.specs.declared.sample.Sample.{Sample}
-use Rattle.naga_exprs.proofs.KnownOperands.{components_typed, composed_type, condition_of_select, index_of_access, left_of_multiply_add, of_array_length, of_cooperative_load, of_intersection, of_load, of_vertices, reject_of_select, right_of_multiply_add, summand_of_multiply_add, there, typed, workgroup_load_type, zero_type}
+use Rattle.naga_exprs.proofs.KnownOperands.{components_typed, composed_type, condition_of_select, index_of_access, left_of_multiply_add, of_array_length, of_cooperative_load, of_intersection, of_load, of_vertices, ready_as, reject_of_select, right_of_multiply_add, summand_of_multiply_add, there, typed, workgroup_load_type, zero_type}
 use Rattle.naga_exprs.proofs.expression.validate_expression.Goals as goal
 use Rattle.naga_ir.specs.declared.expression.Expression.TheVariants as form
 use Rattle.naga_exprs.specs.Math.{MathTyping}
@@ -155,18 +155,14 @@ validate_composition-requires-clause-components g c =
     subst (λ (os : List ℕ). All (λ o. o < bound) os) (sym c.as_slice.ensures)
     (components_typed (surroundings c.args.context) c.requires.ready.0 c.args.expression.now c.requires.ready.1 c.in-Compose.ty c.in-Compose.components c.in-Compose.is)
 
--- what is returned for an expression is returned for its variant
-judged_as : (s : ExpressionSurroundings) (x y : Expression) → x ≡ y → IsReadySomewhere s x → IsReadySomewhere s y
-judged_as s x y is can = subst (IsReadySomewhere s) is can
-
 pub validate_image_sample-requires : goal.validate_image_sample-requires
-validate_image_sample-requires g c = judged_as _ _ _ c.in-ImageSample.is c.requires.ready
+validate_image_sample-requires g c = ready_as _ _ _ c.in-ImageSample.is c.requires.ready
 
 pub validate_image_load-requires : goal.validate_image_load-requires
-validate_image_load-requires g c = judged_as _ _ _ c.in-ImageLoad.is c.requires.ready
+validate_image_load-requires g c = ready_as _ _ _ c.in-ImageLoad.is c.requires.ready
 
 pub validate_image_query-requires : goal.validate_image_query-requires
-validate_image_query-requires g c = judged_as _ _ _ c.in-ImageQuery.is c.requires.ready
+validate_image_query-requires g c = ready_as _ _ _ c.in-ImageQuery.is c.requires.ready
 
 pub validate_math-requires : goal.validate_math-requires
-validate_math-requires g c = judged_as _ _ _ c.in-Math.is c.requires.ready
+validate_math-requires g c = ready_as _ _ _ c.in-Math.is c.requires.ready
