@@ -1,4 +1,4 @@
--- The rule of an expression that asks for no kind of an operand is the same whatever the kinds are.
+-- A rule that needs no kind of an operand is the same whatever the kinds are.
 use Rattle.std.proofs.Common.{◌≡◌, ℕ, ℤ, List, [], None, Some, Result}
 use Rattle.naga_exprs.specs.ExpressionRule.{IsRule}
 use Rattle.naga_exprs.specs.Math.{MathTyping}

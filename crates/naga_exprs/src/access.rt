@@ -168,7 +168,7 @@ pub(crate) fn admits_access(
     }
     let gctx = to_ctx(context.module);
     match get_const_val_from(index, &context.function.expressions, gctx) {
-        // The length is only asked for a constant index.
+        // Only a constant index needs the length.
         Ok(value) => {
             let length = indexable_length(context.overrides_resolved, base_type, context.module);
             is_within(value, length)

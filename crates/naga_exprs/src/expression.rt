@@ -166,8 +166,8 @@ pub fn validate_expression<T: Typing>(
 /// Whether an expression is of a frequent variant, keeps its rule, and may be used by every stage. What is required is
 /// as for `validate_expression`, which accepts it then.
 ///
-/// A function is accepted sooner if this is asked of its expressions first: an `ExpressionError` is wide, and to hand on
-/// a result that may hold one takes longer than to check most expressions. The cost is as of `validate_expression`. It
+/// A function is accepted sooner if this is called first: an `ExpressionError` is wide, and to hand on a result that may
+/// hold one takes longer than to check most expressions. The cost is as of `validate_expression`. It
 /// takes no memory.
 pub fn admits_expression<T: Typing>(
     typing: &T,

@@ -1,4 +1,4 @@
--- The operands of an expression whose kinds its rule asks for are among its operands.
+-- The operands of an expression whose kinds its rule needs are among its operands.
 use Rattle.std.proofs.Common.{ℕ, [], ◌∷◌, All, option_to_list}
 use Rattle.std.proofs.lemmas.List.Elements.{All-nil}
 use Rattle.naga_arena.proofs.Elements.{all-left, all-right}

@@ -74,12 +74,12 @@ ArgumentsExist s root = (e i : ℕ) → e < root → slice_get s.function.expres
 abbrev pub ResultIsKnown : ExpressionSurroundings → Expression → Type 0
 ResultIsKnown s x = (f : ℕ) → x ≡ form.CallResult f → f < length s.infos.functions
 
--- the operands of an expression whose kinds its rule asks for: the offset of a sample
+-- the operands of an expression whose kinds its rule needs: the offset of a sample
 abbrev pub kind_operands : Expression → List ℕ
 kind_operands (form.ImageSample image sampler gather coordinate array_index offset level depth_ref clamp_to_edge) = option_to_list offset
 kind_operands x = []
 
--- expression `x` can be validated at place `root`: all that it refers to exists, its operands precede it, their types are known, and so are the kinds that its rule asks for
+-- expression `x` can be validated at place `root`: all that it refers to exists, its operands precede it, their types are known, and so are the kinds that its rule needs
 pub record IsReady (s : ExpressionSurroundings) (root : ℕ) (x : Expression) : Type 0 where
   pub sound : AreSound s
   pub references : All (Exists (function_counts s.«module» s.function)) (expression_references x)

@@ -110,7 +110,7 @@ fn add_info(mod_info: &mut ModuleInfo, at: &Callable, info: FunctionInfo) -> Res
     }
 }
 
-/// Whether the rule of an expression asks for the kind of an operand: only the rule of a sample does, for its offset.
+/// Whether the rule of an expression needs the kind of an operand: only the rule of a sample does, for its offset.
 fn asks_for_kinds(expression: &Expression) -> bool
     ensures { IsFalse result → kind_operands expression.now ≡ [] }
 {
@@ -123,7 +123,7 @@ fn asks_for_kinds(expression: &Expression) -> bool
     )
 }
 
-/// Finds the kinds of the expressions of a function, unless they are found, if the rule of an expression asks for one.
+/// Finds the kinds of the expressions of a function, unless they are found, if the rule of an expression needs one.
 /// Few functions have such an expression.
 ///
 /// # Errors

@@ -27,7 +27,7 @@ pub record CanCheckRules (s : FunctionSurroundings) (types : List TypeResolution
 abbrev pub AreFoundKinds : List Expression_ → List ExpressionKind → Type 0
 AreFoundKinds xs kinds = (kinds ≡ []) ⊎ AreKinds xs kinds
 
--- by these kinds the rule of expression `x`, one of `xs`, can be checked: it asks for none, or they are found
+-- by these kinds the rule of expression `x`, one of `xs`, can be checked: it needs none, or they are found
 abbrev pub SufficeFor : List Expression_ → Expression_ → List ExpressionKind → Type 0
 SufficeFor xs x kinds = (kind_operands x ≡ []) ⊎ AreKinds xs kinds
 
