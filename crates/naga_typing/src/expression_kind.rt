@@ -1,6 +1,6 @@
 //! When the values of expressions are known.
 
-ghost use Rattle.std.specs.Prelude.{◌≡◌, ◌==◌, ◌<◌, [], ◌∷◌, Contains, IfOk, IsOk, length, slice_get, ℕ};
+ghost use Rattle.std.specs.Prelude.{◌≡◌, ◌==◌, ◌<◌, [], Contains, IfOk, IsOk, length, slice_get, ℕ};
 ghost use Rattle.naga_ir.specs.Handles.{ReferencesPrecede, OrderedOperands};
 ghost use Rattle.naga_ir.specs.References as references;
 ghost use Rattle.naga_typing.specs.Kinds as spec;
@@ -47,9 +47,8 @@ impl ExpressionKindTracker {
     pub fn new(alloc: Global) -> ExpressionKindTracker
         ensures { result ≡ [] }
     {
-        ExpressionKindTracker {
-            inner: HandleVec::new(alloc),
-        }
+        let inner = HandleVec::new(alloc);
+        ExpressionKindTracker { inner }
     }
 
     /// Whether there are no kinds.
@@ -79,7 +78,7 @@ impl ExpressionKindTracker {
         ensures none { arena.now ≡ [] → IsOk result }
     {
         let mut tracker = ExpressionKindTracker {
-            inner: HandleVec::with_capacity(alloc, arena.len())?,
+            inner: HandleVec::new(alloc),
         };
         // Operands precede an expression, so their kinds are known here.
         for (_, expression) in arena.iter() {
@@ -108,39 +107,7 @@ impl ExpressionKindTracker {
         )
     }
 
-    /// The kind of an operand.
-    fn of_operand(&self, operand: Handle<ExpressionTag>) -> ExpressionKind
-        requires { operand < length self.now }
-        ensures { result ≡ spec.kind_at self.now operand }
-    {
-        self.inner[operand]
-    }
-
-    /// The kind of the only operand of an expression.
-    fn of_one(&self, expression: &Expression, operand: Handle<ExpressionTag>) -> ExpressionKind
-        requires known { (o : ℕ) → Contains (references.operands expression.now) o → o < length self.now }
-        requires only { references.operands expression.now ≡ operand ∷ [] }
-        ensures { result ≡ spec.of_operands self.now expression.now }
-    {
-        self.of_operand(operand)
-    }
-
-    /// The latest kind of the two operands of an expression.
-    fn of_two(
-        &self,
-        expression: &Expression,
-        first: Handle<ExpressionTag>,
-        second: Handle<ExpressionTag>,
-    ) -> ExpressionKind
-        requires known { (o : ℕ) → Contains (references.operands expression.now) o → o < length self.now }
-        requires both { references.operands expression.now ≡ first ∷ second ∷ [] }
-        ensures { result ≡ spec.of_operands self.now expression.now }
-    {
-        self.of_operand(first).max(self.of_operand(second))
-    }
-
     /// The kind of one expression, by the kinds of its operands.
-    #[tactic(auto, unfolding(naga_ir::specs::References::operands))]
     fn kind_of(&self, expression: &Expression) -> ExpressionKind
         requires { (o : ℕ) → Contains (references.operands expression.now) o → o < length self.now }
         ensures { result ≡ spec.kind_of self.now expression.now }
@@ -150,25 +117,18 @@ impl ExpressionKindTracker {
                 ExpressionKind::Const
             }
             Expression::Override(_) => ExpressionKind::Override,
-            // One or two operands are read at once: a loop over them ends where a processor can't foresee it.
-            Expression::Splat { value: operand, .. }
-            | Expression::AccessIndex { base: operand, .. }
-            | Expression::Swizzle {
-                vector: operand,
-                ..
-            }
-            | Expression::Unary { expr: operand, .. }
-            | Expression::As { expr: operand, .. }
-            | Expression::Relational {
-                argument: operand,
-                ..
-            }
-            | Expression::ArrayLength(operand) => self.of_one(expression, *operand),
-            Expression::Access { base, index } => self.of_two(expression, *base, *index),
-            Expression::Binary { left, right, .. } => self.of_two(expression, *left, *right),
-            Expression::Compose { .. } | Expression::Math { .. } | Expression::Select { .. } => {
-                self.latest(expression)
-            }
+            Expression::Compose { .. }
+            | Expression::Splat { .. }
+            | Expression::Access { .. }
+            | Expression::AccessIndex { .. }
+            | Expression::Swizzle { .. }
+            | Expression::Unary { .. }
+            | Expression::Binary { .. }
+            | Expression::Math { .. }
+            | Expression::As { .. }
+            | Expression::Select { .. }
+            | Expression::Relational { .. }
+            | Expression::ArrayLength(_) => self.latest(expression),
             Expression::FunctionArgument(_)
             | Expression::GlobalVariable(_)
             | Expression::LocalVariable(_)

@@ -9,8 +9,7 @@ ghost use Rattle.naga_typing.specs.Typings.{CanResolve};
 
 use crate::math::{accepts, argument_count};
 use crate::plain_typing::{
-    self, binary_of, cast_of, element_of, operand, part_of, product, same_type, scalar, splat_of,
-    swizzle_of, vector,
+    self, binary_of, cast_of, element_of, operand, part_of, product, same_type, scalar, vector,
 };
 use crate::pushing::push_full;
 use crate::typifier::{ResolveError, TypeResolution};
@@ -440,7 +439,7 @@ impl Typing for FullTyping {
 }
 
 /// The type of an expression, by its variant.
-#[tactic(auto, unfolding(crate::specs::FullTyping::full_resolves, crate::specs::PlainTyping::plain_resolves))]
+#[tactic(auto, unfolding(crate::specs::FullTyping::full_resolves))]
 pub(crate) fn resolve_full(
     module: &Module,
     expression: &Expression,
@@ -451,8 +450,16 @@ pub(crate) fn resolve_full(
 {
     let types = &module.types;
     match *expression {
-        Expression::Constant(_)
+        Expression::Literal(_)
+        | Expression::Constant(_)
         | Expression::Override(_)
+        | Expression::ZeroValue(_)
+        | Expression::Compose { .. }
+        | Expression::Splat { .. }
+        | Expression::Swizzle { .. }
+        | Expression::Unary { .. }
+        | Expression::Derivative { .. }
+        | Expression::Select { .. }
         | Expression::Relational { .. }
         | Expression::Math { .. }
         | Expression::ArrayLength(_) => plain_typing::resolve(module, expression, earlier),
@@ -490,20 +497,6 @@ pub(crate) fn resolve_full(
         ),
         Expression::SubgroupBallotResult => four_of(ScalarKind::Uint),
         Expression::CooperativeMultiplyAdd { c, .. } => same_type(earlier, c),
-        // The most frequent variants that the plain typing resolves alike have arms here, so that the variant is
-        // matched only once.
-        Expression::Literal(literal) => scalar(literal.scalar()),
-        Expression::ZeroValue(ty) | Expression::Compose { ty, .. } => {
-            Ok(TypeResolution::Handle(ty))
-        }
-        Expression::Splat { size, value } => splat_of(size, operand(module, earlier, value)),
-        Expression::Swizzle { size, vector, .. } => swizzle_of(
-            size,
-            operand(module, earlier, vector),
-        ),
-        Expression::Unary { expr, .. } => same_type(earlier, expr),
-        Expression::Derivative { expr } => same_type(earlier, expr),
-        Expression::Select { accept, .. } => same_type(earlier, accept),
         Expression::FunctionArgument(_)
         | Expression::LocalVariable(_)
         | Expression::CooperativeLoad { .. } => Err(ResolveError::NotResolvable),

@@ -111,7 +111,7 @@ fn add_info(mod_info: &mut ModuleInfo, at: &Callable, info: FunctionInfo) -> Res
 }
 
 /// Whether the rule of an expression needs the kind of an operand: only the rule of a sample does, for its offset.
-fn asks_for_kinds(expression: &Expression) -> bool
+fn needs_kinds(expression: &Expression) -> bool
     ensures { IsFalse result → kind_operands expression.now ≡ [] }
 {
     matches!(
@@ -140,7 +140,7 @@ fn find_kinds(
     ensures found { OnOk result (AreFoundKinds function.now.expressions kinds.new) }
     ensures suffice { OnOk result (SufficeFor function.now.expressions expression.now kinds.new) }
 {
-    if asks_for_kinds(expression) && kinds.is_empty() {
+    if needs_kinds(expression) && kinds.is_empty() {
         *kinds = ExpressionKindTracker::from_arena(alloc, &function.expressions)?;
     }
     Ok(())

@@ -1,5 +1,5 @@
 use Rattle.naga_typing.proofs.CanResolve.{function_exists, global_variable_exists, operand_parts_exist, operands_earlier}
-use Rattle.naga_typing.proofs.FormOperands.{accepted_of_select, of_derivative, of_splat, of_swizzle, of_unary, image_of_load, image_of_query, image_of_sample, left_of_binary, of_access, of_access_index, of_as, of_load, right_of_binary, summand_of_product}
+use Rattle.naga_typing.proofs.FormOperands.{image_of_load, image_of_query, image_of_sample, left_of_binary, of_access, of_access_index, of_as, of_load, right_of_binary, summand_of_product}
 use Rattle.naga_typing.proofs.full_typing.resolve_full.Goals as goal
 
 pub operand-requires-clause-earlier : goal.operand-requires-clause-earlier
@@ -46,18 +46,3 @@ index-requires c = function_exists _ _ _ c.requires _ c.in-CallResult.is
 
 pub same_type-requires-clause-earlier : goal.same_type-requires-clause-earlier
 same_type-requires-clause-earlier c = operands_earlier _ _ _ c.requires _ (summand_of_product _ _ _ _ c.in-CooperativeMultiplyAdd.is)
-
-pub operand-requires-in-Splat-clause-earlier : goal.operand-requires-in-Splat-clause-earlier
-operand-requires-in-Splat-clause-earlier c = operands_earlier _ _ _ c.requires _ (of_splat _ _ _ c.in-Splat.is)
-
-pub operand-requires-in-Swizzle-clause-earlier : goal.operand-requires-in-Swizzle-clause-earlier
-operand-requires-in-Swizzle-clause-earlier c = operands_earlier _ _ _ c.requires _ (of_swizzle _ _ _ _ c.in-Swizzle.is)
-
-pub same_type-requires-in-Unary-clause-earlier : goal.same_type-requires-in-Unary-clause-earlier
-same_type-requires-in-Unary-clause-earlier c = operands_earlier _ _ _ c.requires _ (of_unary _ _ _ c.in-Unary.is)
-
-pub same_type-requires-in-Derivative-clause-earlier : goal.same_type-requires-in-Derivative-clause-earlier
-same_type-requires-in-Derivative-clause-earlier c = operands_earlier _ _ _ c.requires _ (of_derivative _ _ c.in-Derivative.is)
-
-pub same_type-requires-in-Select-clause-earlier : goal.same_type-requires-in-Select-clause-earlier
-same_type-requires-in-Select-clause-earlier c = operands_earlier _ _ _ c.requires _ (accepted_of_select _ _ _ _ c.in-Select.is)

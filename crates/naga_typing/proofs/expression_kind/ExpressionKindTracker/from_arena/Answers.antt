@@ -5,7 +5,7 @@ use Rattle.naga_typing.proofs.Iteration.{accepts_all, all_values, one_more_value
 use Rattle.naga_typing.proofs.expression_kind.ExpressionKindTracker.from_arena.Goals as goal
 
 pub loop-expression-init : goal.loop-expression-init
-loop-expression-init c = start kind_of accepts_all c.args.arena.now _ _ c.in_ok-with_capacity.ensures.items (c.into_iter-expression-iterator.ensures.into_iter_gives ∙ c.iter-expression-items.ensures)
+loop-expression-init c = start kind_of accepts_all c.args.arena.now _ _ c.new.ensures (c.into_iter-expression-iterator.ensures.into_iter_gives ∙ c.iter-expression-items.ensures)
 
 pub kind_of-kind-requires : goal.kind_of-kind-requires
 kind_of-kind-requires c = next_operands c.args.arena.now c.requires _ _ _ _ _ c.loop-expression.invariant c.in-Some.ensures.steps
