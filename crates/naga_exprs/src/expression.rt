@@ -163,12 +163,14 @@ pub fn validate_expression<T: Typing>(
     }
 }
 
-/// Whether an expression is of a frequent variant, keeps its rule, and may be used by every stage. What is required is
-/// as for `validate_expression`, which accepts it then.
+/// Whether an expression is of a frequent variant, keeps its rule, and may be used by every stage. What is required
+/// is as for `validate_expression`, which accepts it then. Frequent are the variants that functions of shaders
+/// mostly consist of: variables, arguments, literals and other constants, compositions and parts of values, loads,
+/// operators, conversions and mathematical functions.
 ///
-/// A function is accepted sooner if this is called first: an `ExpressionError` is wide, and to hand on a result that may
-/// hold one takes longer than to check most expressions. The cost is as of `validate_expression`. It
-/// takes no memory.
+/// A function is accepted sooner if this is called first: an `ExpressionError` is wide, and to hand on a result that
+/// may hold one takes longer than to check most expressions. The cost is as of `validate_expression`. It takes no
+/// memory.
 pub fn admits_expression<T: Typing>(
     typing: &T,
     context: FunctionContext<'_>,
@@ -216,7 +218,7 @@ pub fn admits_expression<T: Typing>(
             arg2,
             arg3,
         } => admits_math(context, typing, fun, arg, arg1, arg2, arg3),
-        // The rules of these take longer, or don't let every stage use them.
+        // These are rarer, or their rules don't let every stage use them.
         Expression::AtomicResult { .. }
         | Expression::ImageSample { .. }
         | Expression::ImageLoad { .. }

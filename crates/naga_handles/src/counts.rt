@@ -182,8 +182,8 @@ fn check_listed(
 
 /// Whether the operands of an expression precede it.
 ///
-/// Each variant checks its own operands: the jump to the variant is all that a processor can't foresee, where a loop
-/// over the operands also ends when it can't.
+/// Most variants check their own operands: the jump to the variant is all that a processor can't foresee. Of a loop
+/// over the operands it can't foresee the end either.
 #[inline(always)]
 #[tactic(auto, unfolding(naga_ir::specs::References::operands))]
 pub(crate) fn check_operands(

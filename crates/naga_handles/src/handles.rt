@@ -124,7 +124,8 @@ impl Scope {
         }
     }
 
-    /// Whether an item may refer to this. Callers know the variant, so that inside of them its check is all that is left.
+    /// Whether an item may refer to this. Callers know the variant, so that inside of them its check is all that is
+    /// left.
     #[inline(always)]
     fn check(&self, reference: Reference) -> Result<(), InvalidHandleError>
         ensures { IsResult (record {
@@ -155,8 +156,9 @@ impl Scope {
 
     /// Whether an item may refer to this, and else the reference, of which `check` says why.
     ///
-    /// A result with room for an error of 40 bytes is copied wherever it is handed on, also if there is no error, a
-    /// processor waits for what it reads wider than it was written, and each block inside another takes room for it.
+    /// The result of `check` has room for an error of 40 bytes. It would be copied wherever it is handed on, also
+    /// where there is no error, and a processor waits for what it reads wider than it was written. Each block inside
+    /// another would take room for it too.
     #[inline(always)]
     fn admit(&self, reference: Reference) -> Result<(), Reference>
         ensures { MatchResult result
@@ -221,8 +223,8 @@ fn names_nothing(expression: &Expression) -> bool
     }
 }
 
-/// Whether the type and the item exist that an expression names, if it names any. Out of line, so that the room for this
-/// list is not cleared for each expression.
+/// Whether the type and the item exist that an expression names, if it names any. Out of line, so that the room for
+/// this list is not cleared for each expression.
 #[inline(never)]
 fn check_named(scope: &Scope, expression: &Expression) -> Result<(), InvalidHandleError>
     ensures { ChecksEach IsResult (checks_in scope.now (named_references expression.now)) result }

@@ -47,17 +47,6 @@ impl FunctionInfo {
         self.types.push(resolution)
     }
 
-    /// Makes room for the types of `additional` more expressions.
-    ///
-    /// # Errors
-    ///
-    /// `OutOfMemory` if memory was refused. The info stays as it was either way.
-    pub fn reserve(&mut self, additional: usize) -> Result<(), OutOfMemory>
-        ensures { self.new ≡ self.old }
-    {
-        self.types.reserve(additional)
-    }
-
     /// An equal info, in memory of its own.
     ///
     /// # Errors

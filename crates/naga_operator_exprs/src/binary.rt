@@ -221,8 +221,8 @@ pub fn validate_binary(
 }
 
 /// Whether every stage may use an operator on two values: whether `validate_binary` accepts it. The rule and the
-/// cost of the search for forbidden constants are the same, but no `ExpressionError` is made, which takes less time where most
-/// operands are accepted, and no memory.
+/// cost of the search for forbidden constants are the same. It makes no `ExpressionError`, so it takes less time
+/// where most operands are accepted, and no memory.
 pub fn admits_binary(
     context: FunctionContext<'_>,
     op: BinaryOperator,

@@ -14,7 +14,7 @@ const MOST_DIGITS: usize = 20;
 /// The greatest index of a handle.
 const MOST_INDEX: u64 = u32::MAX as u64 - 1;
 
-/// The number that up to 19 digits write. It is below 10 to the power of 19, and so is what a loop in 64 bits makes.
+/// The number that up to 19 digits write. It is below 10 to the power of 19, so 64 bits hold it.
 fn short_value(word: &[u8]) -> Option<u64>
     requires { length word.now < most_digits }
     ensures { result ≡ (if all_ascii_digits word.now then Some (value_after 0 word.now) else None) }

@@ -2,8 +2,8 @@
 //!
 //! A type as a result takes 56 bytes. They are written by their parts, and a processor waits where they are read in
 //! wider pieces as the result is handed on. So these functions write a type once, where it stays. What they don't
-//! resolve themselves they leave to the functions of `FullTyping`, whose contracts give the same types. Each form of type
-//! is written by a function out of line: inlined, the ends of all arms would be merged into one, which copies.
+//! resolve themselves they leave to the functions of `FullTyping`, whose contracts give the same types. Each variant
+//! of type is written by a function out of line: inlined, the ends of all arms would be merged into one, which copies.
 
 ghost use Rattle.std.specs.Prelude.{◌≡◌, ◌<◌, All, Ok, OnErr, Some, length, slice_get};
 ghost use Rattle.naga_ir.specs.ItemReferences.{global_lists};

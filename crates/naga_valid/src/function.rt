@@ -248,8 +248,8 @@ impl<T: Typing> Validator<T> {
                 break;
             }
             find_kinds(self.alloc, function, expression, &mut kinds)?;
-            // For most expressions a bool is enough. The result of `validate_expression` is wide, and is moved before it is
-            // looked at.
+            // For most expressions a bool is enough. The result of `validate_expression` is wide, and is moved before
+            // it is looked at.
             let context = self.context(
                 overrides_resolved,
                 function,

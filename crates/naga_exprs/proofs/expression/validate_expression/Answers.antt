@@ -10,7 +10,7 @@ use Rattle.naga_exprs.proofs.expression.validate_expression.Goals as goal
 use Rattle.naga_ir.specs.declared.expression.Expression.TheVariants as form
 use Rattle.naga_exprs.specs.Math.{MathTyping}
 use Rattle.naga_info.specs.Stages.{every_stage}
-use Rattle.naga_info.specs.Surroundings.{ExpressionSurroundings, IsReadySomewhere, surroundings}
+use Rattle.naga_info.specs.Surroundings.{ExpressionSurroundings, surroundings}
 use Rattle.naga_typing.proofs.FormOperands.{accepted_of_select, left_of_binary, of_access, of_access_index, of_as, of_derivative, of_relational, of_splat, of_swizzle, of_unary, right_of_binary}
 
 pub validate_access-requires-clause-base : goal.validate_access-requires-clause-base
