@@ -8,6 +8,7 @@
 -- Resolutions.AreSameTypes: which types are the same
 -- Resolutions.ResolutionExists, IsProperResolution: which types an expression may have
 -- Typings.CanResolve, IsLawful: what a typing may rely on, and what it promises
+-- Typings.IsPushResult: what is added to the types before, or why nothing is
 -- Typings.AreResolved: what the types of a module's global expressions are
 -- PlainTyping.plain_resolves: what `PlainTyping` resolves
 -- FullTyping.full_resolves: what `FullTyping` resolves
