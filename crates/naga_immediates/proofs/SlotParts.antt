@@ -215,7 +215,7 @@ module _ (g : GlobalLists) (members : List StructMember) (at at′ i : ℕ) (old
       subst (IsWalking g members at (i + 1) old) (sym e′)
       record { noted = h.noted; gains = skipped g members at i old walk.slots h.gains m is_at (subst (λ n. 256 ≤ n + m.offset) same (byte_past _ found is none)) }
 
-pub nothing_noted : (place t : ℕ) → slice_get (replicate note_count None) place ≡ Some (Some t) → ⊥
+nothing_noted : (place t : ℕ) → slice_get (replicate note_count None) place ≡ Some (Some t) → ⊥
 nothing_noted place t e =
     let within : place < note_count = omega (arith, slice_get_within (replicate note_count None) place (Some t) e, length-replicate note_count (let none : Option ℕ = None in none)) in
     none-some t (sym (get_or-replicate note_count place None (Some t) within) ∙ get_or_from_slice_get (replicate note_count None) place (Some t) (Some t) e)

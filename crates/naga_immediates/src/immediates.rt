@@ -82,13 +82,13 @@ impl ImmediateSlots {
     ///
     /// `types` stands for the types of `gctx`.
     ///
-    /// The cost is linear in the members of structs, each counted once for each way by which it is reached,
-    /// and those of the outermost struct twice. But a struct type isn't walked through again from a byte
-    /// from which it was walked through, unless a type whose index leaves the same remainder by 8 was
-    /// since. So a chain of structs of two members of the struct before is linear, and one of pairs of
-    /// neighbours of which each has both before as members. What takes time that doubles with each step is
-    /// a chain of pairs of structs, eight apart among the types, of which each has both structs of the pair
-    /// before as members at one byte: nine types a step. It calls itself as deep as structs are nested.
+    /// The cost is linear in the members of structs, each counted once for each way by which it is
+    /// reached. But a struct type isn't walked through again from a byte from which it was walked through,
+    /// unless a type whose index leaves the same remainder by 8 was since. So a chain of structs of two
+    /// members of the struct before is linear, and one of pairs of neighbours of which each has both before
+    /// as members. What takes time that doubles with each step is a chain of pairs of structs, eight apart
+    /// among the types, of which each has both structs of the pair before as members at one byte: nine types
+    /// a step. It calls itself as deep as structs are nested.
     pub fn from_type(
         ty: &TypeInner,
         offset: u32,
@@ -103,18 +103,13 @@ impl ImmediateSlots {
         let TypeInner::Struct { members, .. } = ty else {
             return slots_of_part(ty, offset, gctx);
         };
-        let mut slots = ImmediateSlots(0);
+        let mut walk = SlotWalk::new();
         for member in members.as_slice() {
             if let Some(byte) = member_byte(offset, member) {
-                let inner = &gctx.types[member.ty].inner;
-                // Only structs in the struct need notes, whose clearing takes longer than a walk through few members.
-                if let TypeInner::Struct { .. } = inner {
-                    return slots_by_notes(ty, offset, gctx);
-                }
-                slots |= slots_of_part(inner, u32::from(byte), gctx);
+                walk.add(member.ty, byte, gctx);
             }
         }
-        slots
+        walk.slots
     }
 
     /// Whether all slots of `other` are in this set.
@@ -261,24 +256,6 @@ fn slots_of_part(inner: &TypeInner, offset: u32, gctx: GlobalCtx<'_>) -> Immedia
     ensures { IsSetOf (SharesByte offset (size_of (lists_of gctx.entry) inner.now)) result }
 {
     ImmediateSlots::from_range(offset, try_size(inner, gctx).unwrap_or(u32::MAX))
-}
-
-/// The slots of a value, of which a walk notes the structs that it has walked through.
-fn slots_by_notes(ty: &TypeInner, offset: u32, gctx: GlobalCtx<'_>) -> ImmediateSlots
-    requires exist { ReferencesExist (lists_of gctx) ty.now }
-    requires references { GlobalReferencesOk (lists_of gctx) }
-    ensures { IsSetOf (UsesSlot (lists_of gctx.entry) ty.now offset) result }
-{
-    let TypeInner::Struct { members, .. } = ty else {
-        return slots_of_part(ty, offset, gctx);
-    };
-    let mut walk = SlotWalk::new();
-    for member in members.as_slice() {
-        if let Some(byte) = member_byte(offset, member) {
-            walk.add(member.ty, byte, gctx);
-        }
-    }
-    walk.slots
 }
 
 /// The member that a pointer accesses by its index in a global variable, whose type is `whole`.
