@@ -17,7 +17,6 @@ use naga_flags::flags::ShaderStages;
 use naga_ir::expression::Expression;
 use naga_ir::handle::Handle;
 use naga_ir::ir::{Function, Module};
-use naga_ir::list::List;
 use naga_ir::tags::ExpressionTag;
 use naga_ir::types::{AddressSpace, TypeInner};
 use naga_typing::typifier::{ResolveError, TypeResolution};
@@ -69,36 +68,16 @@ pub fn infer_types<T: Typing>(
     ensures proper { All IsProperResolution (info_of result).types }
 {
     let mut info = FunctionInfo::new(alloc, ShaderStages::all());
-    // Where this room is refused, the list of types grows as it is filled.
-    let _ = info.types.reserve(function.expressions.len());
     for (handle, expression) in function.expressions.iter() {
         if let Err(error) = push_type_of(alloc, module, function, typing, expression, &mut info) {
             return Err(UntypedExpression {
-                info: without_spare_room(info),
+                info,
                 handle,
                 error,
             });
         }
     }
     Ok(info)
-}
-
-/// An info with room for at most twice its types, as much as a list that grows by doubling has, in place of room for
-/// the types of the whole function. Where memory is refused, the room stays.
-fn without_spare_room(info: FunctionInfo) -> FunctionInfo
-    ensures { result ≡ info }
-{
-    let FunctionInfo {
-        available_stages,
-        types,
-    } = info;
-    let mut types = types.into_vec();
-    let twice = types.len().saturating_mul(2);
-    types.shrink_to(twice);
-    FunctionInfo {
-        available_stages,
-        types: List::from_vec(types),
-    }
 }
 
 /// Adds the type of the next expression of a function to the info, by the types of those before it.

@@ -25,7 +25,7 @@ unfolding known_from
 loop-handle-init g c =
     let m = c.args.module.now in
     let f = c.args.function.now in
-    let none = c.reserve.ensures ∙ ap types_of c.new-info.ensures in
+    let none = ap types_of c.new-info.ensures in
     record {
       typed = none_typed m f.expressions _ _ none (c.into_iter-handle-iterator.ensures.into_iter_gives ∙ c.iter-handle-items.ensures);
       follow = none_follow (type_in_order (g.T.Typing.resolves c.args.typing.now) m f) f.expressions _ none;
@@ -73,7 +73,7 @@ returns-in-Err-clause-result g c =
     let typed = c.loop-handle.invariant.typed in
     let at : slice_get f.expressions (length earlier) ≡ Some x = next_there m f.expressions _ _ _ x _ typed c.in-Some.ensures.steps in
     let place = next_place m f.expressions _ _ _ x _ typed c.in-Some.ensures.steps in
-    let same = ap types_of (c.without_spare_room.ensures ∙ c.in-Err.ensures.refused) in
+    let same = ap types_of c.in-Err.ensures.refused in
     ⊎_elim (λ h. inl h)
     (λ h. let given : given_at rule f.expressions earlier (length earlier) ≡ Some (Err c.in-Err.error) = rw (at) (ap Some h) in
     inr (ap (λ l. given_at rule f.expressions l c.in-Some.handle) same ∙ ap (given_at rule f.expressions earlier) place ∙ given))
@@ -86,7 +86,7 @@ returns-in-Err-clause-before g c =
     let typed = c.loop-handle.invariant.typed in
     let at = next_there m f.expressions _ _ _ _ _ typed c.in-Some.ensures.steps in
     let place = next_place m f.expressions _ _ _ _ _ typed c.in-Some.ensures.steps in
-    let same = ap types_of (c.without_spare_room.ensures ∙ c.in-Err.ensures.refused) in
+    let same = ap types_of c.in-Err.ensures.refused in
     record {
       within = subst (λ k. k < length f.expressions) (sym place) (slice_get_within _ _ _ at);
       as_many = ap length same ∙ sym place;
