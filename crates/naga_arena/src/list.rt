@@ -78,25 +78,11 @@ impl<T: Drop> List<T> {
         self.items.is_empty()
     }
 
-    /// Makes room for `additional` more items: adding so many then takes no more memory.
-    ///
-    /// # Errors
-    ///
-    /// `OutOfMemory` if memory was refused. The items stay as they were either way.
-    pub fn reserve(&mut self, additional: usize) -> Result<(), OutOfMemory>
-        ensures { self.new ≡ self.old }
-    {
-        self.items.reserve(additional)?;
-        Ok(())
-    }
-
     /// Adds an item at the end.
     ///
     /// # Errors
     ///
     /// `OutOfMemory` if memory was refused, which leaves the list as it was and drops the item.
-    // Inlined, so that a caller that builds an item writes it once, in its place in the list.
-    #[inline(always)]
     pub fn push(&mut self, item: T) -> Result<(), OutOfMemory>
         ensures pushed { OnOk result (self.new ≡ self.old ++ item ∷ []) }
         ensures refused { OnErr result (self.new ≡ self.old) }

@@ -6,7 +6,6 @@ ghost use Rattle.naga_text.specs.WordForms.{read_each};
 ghost use Rattle.std.specs.Prelude.{◌≡◌, IfOk, map};
 
 use crate::literals::literal;
-use crate::members::push_of;
 use crate::number::handle;
 use crate::words::{binary_operator, equals, size, unary_operator};
 use naga_ir::OutOfMemory;
@@ -89,7 +88,7 @@ fn components(
     let mut components = List::new(alloc);
     for word in words {
         match handle(word) {
-            Some(component) => push_of(&mut components, component, words.len())?,
+            Some(component) => components.push(component)?,
             None => return Ok(None),
         }
     }

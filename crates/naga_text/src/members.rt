@@ -2,7 +2,7 @@
 
 ghost use Rattle.naga_text.specs.WordForms.{binding_of, member_of, read_each};
 ghost use Rattle.naga_text.specs.Words.{pieces_of};
-ghost use Rattle.std.specs.Prelude.{◌≡◌, ◌++◌, [], ◌∷◌, IfOk, OnOk, Some, map, option_map};
+ghost use Rattle.std.specs.Prelude.{◌≡◌, IfOk, Some, map, option_map};
 
 use crate::number::{handle, number};
 use crate::pieces::split_first;
@@ -48,17 +48,6 @@ fn member(word: &[u8]) -> Option<StructMember>
     })
 }
 
-/// Adds an item to a list that is to have so many.
-pub fn push_of<T: Drop>(list: &mut List<T>, item: T, count: usize) -> Result<(), OutOfMemory>
-    ensures { OnOk result (list.new ≡ list.old ++ item ∷ []) }
-{
-    if list.is_empty() {
-        // The first item has room made for all. Where that is refused, the pushes may still find room.
-        let _ = list.reserve(count);
-    }
-    list.push(item)
-}
-
 /// The members of words, if each is one.
 pub fn members(alloc: Global, words: &[&[u8]]) -> Result<Option<List<StructMember>>, OutOfMemory>
     ensures { IfOk result (λ read. read ≡ read_each member_of (map (λ w. w.now) words.now)) }
@@ -66,7 +55,7 @@ pub fn members(alloc: Global, words: &[&[u8]]) -> Result<Option<List<StructMembe
     let mut members = List::new(alloc);
     for word in words {
         match member(word) {
-            Some(member) => push_of(&mut members, member, words.len())?,
+            Some(member) => members.push(member)?,
             None => return Ok(None),
         }
     }

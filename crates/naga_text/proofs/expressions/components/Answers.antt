@@ -7,4 +7,4 @@ returns-in-None c = stopped handle_of (λ w. w.now) c.args.words.now c.loop-word
 
 pub loop-word-preserved : goal.loop-word-preserved
 loop-word-preserved c =
-    went_on handle_of (λ w. w.now) c.args.words.now c.loop-word.word-index _ c.loop-word.components _ _ c.in-Some.component c.loop-word-test.true c.handle.ensures c.in-Some.is c.in_ok-push_of-in-Some.ensures c.loop-word.invariant
+    went_on handle_of (λ w. w.now) c.args.words.now c.loop-word.word-index _ c.loop-word.components _ _ c.in-Some.component c.loop-word-test.true c.handle.ensures c.in-Some.is c.in_ok-push-in-Some.ensures.pushed c.loop-word.invariant
