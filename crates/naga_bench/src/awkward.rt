@@ -63,12 +63,18 @@ fn add_sized(module: &mut Module, count: u32, random: &mut Random) -> Result<(),
     Ok(())
 }
 
-/// Structs, each with the one before as its only member.
-fn add_chain(alloc: Global, module: &mut Module, count: u32) -> Result<(), OutOfMemory> {
+/// Structs, each with the one before as its only member and up to three words after it.
+fn add_chain(
+    alloc: Global,
+    module: &mut Module,
+    count: u32,
+    random: &mut Random,
+) -> Result<(), OutOfMemory> {
     let mut inner = scalar(insert(&mut module.types, TypeInner::Scalar(Scalar::U32))?);
     for _ in 0..count {
         let mut members = Members::new(alloc);
         members.put(&inner)?;
+        members.pad(4 * random.below(4));
         inner = members.finish(&mut module.types)?;
     }
     Ok(())
@@ -158,7 +164,7 @@ fn make(
     match way {
         0 => add_members(alloc, module, 20_000, random),
         1 => add_sized(module, 60_000, random),
-        2 => add_chain(alloc, module, 20_000),
+        2 => add_chain(alloc, module, 20_000, random),
         3 => add_compositions(alloc, module, 20_000, random),
         _ => {
             let size = Size {
@@ -182,8 +188,7 @@ fn validate_one(
 ) -> Result<(), OutOfMemory> {
     let mut module = Module::new(alloc);
     make(alloc, &mut module, way, random)?;
-    validate(validator, &module, totals);
-    Ok(())
+    validate(alloc, validator, &module, totals)
 }
 
 /// Validates so many modules, each large in one of five ways.

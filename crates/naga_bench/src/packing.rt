@@ -5,7 +5,7 @@ ghost use Rattle.naga_ir.specs.ItemReferences.{global_lists};
 ghost use Rattle.std.specs.Prelude.{◌<◌, length};
 
 use crate::build::append;
-use crate::random::{Digest, Random};
+use crate::random::{Digest, Places, Random};
 use crate::shaders::new_validator;
 use crate::totals::Totals;
 use crate::types::{Laid, Shape, Types, add_array, add_struct, add_types, any_of};
@@ -34,29 +34,40 @@ fn add_leaves(
     'leaves: for _ in 0..u64::MAX {
         let Some(leaf) = leaves.next()? else { break };
         add_leaf(digest, leaf);
-        digest.add(leaves.path().len() as u64);
+        digest.add_value(&leaves.path());
     }
     Ok(())
 }
 
-/// Looks up leaves of a type by paths of three indexes.
-fn find_leaves(
-    module: &Module,
-    ty: Handle<TypeTag>,
-    count: u32,
-    random: &mut Random,
-    digest: &mut Digest,
-)
+/// Looks up the leaf of a type at a path.
+fn find_leaf(module: &Module, ty: Handle<TypeTag>, path: &[u32], digest: &mut Digest)
     requires exists { ty < length «module».now.types }
     requires references { GlobalReferencesOk (global_lists «module».now) }
 {
-    for _ in 0..count {
-        let path = [1, random.below(1000), random.below(20), random.below(8)];
-        let taken = 2 + random.below(3) as usize;
-        match leaf_at(module, ty, &path[..taken], 0) {
-            Some(leaf) => add_leaf(digest, leaf),
-            None => digest.add(0),
-        }
+    match leaf_at(module, ty, path, 0) {
+        Some(leaf) => add_leaf(digest, leaf),
+        None => digest.add(0),
+    }
+}
+
+/// Looks up instances, which are no leaves, then members of instances, then parts of members, each at most once.
+fn find_leaves(module: &Module, ty: Handle<TypeTag>, random: &mut Random, digest: &mut Digest)
+    requires exists { ty < length «module».now.types }
+    requires references { GlobalReferencesOk (global_lists «module».now) }
+{
+    let places = Places::new(random);
+    for index in 0..1000 {
+        let instance = places.below(1000, index);
+        find_leaf(module, ty, &[1, instance], digest);
+    }
+    for index in 0..9500 {
+        let place = places.below(20_000, index);
+        find_leaf(module, ty, &[1, place % 1000, place / 1000], digest);
+    }
+    for index in 0..9500 {
+        let place = places.below(160_000, index);
+        let path = [1, place % 1000, place / 1000 % 20, place / 20_000];
+        find_leaf(module, ty, &path, digest);
     }
 }
 
@@ -69,13 +80,14 @@ fn slots_of(module: &Module, ty: Handle<TypeTag>, offset: u32) -> ImmediateSlots
     ImmediateSlots::from_type(&module.types[ty].inner, offset, &module.types, gctx)
 }
 
-/// The slots of all types of a module from some bytes on.
+/// The slots of all types of a module, each from eight bytes on, of which no two are equal.
 fn add_slots(module: &Module, random: &mut Random, digest: &mut Digest)
     requires { GlobalReferencesOk (global_lists «module».now) }
 {
     for index in 0..module.types.len() {
-        for _ in 0..8 {
-            let offset = random.below(200);
+        let first = random.below(25);
+        for turn in 0..8 {
+            let offset = first + 25 * turn;
             let slots = slots_of(module, Handle::new(index as u32), offset);
             digest.add(slots.to_raw());
         }
@@ -147,10 +159,7 @@ fn pack_one(
     fill(alloc, &mut module, random)?;
     match validator.validate(&module) {
         Ok(_) => pack(alloc, &module, random, totals),
-        Err(error) => {
-            totals.refuse(error.as_inner().name());
-            Ok(())
-        }
+        Err(error) => totals.refuse(alloc, &error),
     }
 }
 
@@ -168,7 +177,7 @@ fn pack(
         && ty.index() < module.types.len()
     {
         add_leaves(alloc, module, ty, &mut totals.digest)?;
-        find_leaves(module, ty, 20_000, random, &mut totals.digest);
+        find_leaves(module, ty, random, &mut totals.digest);
     }
     add_slots(module, random, &mut totals.digest);
     Ok(())

@@ -5,8 +5,7 @@ use crate::random::{Digest, Random};
 use crate::shaders::{Size, change, fill};
 use crate::totals::Totals;
 use naga_valid::{
-    Expression, Handle, Item, Module, OutOfMemory, ValidationFault, validate_module_handles,
-    visit_order,
+    Expression, Handle, Item, Module, OutOfMemory, validate_module_handles, visit_order,
 };
 use std::alloc::Global;
 
@@ -20,18 +19,19 @@ fn add_order(digest: &mut Digest, order: &[Item]) {
 }
 
 /// Asks for the handles and the order of a module.
-fn ask(alloc: Global, module: &Module, totals: &mut Totals) {
+fn ask(alloc: Global, module: &Module, totals: &mut Totals) -> Result<(), OutOfMemory> {
     match validate_module_handles(alloc, module) {
         Ok(()) => totals.accept(),
-        Err(fault) => totals.refuse(fault.name()),
+        Err(fault) => totals.refuse(alloc, &fault)?,
     }
     match visit_order(alloc, module) {
         Ok(walk) => {
             add_order(&mut totals.digest, walk.order.as_slice());
             totals.digest.add(walk.reads);
         }
-        Err(fault) => totals.refuse(fault.name()),
+        Err(fault) => totals.refuse(alloc, &fault)?,
     }
+    Ok(())
 }
 
 /// Asks of one module after each of so many changes, and at last of the module with a dangling handle.
@@ -46,12 +46,11 @@ fn ask_of_one(
     fill(alloc, &mut module, size, random)?;
     for _ in 0..changes {
         change(&mut module, random)?;
-        ask(alloc, &module, totals);
+        ask(alloc, &module, totals)?;
     }
     let dangling = Expression::Constant(Handle::new(900_000_000));
     append(&mut module.global_expressions, dangling)?;
-    ask(alloc, &module, totals);
-    Ok(())
+    ask(alloc, &module, totals)
 }
 
 /// Asks of so many modules, each with many statements.

@@ -41,6 +41,34 @@ impl Random {
     }
 }
 
+/// Numbers below a limit in an order that follows from a seed, none of them twice.
+#[derive(Clone, Copy)]
+pub struct Places {
+    first: u32,
+    step: u32,
+}
+
+impl Places {
+    /// The order of a seed.
+    pub fn new(random: &mut Random) -> Places {
+        Places {
+            first: random.below(1_000_000),
+            // Prime to 10, so that no number below a limit that has the factors 2 and 5 alone comes twice.
+            step: 10 * random.below(100_000) + 3,
+        }
+    }
+
+    /// The number at an index of the order. All indexes below `limit`, whose only prime factors are 2 and 5, have
+    /// numbers of their own.
+    pub fn below(self, limit: u32, index: u32) -> u32
+        requires { 0 < limit }
+    {
+        let steps = u64::from(index).wrapping_mul(u64::from(self.step));
+        let place = steps.wrapping_add(u64::from(self.first));
+        (place % u64::from(limit)) as u32
+    }
+}
+
 /// A number that depends on all values that were added, in their order.
 #[derive(Drop, Default)]
 pub struct Digest {

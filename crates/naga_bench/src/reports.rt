@@ -3,6 +3,7 @@
 use crate::random::Random;
 use crate::totals::Totals;
 use naga_report::report::{Outcome, make_report};
+use naga_valid::OutOfMemory;
 use std::alloc::{AllocError, Global};
 
 /// Adds a number in decimal digits.
@@ -88,13 +89,12 @@ fn make_text(alloc: Global, count: u32, random: &mut Random) -> Result<String, A
 }
 
 /// Makes the report on a text.
-fn report(alloc: Global, text: &str, totals: &mut Totals) -> Result<(), AllocError> {
+fn report(alloc: Global, text: &str, totals: &mut Totals) -> Result<(), OutOfMemory> {
     let report = make_report(alloc, text.as_bytes())?;
     totals.add_text(report.text.as_str());
     match report.outcome {
         Outcome::Accepted => totals.accept(),
-        Outcome::Refused => totals.refuse("refused"),
-        Outcome::Unreadable => totals.refuse("unreadable"),
+        outcome => totals.refuse(alloc, &outcome)?,
     }
     Ok(())
 }
@@ -107,7 +107,7 @@ pub fn report_many(
     lines: u32,
     random: &mut Random,
     totals: &mut Totals,
-) -> Result<(), AllocError> {
+) -> Result<(), OutOfMemory> {
     for index in 0..count {
         let mut text = make_text(alloc, lines / 8, random)?;
         match index % 4 {

@@ -3,7 +3,7 @@
 ghost use Rattle.naga_typing.specs.FullTyping.{full_resolves};
 ghost use Rattle.naga_valid.specs.Accepted.{Accepts};
 ghost use Rattle.naga_valid.specs.State.{settings_of};
-ghost use Rattle.std.specs.Prelude.{◌≡◌, false, length, OnOk};
+ghost use Rattle.std.specs.Prelude.{◌≤◌, false, length};
 
 use crate::build::append;
 use crate::functions::add_functions;
@@ -12,9 +12,9 @@ use crate::totals::Totals;
 use crate::types::add_types;
 use crate::values::add_values;
 use naga_valid::{
-    Capabilities, Expression, Flags, FullTyping, FunctionInfo, FunctionTag, FunctionsError, Handle,
-    LayoutCompatibility, Literal, Module, ModuleInfo, OutOfMemory, TypeInfo, TypeResolution,
-    ValidationFlags, Validator,
+    Callable, Capabilities, Disalignment, Expression, Flags, FullTyping, FunctionInfo, FunctionTag,
+    FunctionsError, Handle, ImmediateCompatibility, ImmediateError, LayoutCompatibility, Literal,
+    Module, ModuleInfo, OutOfMemory, TypeInfo, TypeResolution, TypeTag, ValidationFlags, Validator,
 };
 use std::alloc::Global;
 
@@ -59,13 +59,44 @@ pub fn new_validator(alloc: Global) -> Validator<FullTyping> {
     Validator::with_typing(alloc, flags, Capabilities::default(), FullTyping)
 }
 
+/// Adds why a type has no layout, by its fields and not as text: so a digest takes little time beside a validation.
+fn add_disalignment(digest: &mut Digest, reason: Disalignment) {
+    match reason {
+        Disalignment::ArrayStride { stride, alignment } => {
+            digest.add_value(&[1, stride, alignment.get()])
+        }
+        Disalignment::StructSpan { span, alignment } => {
+            digest.add_value(&[2, span, alignment.get()])
+        }
+        Disalignment::MemberOffset {
+            index,
+            offset,
+            alignment,
+        } => digest.add_value(&[3, index, offset, alignment.get()]),
+        Disalignment::MemberOffsetAfterStruct {
+            index,
+            offset,
+            expected,
+        } => digest.add_value(&[4, index, offset, expected]),
+        Disalignment::UnsizedMember { index } => digest.add_value(&[5, index]),
+        Disalignment::NonHostShareable => digest.add(6),
+    }
+}
+
 fn add_layout(digest: &mut Digest, layout: LayoutCompatibility) {
     match layout {
-        Ok(alignment) => digest.add(u64::from(alignment.get())),
+        Ok(alignment) => digest.add_value(&[0, alignment.get()]),
         Err((ty, reason)) => {
-            digest.add(ty.index() as u64);
-            digest.add_value(&reason.name().len());
+            digest.add_value(&[1, ty.index() as u32]);
+            add_disalignment(digest, reason);
         }
+    }
+}
+
+fn add_immediates(digest: &mut Digest, compatibility: ImmediateCompatibility) {
+    match compatibility {
+        Ok(()) => digest.add(0),
+        Err(ImmediateError::InvalidScalar(scalar)) => digest.add_value(&scalar),
     }
 }
 
@@ -73,10 +104,11 @@ fn add_type_info(digest: &mut Digest, info: TypeInfo) {
     digest.add(u64::from(info.flags.bits()));
     add_layout(digest, info.uniform_layout);
     add_layout(digest, info.storage_layout);
+    add_immediates(digest, info.immediates_compatibility);
 }
 
-/// Adds what is known of all types of the module that was accepted last.
-pub fn add_type_infos(digest: &mut Digest, validator: &Validator<FullTyping>) {
+/// Adds what the validator knows of all types of the module that it validated last: of none if that was refused.
+fn add_type_infos(digest: &mut Digest, validator: &Validator<FullTyping>) {
     for index in 0..validator.type_count().min(1_000_000_000) {
         add_type_info(digest, validator.type_info(Handle::new(index as u32)));
     }
@@ -84,8 +116,11 @@ pub fn add_type_infos(digest: &mut Digest, validator: &Validator<FullTyping>) {
 
 fn add_resolution(digest: &mut Digest, resolution: &TypeResolution) {
     match resolution {
-        TypeResolution::Handle(ty) => digest.add(ty.index() as u64),
-        TypeResolution::Value(inner) => digest.add_value(inner),
+        TypeResolution::Handle(ty) => digest.add_value(&[0, ty.index() as u32]),
+        TypeResolution::Value(inner) => {
+            digest.add(1);
+            digest.add_value(inner);
+        }
     }
 }
 
@@ -96,44 +131,73 @@ fn add_function_info(digest: &mut Digest, info: &FunctionInfo) {
     }
 }
 
-/// Adds what is known of all functions.
-fn add_function_infos(digest: &mut Digest, module: &Module, info: &ModuleInfo)
-    requires { length info.now.lists.functions ≡ length «module».now.functions }
+/// Adds what is known of the first `count` functions.
+fn add_function_infos(digest: &mut Digest, count: usize, info: &ModuleInfo)
+    requires { count ≤ length info.now.lists.functions }
 {
-    for index in 0..module.functions.len() {
+    for index in 0..count.min(1_000_000_000) {
         let handle: Handle<FunctionTag> = Handle::new(index as u32);
         add_function_info(digest, &info[handle]);
     }
 }
 
-/// Validates all functions of an accepted module.
+/// Adds what is known of the types and the global expressions of an accepted module of `types` types.
+fn add_module_info(digest: &mut Digest, types: usize, info: &ModuleInfo)
+    requires { types ≤ length info.now.lists.type_flags }
+{
+    for index in 0..types.min(1_000_000_000) {
+        let handle: Handle<TypeTag> = Handle::new(index as u32);
+        digest.add(u64::from(info[handle].bits()));
+    }
+    for resolution in info.const_expression_types() {
+        add_resolution(digest, resolution);
+    }
+}
+
+/// Validates all functions of an accepted module, and adds what is known of those that are accepted.
 fn validate_functions(
     validator: &Validator<FullTyping>,
     module: &Module,
     info: &mut ModuleInfo,
+    digest: &mut Digest,
 ) -> Result<(), FunctionsError>
     requires { Accepts full_resolves «module».now (settings_of validator.now false)
         validator.now.infos info.old.lists }
-    ensures { OnOk result (length info.new.lists.functions ≡ length «module».now.functions) }
 {
-    validator.validate_functions(module, info, false)
+    let validated = validator.validate_functions(module, info, false);
+    let count = match &validated {
+        Err(
+            FunctionsError {
+                at: Callable::Function(refused),
+                ..
+            },
+        ) => refused.index(),
+        _ => module.functions.len(),
+    };
+    add_function_infos(digest, count, info);
+    validated
 }
 
 /// Validates a module with its functions, and adds all that is learnt.
-pub fn validate(validator: &mut Validator<FullTyping>, module: &Module, totals: &mut Totals) {
-    match validator.validate(module) {
+pub fn validate(
+    alloc: Global,
+    validator: &mut Validator<FullTyping>,
+    module: &Module,
+    totals: &mut Totals,
+) -> Result<(), OutOfMemory> {
+    let result = validator.validate(module);
+    add_type_infos(&mut totals.digest, validator);
+    match result {
         Ok(mut info) => {
-            add_type_infos(&mut totals.digest, validator);
-            match validate_functions(validator, module, &mut info) {
-                Ok(()) => {
-                    add_function_infos(&mut totals.digest, module, &info);
-                    totals.accept();
-                }
-                Err(error) => totals.refuse(error.source.name()),
+            add_module_info(&mut totals.digest, module.types.len(), &info);
+            match validate_functions(validator, module, &mut info, &mut totals.digest) {
+                Ok(()) => totals.accept(),
+                Err(error) => totals.refuse(alloc, &error)?,
             }
         }
-        Err(error) => totals.refuse(error.as_inner().name()),
+        Err(error) => totals.refuse(alloc, &error)?,
     }
+    Ok(())
 }
 
 /// Adds a literal to the global expressions, as a pass over a module may do.
@@ -154,10 +218,10 @@ fn validate_one(
 ) -> Result<(), OutOfMemory> {
     let mut module = Module::new(alloc);
     fill(alloc, &mut module, size, random)?;
-    validate(validator, &module, totals);
+    validate(alloc, validator, &module, totals)?;
     for _ in 0..3 {
         change(&mut module, random)?;
-        validate(validator, &module, totals);
+        validate(alloc, validator, &module, totals)?;
     }
     Ok(())
 }

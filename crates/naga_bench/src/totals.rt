@@ -1,6 +1,9 @@
 //! What a workload comes to.
 
 use crate::random::Digest;
+use naga_valid::OutOfMemory;
+use std::alloc::Global;
+use std::fmt;
 
 /// How many inputs were accepted and refused, and a digest of all results.
 #[derive(Drop, Default)]
@@ -15,9 +18,13 @@ impl Totals {
         self.accepted = self.accepted.wrapping_add(1);
     }
 
-    pub fn refuse(&mut self, name: &str) {
+    /// Counts an input that is refused, and adds all that its error says.
+    pub fn refuse<E: fmt::Debug>(&mut self, alloc: Global, error: &E) -> Result<(), OutOfMemory> {
         self.refused = self.refused.wrapping_add(1);
-        self.add_text(name);
+        let mut text = String::new(alloc);
+        write!(text, "{error:?}")?;
+        self.add_text(text.as_str());
+        Ok(())
     }
 
     /// Adds the bytes of a text to the digest.

@@ -120,6 +120,11 @@ impl Members {
         Ok(())
     }
 
+    /// Leaves bytes after the last member unused.
+    pub fn pad(&mut self, bytes: u32) {
+        self.end = self.end.saturating_add(bytes);
+    }
+
     /// Adds the struct of these members.
     pub fn finish(self, types: &mut UniqueArena) -> Result<Laid, OutOfMemory> {
         let size = rounded(self.end, self.alignment);
