@@ -18,7 +18,6 @@ mod layouts;
 mod library;
 mod module_infos;
 mod packing;
-mod refused_memory;
 mod run;
 mod slots;
 mod structs;
