@@ -3,7 +3,7 @@
 ghost use Rattle.std.specs.Prelude.{◌≡◌, ◌++◌, map, option_to_list};
 ghost use Rattle.std.specs.List.{flat_map};
 ghost use Rattle.naga_ir.specs.Operands.{present};
-ghost use Rattle.naga_ir.specs.steps.OwnReferences.{IsOwn};
+ghost use Rattle.naga_ir.specs.steps.OwnReferences.{IsListed, IsOwn};
 ghost use Rattle.naga_ir.specs.steps.StatementParts.{call_arguments, operands_of, references_of, target_of};
 ghost use Rattle.naga_ir.specs.steps.StatementParts as spec;
 ghost use Rattle.naga_ir.specs.Statements.{block_references, case_references, statement_references};
@@ -101,7 +101,7 @@ enum OwnReferences {
 /// What a statement refers to, the blocks in it aside. Nearly all statements refer to two things at most, and most of
 /// them emit expressions or store a value: for these no list is made in which most places are empty.
 #[inline]
-#[tactic(auto, unfolding(crate::specs::Statements::own_target, crate::specs::Statements::own_operands))]
+#[tactic(auto, unfolding(crate::specs::Statements::own_target, crate::specs::Statements::own_operands, crate::specs::steps::OwnReferences::IsListed))]
 fn own_references(statement: &Statement) -> OwnReferences
     ensures { IsOwn statement.now result }
 {
@@ -150,7 +150,8 @@ fn try_for_each_listed_reference<E, F: Fn(Reference) -> Result<(), E>>(
     statement: &Statement,
     check: &F,
 ) -> Result<(), E>
-    requires { F.IsAlwaysCallable check.now }
+    requires callable { F.IsAlwaysCallable check.now }
+    requires listed { IsListed (out-Statement statement.now) }
     ensures { ChecksEach (F.post check.now) (references_of statement.now) result }
 {
     if let Some(reference) = target(statement) {
@@ -191,13 +192,13 @@ fn try_for_each_operand<E, F: Fn(Reference) -> Result<(), E>>(
     Ok(())
 }
 
-/// The range that a statement emits, or the function that it calls.
-#[tactic(auto, unfolding(crate::specs::Statements::own_target))]
+/// The function that a statement calls.
+#[tactic(auto, unfolding(crate::specs::Statements::own_target, crate::specs::steps::OwnReferences::IsListed))]
 fn target(statement: &Statement) -> Option<Reference>
+    requires { IsListed (out-Statement statement.now) }
     ensures { option_to_list result ≡ target_of statement.now }
 {
     match statement {
-        Statement::Emit(range) => Some(Reference::Emit(*range)),
         Statement::Call { function, .. } => Some(Reference::Function(*function)),
         _ => None,
     }
@@ -218,18 +219,14 @@ fn arguments(statement: &Statement) -> &[Handle<ExpressionTag>]
 type Operands = [Option<Handle<ExpressionTag>>; 5];
 
 /// The expressions that a statement names, in order: of a call, those after the arguments.
-#[tactic(auto, unfolding(crate::specs::Statements::own_operands, crate::specs::steps::StatementParts::call_arguments, crate::specs::steps::StatementParts::memory_operands, crate::specs::steps::StatementParts::atomic_operands, crate::specs::steps::StatementParts::subgroup_operands))]
+#[tactic(auto, unfolding(crate::specs::Statements::own_operands, crate::specs::steps::StatementParts::call_arguments, crate::specs::steps::StatementParts::memory_operands, crate::specs::steps::StatementParts::atomic_operands, crate::specs::steps::StatementParts::subgroup_operands, crate::specs::steps::OwnReferences::IsListed))]
 fn other_operands(statement: &Statement) -> Operands
+    requires { IsListed (out-Statement statement.now) }
     ensures { call_arguments (out-Statement statement.now) ++ present result ≡ operands_of statement.now }
 {
     match statement {
-        Statement::If { condition, .. } => [Some(*condition), None, None, None, None],
-        Statement::Switch { selector, .. } => [Some(*selector), None, None, None, None],
-        Statement::Loop { break_if, .. } => [*break_if, None, None, None, None],
-        Statement::Return { value } => [*value, None, None, None, None],
         Statement::Call { result, .. } => [*result, None, None, None, None],
-        Statement::Store { .. }
-        | Statement::ImageStore { .. }
+        Statement::ImageStore { .. }
         | Statement::WorkGroupUniformLoad { .. }
         | Statement::CooperativeStore { .. } => memory_operands(statement),
         Statement::Atomic { .. } | Statement::ImageAtomic { .. } => atomic_operands(statement),
@@ -241,23 +238,16 @@ fn other_operands(statement: &Statement) -> Operands
         Statement::SubgroupBallot { .. }
         | Statement::SubgroupGather { .. }
         | Statement::SubgroupCollectiveOperation { .. } => subgroup_operands(statement),
-        Statement::Emit(_)
-        | Statement::Block(_)
-        | Statement::Break
-        | Statement::Continue
-        | Statement::Kill
-        | Statement::ControlBarrier
-        | Statement::MemoryBarrier => [None, None, None, None, None],
+        _ => unreachable!(),
     }
 }
 
-/// The expressions that a load or a store names.
+/// The expressions that a uniform load, an image store or a cooperative store names.
 #[tactic(auto, unfolding(crate::specs::steps::StatementParts::memory_operands))]
 fn memory_operands(statement: &Statement) -> Operands
     ensures { present result ≡ spec.memory_operands (out-Statement statement.now) }
 {
     match statement {
-        Statement::Store { pointer, value } => [Some(*pointer), Some(*value), None, None, None],
         Statement::ImageStore {
             image,
             coordinate,

@@ -2,7 +2,7 @@
 
 ghost use Rattle.std.specs.Prelude.{◌≡◌, [], ◌∷◌, ◌++◌, IfNone, option_to_list};
 ghost use Rattle.naga_ir.specs.Operands.{present};
-ghost use Rattle.naga_ir.specs.steps.OperandForms.{IsMath, ReadsImage, listed};
+ghost use Rattle.naga_ir.specs.steps.OperandForms.{ReadsImage, listed};
 ghost use Rattle.naga_ir.specs.References as spec;
 
 use crate::expression::{Expression, ImageQuery, SampleLevel};
@@ -16,7 +16,7 @@ const MOST_FIELDS: usize = 8;
 
 /// The operands that have fields of their own. Contracts see those that are left.
 ///
-/// They stand at the front, without the fields that have none: nearly all expressions have one or two, and a pass
+/// They stand at the front, without the fields that have none: nearly all expressions have two at most, and a pass
 /// over them looks at no more.
 #[derive(Drop)]
 struct Fields {
@@ -257,7 +257,13 @@ impl Expression {
                 accept,
                 reject,
             } => Fields::three(condition, accept, reject),
-            Self::Math { .. } => Fields::present(&self.math_operands()),
+            Self::Math {
+                arg,
+                arg1,
+                arg2,
+                arg3,
+                ..
+            } => Fields::present(&[Some(arg), arg1, arg2, arg3, None, None, None, None]),
             Self::ImageSample { .. } | Self::ImageLoad { .. } | Self::ImageQuery { .. } => {
                 Fields::present(&self.image_operands())
             }
@@ -265,27 +271,11 @@ impl Expression {
         }
     }
 
-    /// The operands in the fields of a mathematical function.
-    #[tactic(auto, unfolding(crate::specs::References::operands))]
-    fn math_operands(&self) -> [Option<Handle<ExpressionTag>>; 8]
-        ensures { IsMath self.now → present result ≡ spec.operands self.now }
-    {
-        match *self {
-            Self::Math {
-                arg,
-                arg1,
-                arg2,
-                arg3,
-                ..
-            } => both([Some(arg), arg1, arg2, arg3], [None, None, None, None]),
-            _ => both([None, None, None, None], [None, None, None, None]),
-        }
-    }
-
     /// The operands in the fields of a variant that reads an image.
     #[tactic(auto, unfolding(crate::specs::References::operands))]
     fn image_operands(&self) -> [Option<Handle<ExpressionTag>>; 8]
-        ensures { ReadsImage self.now → present result ≡ spec.operands self.now }
+        requires { ReadsImage self.now }
+        ensures { present result ≡ spec.operands self.now }
     {
         match *self {
             Self::ImageSample {
@@ -318,7 +308,7 @@ impl Expression {
                 [Some(image), query_operand(query), None, None],
                 [None, None, None, None],
             ),
-            _ => both([None, None, None, None], [None, None, None, None]),
+            _ => unreachable!(),
         }
     }
 }

@@ -1,7 +1,7 @@
 -- Where the variants of expressions keep their operands.
 use Rattle.std.specs.Prelude.{ℕ, List, []}
 use Rattle.naga_ir.specs.declared.expression.Expression.{Expression}
-use Rattle.naga_ir.specs.declared.expression.Expression.TheVariants.{Compose, ImageSample, ImageLoad, ImageQuery, Math}
+use Rattle.naga_ir.specs.declared.expression.Expression.TheVariants.{Compose, ImageSample, ImageLoad, ImageQuery}
 
 -- the operands that are kept in a list
 abbrev pub listed : Expression → List ℕ
@@ -14,8 +14,3 @@ ReadsImage (ImageSample image sampler gather coordinate array_index offset level
 ReadsImage (ImageLoad image coordinate array_index sample level) = Unit {0}
 ReadsImage (ImageQuery image query) = Unit {0}
 ReadsImage _ = ⊥
-
--- an expression is a mathematical function of values
-abbrev pub IsMath : Expression → Type 0
-IsMath (Math fun arg arg1 arg2 arg3) = Unit {0}
-IsMath _ = ⊥

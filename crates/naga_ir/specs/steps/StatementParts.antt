@@ -30,9 +30,8 @@ unfoldable pub call_arguments : Form → List ℕ
 call_arguments (one.Call function arguments result) = arguments
 call_arguments _ = []
 
--- the expressions that a load or a store names
+-- the expressions that a uniform load, an image store or a cooperative store names
 unfoldable pub memory_operands : Form → List ℕ
-memory_operands (one.Store pointer value) = pointer ∷ value ∷ []
 memory_operands (one.ImageStore image coordinate array_index value) = image ∷ coordinate ∷ option_to_list array_index ++ value ∷ []
 memory_operands (one.WorkGroupUniformLoad pointer result) = pointer ∷ result ∷ []
 memory_operands (one.CooperativeStore target pointer stride) = target ∷ pointer ∷ stride ∷ []
