@@ -180,6 +180,7 @@ impl Scope {
     }
 
     /// Whether an item may refer to all of these. `None` is a reference that it doesn't have.
+    #[inline(always)]
     fn check_all(&self, references: &[Option<Reference>]) -> Result<(), InvalidHandleError>
         ensures { ChecksEach IsResult (checks_in self.now (present references.now)) result }
     {
@@ -193,6 +194,7 @@ impl Scope {
 }
 
 /// Whether the type of an item exists, and its initialiser if it has one.
+#[inline(always)]
 fn check_valued(
     scope: &Scope,
     ty: Handle<TypeTag>,
