@@ -182,7 +182,7 @@ fn check_listed(
 
 /// Whether the operands of an expression precede it.
 ///
-/// Most variants check their own operands: the jump to the variant is all that a processor can't foresee. Of a loop
+/// Frequent variants check their own operands: the jump to the variant is all that a processor can't foresee. Of a loop
 /// over the operands it can't foresee the end either.
 #[inline(always)]
 #[tactic(auto, unfolding(naga_ir::specs::References::operands))]

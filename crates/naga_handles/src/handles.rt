@@ -124,8 +124,7 @@ impl Scope {
         }
     }
 
-    /// Whether an item may refer to this. Callers know the variant, so that inside of them its check is all that is
-    /// left.
+    /// Whether an item may refer to this. Most callers name the variant: inside of them its check is all that is left.
     #[inline(always)]
     fn check(&self, reference: Reference) -> Result<(), InvalidHandleError>
         ensures { IsResult (record {
@@ -142,23 +141,11 @@ impl Scope {
         }
     }
 
-    /// Whether an item may refer to this, as a bool.
-    #[inline(always)]
-    fn is_right(&self, reference: &Reference) -> bool
-        ensures { IsTrue result ↔ IsResult (record {
-          there = self.now.counts;
-          subject = of_function self.now.caller reference.now;
-          target = reference.now;
-        }) (Ok tt) }
-    {
-        self.check(*reference).is_ok()
-    }
-
     /// Whether an item may refer to this, and else the reference, of which `check` says why.
     ///
-    /// The result of `check` has room for an error of 40 bytes. It would be copied wherever it is handed on, also
-    /// where there is no error, and a processor waits for what it reads wider than it was written. Each block inside
-    /// another would take room for it too.
+    /// The result of `check` has room for a whole error. It would be copied wherever it is handed on, also where there
+    /// is no error, and a processor waits for what it reads wider than it was written. Each block inside another would
+    /// take room for it too.
     #[inline(always)]
     fn admit(&self, reference: Reference) -> Result<(), Reference>
         ensures { MatchResult result
@@ -173,7 +160,9 @@ impl Scope {
               target = reference;
             }) (Ok tt) → ⊥)) }
     {
-        if self.is_right(&reference) {
+        // Passed by value, the reference would be moved for the prover, and couldn't be returned.
+        let target = &reference;
+        if self.check(*target).is_ok() {
             return Ok(());
         }
         Err(reference)
