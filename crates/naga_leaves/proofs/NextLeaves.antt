@@ -5,7 +5,7 @@ use Rattle.std.proofs.lemmas.List.Elements.{All-nil}
 use Rattle.naga_arena.specs.Numbers.{largest_u32}
 use Rattle.naga_ir.specs.ItemReferences.{GlobalLists}
 use Rattle.naga_leaves.proofs.Places.{no_end}
-use Rattle.naga_leaves.proofs.Steps.{first_is, leaf_here, no_leaf_passed, past_none, same_start, unmoved_start}
+use Rattle.naga_leaves.proofs.Steps.{first_is, leaf_here, no_leaf_passed, past_none, same_start, then_same, unmoved_start}
 use Rattle.naga_leaves.specs.LeavesFrom.{HasNoneFrom, HasSameFrom, IsFirstLeaf}
 use Rattle.naga_leaves.specs.Cursor.{YieldsSame, IsAtEnd, IsCursor, IsNext, IsOverSame, elements_for, fuel, lists_under, start_of}
 use Rattle.naga_leaves.specs.Leaf.{bytes_of}
@@ -18,12 +18,6 @@ use Rattle.naga_leaves.specs.Places.{IsUnmoved, LeadsTo, further, itself, place_
 use Rattle.naga_typing.specs.Leaves.{Elements, LeafBytes, elements, leaf_at, moved}
 
 module _ (g : GlobalLists) (elements_of : Elements) (t : ℕ) (a b : List ℕ) (same : HasSameFrom g elements_of t a b) where
-  pub then_same : (c : List ℕ) → HasSameFrom g elements_of t b c → HasSameFrom g elements_of t a c
-  then_same c next = record {
-    into = λ q l h. next.into q l (same.into q l h);
-    back = λ q l h. same.back q l (next.back q l h);
-  }
-
   pub then_first : (path rest : List ℕ) (l : LeafBytes) → IsFirstLeaf g elements_of t b path rest l → IsFirstLeaf g elements_of t a path rest l
   then_first path rest l next = record {
     has = same.back path l next.has;

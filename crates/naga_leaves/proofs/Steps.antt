@@ -10,14 +10,14 @@ use Rattle.naga_ir.specs.Handles.{GlobalReferencesOk}
 use Rattle.naga_ir.specs.ItemReferences.{GlobalLists}
 use Rattle.naga_leaves.proofs.Order.{Extends, Past, extends_or_next, extends_or_past, from_below, from_extension, from_itself, from_lesser, past_from, past_next, to_extension}
 use Rattle.naga_leaves.proofs.Path.{moved_begins, moved_twice}
-use Rattle.naga_leaves.proofs.Places.{are_indexes, as_many, back, leaf_at_none, leaf_at_part, leaf_in_place, part_precedes, part_there}
-use Rattle.naga_leaves.proofs.Weights.{outer_more, entering, leaving, passing}
+use Rattle.naga_leaves.proofs.Places.{are_indexes, as_many, back, leaf_at_none, leaf_at_part, leaf_in_place, no_end, none_of_type_after, part_precedes, part_there, same_ends}
+use Rattle.naga_leaves.proofs.Weights.{outer_more, entering, later, leaving, passing}
 use Rattle.naga_leaves.specs.LeavesFrom.{HasLeafFrom, HasNoneFrom, HasSameFrom, IsFirstLeaf}
 use Rattle.naga_leaves.specs.Order.{IsAtOrAfter}
 use Rattle.naga_leaves.specs.declared.cursor.Place.{Place}
 use Rattle.naga_leaves.specs.declared.cursor.Step.{Step}
 use Rattle.naga_leaves.specs.declared.cursor.Step.TheVariants.{Leaf, Other, End}
-use Rattle.naga_leaves.specs.steps.Steps.{IsFollowing, IsTurned, Leaves, Steps}
+use Rattle.naga_leaves.specs.steps.Steps.{HasNoLeafBefore, IsFollowing, IsTurned, Leaves, Steps}
 use Rattle.naga_leaves.specs.declared.leaf.Part.{Part}
 use Rattle.naga_leaves.specs.Places.{IsEntered, IsLeft, IsPlace, IsUnmoved, LeadsTo, outer_left, further, part_left, part_of_type, place_left, place_start}
 use Rattle.naga_typing.specs.Leaves as spec
@@ -87,6 +87,14 @@ module _ (g : GlobalLists) (elements_of : Elements) (t : ℕ) where
     -- and at the whole nothing is left
     pub none_left : p ≡ [] → HasNoneFrom g elements_of t (p ++ n ∷ [])
     none_left e q l h = subst (λ p. Past p q) e (is_past q l h)
+
+-- the same leaves are left after one step and the next as after both
+pub then_same : (g : GlobalLists) (elements_of : Elements) (t : ℕ) (a b : List ℕ) → HasSameFrom g elements_of t a b
+    → (c : List ℕ) → HasSameFrom g elements_of t b c → HasSameFrom g elements_of t a c
+then_same g elements_of t a b same c next = record {
+  into = λ q l h. next.into q l (same.into q l h);
+  back = λ q l h. same.back q l (next.back q l h);
+}
 
 -- where no leaf is passed, the same are left
 pub no_leaf_passed : (g : GlobalLists) (elements_of : Elements) (t : ℕ) (a : List ℕ) → HasSameFrom g elements_of t a a
@@ -180,6 +188,62 @@ module _ (g : GlobalLists) (ok : GlobalReferencesOk g) (elements_of : Elements) 
       begins = begins;
     }
 
+    last_around : LeadsTo g elements_of before.ty (take n before.outer.items) (take n before.path.items) around × (last ≤ largest_u32)
+    last_around =
+        back g elements_of before.ty before.outer.items before.path.items before.part is.leads (take n before.outer.items) (take n before.path.items) around last outer_split path_split
+
+    -- the leaves of the parts around it, at an index and a path
+    in_around : (m : ℕ) (rest : List ℕ) → leaf_at g elements_of before.ty (take n before.path.items ++ m ∷ rest) ≡ option_map (moved around.first) (leaf_at g elements_of around.ty (m ∷ rest))
+    in_around m rest = leaf_in_place g elements_of before.ty (take n before.outer.items) (take n before.path.items) around last_around.0 (m ∷ rest)
+
+    has_no_leaf_before : (next : ℕ) → last + 1 ≤ next → next ≤ suc largest_u32
+        → HasSameFrom g elements_of before.ty (take n before.path.items ++ (last + 1) ∷ []) (take n before.path.items ++ next ∷ []) → HasNoLeafBefore g elements_of before next
+    has_no_leaf_before next from within same path i e =
+        let ends = same_ends (take n before.path.items) path last i (sym path_split ∙ e) in (
+          subst (λ i. i + 1 ≤ next) ends.1 from,
+          within,
+          subst (λ i. HasSameFrom g elements_of before.ty (path ++ (i + 1) ∷ []) (path ++ next ∷ [])) ends.1
+              (subst (λ p. HasSameFrom g elements_of before.ty (p ++ (last + 1) ∷ []) (p ++ next ∷ [])) ends.0 same),
+        )
+
+    -- no leaf follows if no index of 32 bits does
+    pub no_index_follows : largest_u32 ≤ last → HasNoLeafBefore g elements_of before (suc largest_u32)
+    no_index_follows most =
+        let within : last ≤ largest_u32 = last_around.1 in
+        let same : last + 1 ≡ suc largest_u32 = omega arith in
+        has_no_leaf_before (suc largest_u32) (omega arith) (omega arith)
+        (subst (λ k. HasSameFrom g elements_of before.ty (take n before.path.items ++ (last + 1) ∷ []) (take n before.path.items ++ k ∷ [])) same
+        (no_leaf_passed g elements_of before.ty (take n before.path.items ++ (last + 1) ∷ [])))
+
+    module _ (index : ℕ) (index_is : index ≡ last + 1) where
+      skips_to : (next : ℕ) → index ≤ next → next ≤ suc largest_u32
+          → HasSameFrom g elements_of before.ty (take n before.path.items ++ index ∷ []) (take n before.path.items ++ next ∷ []) → HasNoLeafBefore g elements_of before next
+      skips_to next from within same =
+          has_no_leaf_before next (omega arith) within (subst (λ k. HasSameFrom g elements_of before.ty (take n before.path.items ++ k ∷ []) (take n before.path.items ++ next ∷ [])) index_is same)
+
+      -- or if no part does
+      pub no_part_follows : part_of_type g elements_of around.ty index ≡ None → HasNoLeafBefore g elements_of before (suc largest_u32)
+      no_part_follows none =
+          let within : last ≤ largest_u32 = last_around.1 in
+          skips_to (suc largest_u32) (omega arith) (omega arith)
+          (past_rest g elements_of before.ty (take n before.path.items) index
+          (λ m rest from below. in_around m rest ∙ ap (option_map (moved around.first)) (leaf_at_none g elements_of around.ty m rest (none_of_type_after g elements_of around.ty index m none from)))
+          (suc largest_u32) (omega arith))
+
+      -- and none is in a part that begins past all numbers
+      pub far_part_follows : (child : spec.Part) → part_of_type g elements_of around.ty index ≡ Some child → largest_u64 < around.first + child.first → index ≤ largest_u32
+          → HasNoLeafBefore g elements_of before (index + 1)
+      far_part_follows child at far within =
+          skips_to (index + 1) (omega arith) (omega arith)
+          (past_far g elements_of before.ty (take n before.path.items) index
+          (λ rest. subst (λ (o : Option LeafBytes). IfSome o (λ leaf. largest_u64 < leaf.first))
+          (sym (in_around index rest ∙ ap (option_map (moved around.first)) (leaf_at_part g elements_of around.ty index rest child at) ∙ moved_twice around.first child.first (leaf_at g elements_of child.ty rest)))
+          (moved_begins (around.first + child.first) (leaf_at g elements_of child.ty rest) far)))
+
+  -- nothing is around the whole
+  pub nothing_around : (next : ℕ) → before.path.items ≡ [] → HasNoLeafBefore g elements_of before next
+  nothing_around next empty path i e = absurd (no_end path i (sym empty ∙ e))
+
   module _ (none : (m : ℕ) → before.next ≤ m → m ≤ largest_u32 → part_of_type g elements_of before.part.ty m ≡ None) where
     no_leaf : (m : ℕ) (rest : List ℕ) → before.next ≤ m → m ≤ largest_u32 → leaf_at g elements_of before.ty (before.path.items ++ m ∷ rest) ≡ None
     no_leaf m rest from within =
@@ -192,19 +256,21 @@ module _ (g : GlobalLists) (ok : GlobalReferencesOk g) (elements_of : Elements) 
     pub at_end : before.path.items ≡ [] → HasNoneFrom g elements_of before.ty (place_start before)
     at_end e = none_left g elements_of before.ty before.path.items before.next no_leaf e
 
-    module _ (now : Place) (i : ℕ) (left : IsLeft before now i) where
+    module _ (now : Place) (i next : ℕ) (left : IsLeft before now i next) (skips : HasNoLeafBefore g elements_of before next) where
       pub left_same : HasSameFrom g elements_of before.ty (place_start before) (place_start now)
       left_same =
-          subst (HasSameFrom g elements_of before.ty (place_start before)) (sym (same_start now.path.items now.path.items now.next (i + 1) refl left.next))
+          subst (HasSameFrom g elements_of before.ty (place_start before)) (sym (same_start now.path.items now.path.items now.next next refl left.next_is))
+          (then_same g elements_of before.ty (place_start before) (now.path.items ++ (i + 1) ∷ [])
           (past_part g elements_of before.ty before.path.items before.next no_leaf now.path.items i left.path)
+          (now.path.items ++ next ∷ []) (skips now.path.items i left.path).2)
 
       before_outer : LeadsTo g elements_of before.ty now.outer.items now.path.items now.part × (i ≤ largest_u32)
       before_outer = back g elements_of before.ty before.outer.items before.path.items before.part is.leads now.outer.items now.path.items now.part i left.outer left.path
 
       pub left_place : IsPlace g elements_of now
       left_place =
-          place_by g elements_of now before.ty now.outer.items now.path.items now.part (i + 1) left.ty refl refl refl left.next is.exists before_outer.0
-          (let within : i ≤ largest_u32 = before_outer.1 in omega arith)
+          place_by g elements_of now before.ty now.outer.items now.path.items now.part next left.ty refl refl refl left.next_is is.exists before_outer.0
+          (skips now.path.items i left.path).1
 
       pub left_fewer : place_left now < place_left before
       left_fewer =
@@ -212,12 +278,13 @@ module _ (g : GlobalLists) (ok : GlobalReferencesOk g) (elements_of : Elements) 
           let more : outer_left (now.outer.items ++ now.part ∷ []) (now.path.items ++ i ∷ []) ≡ outer_left now.outer.items now.path.items + part_left now.part.ty (i + 1) = outer_more now.outer.items now.path.items now.part i many in
           let old : place_left before ≡ outer_left (now.outer.items ++ now.part ∷ []) (now.path.items ++ i ∷ []) + part_left before.part.ty before.next =
           left_by g elements_of before before.ty (now.outer.items ++ now.part ∷ []) (now.path.items ++ i ∷ []) before.part before.next refl left.outer left.path refl refl in
-          let new : place_left now ≡ outer_left now.outer.items now.path.items + part_left now.part.ty (i + 1) =
-          left_by g elements_of now before.ty now.outer.items now.path.items now.part (i + 1) left.ty refl refl refl left.next in
-          sums (place_left before) (place_left now) _ _ _ old new more (leaving before.part.ty before.next is.next)
+          let new : place_left now ≡ outer_left now.outer.items now.path.items + part_left now.part.ty next =
+          left_by g elements_of now before.ty now.outer.items now.path.items now.part next left.ty refl refl refl left.next_is in
+          let less : part_left now.part.ty next ≤ part_left now.part.ty (i + 1) = later now.part.ty (i + 1) next (skips now.path.items i left.path).0 in
+          sums (place_left before) (place_left now) _ _ _ _ _ old new more less (leaving before.part.ty before.next is.next)
         where
-          sums : (old new outer all inner : ℕ) → old ≡ outer + inner → new ≡ all → outer ≡ all → 0 < inner → new < old
-          sums old new outer all inner a b e h = omega arith
+          sums : (old new outer around a b inner : ℕ) → old ≡ outer + inner → new ≡ around + a → outer ≡ around + b → a ≤ b → 0 < inner → new < old
+          sums old new outer around a b inner e f h i k = omega arith
 
     -- the part that follows takes its place
     module _ (now : Place) (index : ℕ) (part : Part) (follows : IsFollowing g elements_of before index part) (turned : IsTurned before now index part) where
@@ -334,13 +401,14 @@ module _ (g : GlobalLists) (elements_of : Elements) (before now : Place) (same :
 
 module _ (g : GlobalLists) (ok : GlobalReferencesOk g) (elements_of : Elements) (before now : Place) (is : IsPlace g elements_of before)
     (none : (m : ℕ) → before.next ≤ m → m ≤ largest_u32 → part_of_type g elements_of before.part.ty m ≡ None) where
-  -- to leave a part without more parts is a step
-  pub left_is_place : (s : Step) → Leaves before now s → IsPlace g elements_of now
-  left_is_place (Leaf leaf) h = absurd h
-  left_is_place Other h = left_place g ok elements_of before is none now h.0 h.1
-  left_is_place End h = unmoved_place g elements_of before now h.1 is
+  module _ (next : ℕ) (skips : HasNoLeafBefore g elements_of before next) where
+    -- to leave a part without more parts is a step
+    pub left_is_place : (s : Step) → Leaves before now next s → IsPlace g elements_of now
+    left_is_place (Leaf leaf) h = absurd h
+    left_is_place Other h = left_place g ok elements_of before is none now h.0 next h.1 skips
+    left_is_place End h = unmoved_place g elements_of before now h.1 is
 
-  pub left_steps : (s : Step) → Leaves before now s → Steps g elements_of before now s
-  left_steps (Leaf leaf) h = absurd h
-  left_steps Other h = (left_same g ok elements_of before is none now h.0 h.1, left_fewer g ok elements_of before is none now h.0 h.1)
-  left_steps End h = (at_end g ok elements_of before is none h.0, h.1)
+    pub left_steps : (s : Step) → Leaves before now next s → Steps g elements_of before now s
+    left_steps (Leaf leaf) h = absurd h
+    left_steps Other h = (left_same g ok elements_of before is none now h.0 next h.1 skips, left_fewer g ok elements_of before is none now h.0 next h.1 skips)
+    left_steps End h = (at_end g ok elements_of before is none h.0, h.1)

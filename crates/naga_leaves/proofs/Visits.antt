@@ -7,8 +7,8 @@ use Rattle.naga_ir.specs.Handles.{GlobalReferencesOk}
 use Rattle.naga_ir.specs.ItemReferences.{GlobalLists}
 use Rattle.naga_ir.specs.declared.types.TypeInner.{TypeInner}
 use Rattle.naga_ir.specs.declared.types.TypeInner.TheVariants.{Array, Struct}
-use Rattle.naga_leaves.proofs.NextLeaves.{then_first, then_same}
-use Rattle.naga_leaves.proofs.Steps.{Arrives, first_is, indexes_here, leaf_here, left_by, past_none, place_by, rest_same, same_start}
+use Rattle.naga_leaves.proofs.NextLeaves.{then_first}
+use Rattle.naga_leaves.proofs.Steps.{Arrives, first_is, indexes_here, leaf_here, left_by, past_none, place_by, rest_same, same_start, then_same}
 use Rattle.naga_leaves.proofs.Weights.{later}
 use Rattle.naga_leaves.specs.Leaf.{bytes_of}
 use Rattle.naga_leaves.specs.LeavesFrom.{HasSameFrom, IsFirstLeaf}

@@ -63,9 +63,9 @@ pub record IsUnmoved (before now : Place) : Type 0 where
   pub outer : now.outer.items ≡ before.outer.items
   pub path : now.path.items ≡ before.path.items
 
--- a place went back to the part around its part, to the index after the index of its path
-pub record IsLeft (before now : Place) (index : ℕ) : Type 0 where
+-- a place went back from the part at `index` of the part around it to that part, and there to the index `next`
+pub record IsLeft (before now : Place) (index next : ℕ) : Type 0 where
   pub ty : now.ty ≡ before.ty
-  pub next : now.next ≡ index + 1
+  pub next_is : now.next ≡ next
   pub outer : before.outer.items ≡ now.outer.items ++ now.part ∷ []
   pub path : before.path.items ≡ now.path.items ++ index ∷ []

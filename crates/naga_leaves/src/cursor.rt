@@ -1,6 +1,6 @@
 //! All leaves of a type, one after another.
 
-ghost use Rattle.std.specs.Prelude.{◌≡◌, ◌+◌, ◌<◌, [], ◌≤◌, length as length_of, IfErr, IfOk, IfSome, MatchOption, OnErr, OnOk, None, Some, option_map, true};
+ghost use Rattle.std.specs.Prelude.{◌≡◌, ◌+◌, ◌<◌, [], ◌≤◌, suc, length as length_of, IfErr, IfOk, IfSome, MatchOption, OnErr, OnOk, None, Some, option_map, true};
 ghost use Rattle.naga_arena.specs.Numbers.{largest_u32};
 ghost use Rattle.naga_ir.specs.Handles.{GlobalReferencesOk};
 ghost use Rattle.naga_ir.specs.ItemReferences.{global_lists};
@@ -9,7 +9,7 @@ ghost use Rattle.naga_leaves.specs.Cursor.{YieldsAll, YieldsSame, IsAtEnd, IsCur
 ghost use Rattle.naga_leaves.specs.steps.NextLeaf.{ComesOn};
 ghost use Rattle.naga_leaves.specs.steps.Parts.{part_of};
 ghost use Rattle.naga_leaves.specs.Places.{IsEntered, IsPlace, IsUnmoved, part_of_type};
-ghost use Rattle.naga_leaves.specs.steps.Steps.{HasNoPartFrom, IsFollowing, IsTurned, IsVisited, Leaves as LeavesPart, Steps};
+ghost use Rattle.naga_leaves.specs.steps.Steps.{HasNoLeafBefore, HasNoPartFrom, IsFollowing, IsTurned, IsVisited, Leaves as LeavesPart, Steps};
 ghost use Rattle.naga_typing.specs.Context.{lists_of};
 ghost use Rattle.naga_typing.specs.Leaves.{Elements, elements, leaf_at, moved};
 
@@ -20,6 +20,9 @@ use naga_ir::memory::OutOfMemory;
 use naga_ir::tags::TypeTag;
 use naga_typing::context::{GlobalCtx, to_ctx};
 use std::alloc::Global;
+
+/// An index past those of all elements and members, which are `u32`s.
+const PAST_PARTS: u64 = u32::MAX as u64 + 1;
 
 /// What a step comes to.
 #[derive(Clone, Copy)]
@@ -40,7 +43,7 @@ struct Place {
     /// The part to which the path leads, with its first byte from the start of the whole value.
     part: Part,
     /// The index of the element or member of that part to visit next: past `u32::MAX` in a leaf that
-    /// was visited, which has none.
+    /// was visited, and in a part that has no more.
     next: u64,
     /// The parts around it, from the whole value on.
     outer: Vec<Part>,
@@ -51,8 +54,7 @@ struct Place {
 impl Place {
     /// The part to which the path leads, if it is a leaf.
     fn leaf(&self, gctx: GlobalCtx<'_>) -> Option<Leaf>
-        requires exists { self.now.part.ty < length_of gctx.types.now }
-        requires references { GlobalReferencesOk (lists_of gctx) }
+        requires { self.now.part.ty < length_of gctx.types.now }
         ensures leaf { (e : Elements) → option_map bytes_of result
             ≡ option_map (moved self.now.part.first) (leaf_at (lists_of gctx.entry) e self.now.part.ty []) }
         ensures begins { IfSome result (λ leaf. leaf.first ≡ self.now.part.first) }
@@ -73,8 +75,8 @@ impl Place {
             × (part_of_type (lists_of gctx.entry) (elements (lists_of gctx.entry) length) self.now.part.ty r.0
             ≡ Some (part_of r.1))) }
     {
-        // No part has an index past all `u32`s, so the type of a visited leaf isn't looked up.
-        if self.next > u64::from(u32::MAX) {
+        // No part has an index past all `u32`s, so the type of a part without more isn't looked up.
+        if self.next >= PAST_PARTS {
             return None;
         }
         let index = self.next as u32;
@@ -98,18 +100,18 @@ impl Place {
         Ok(())
     }
 
-    /// Goes back to the part around the part, and to what follows there.
-    fn leave(&mut self) -> Step
+    /// Goes back to the part around the part, and there to the index `next`.
+    #[inline]
+    fn leave(&mut self, next: u64) -> Step
         requires { length_of self.old.outer.items ≡ length_of self.old.path.items }
-        ensures { LeavesPart self.old self.new result }
+        ensures { LeavesPart self.old self.new next result }
     {
         let Some(part) = self.outer.pop() else {
             return Step::End;
         };
-        if let Some(index) = self.path.pop() {
-            self.part = part;
-            self.next = u64::from(index) + 1;
-        }
+        self.path.pop();
+        self.part = part;
+        self.next = next;
         Step::Other
     }
 
@@ -125,35 +127,39 @@ impl Place {
         self.next = 0;
     }
 
-    /// The element or member that follows the part in the part around it, with its index: `None` if
-    /// there is none, or if it begins past `u64::MAX`.
+    /// The index of the element or member that follows the part in the part around it, if there is
+    /// one, and this element or member itself unless it begins past `u64::MAX`.
     #[inline]
-    fn following(&self, length: u32, gctx: GlobalCtx<'_>) -> Option<(u32, Part)>
+    fn following(&self, length: u32, gctx: GlobalCtx<'_>) -> Option<(u32, Option<Part>)>
         requires place { IsPlace (lists_of gctx) (elements (lists_of gctx) length) self.now }
         requires references { GlobalReferencesOk (lists_of gctx) }
-        ensures { IfSome result (λ r. IsFollowing (lists_of gctx.entry) (elements (lists_of gctx.entry) length) self.now
-            r.0 r.1) }
+        ensures { MatchOption result
+            (HasNoLeafBefore (lists_of gctx.entry) (elements (lists_of gctx.entry) length) self.now (suc largest_u32))
+            (λ r. MatchOption r.1
+            (HasNoLeafBefore (lists_of gctx.entry) (elements (lists_of gctx.entry) length) self.now (r.0 + 1))
+            (λ part. IsFollowing (lists_of gctx.entry) (elements (lists_of gctx.entry) length) self.now r.0 part)) }
     {
         let last = self.path.len().checked_sub(1)?;
         let around = self.outer[last];
         let index = self.path[last].checked_add(1)?;
         let part = part_at(&gctx.types[around.ty].inner, index, length, gctx)?;
-        let first = around.first.checked_add(part.first)?;
-        Some((index, Part { ty: part.ty, first }))
+        let Some(first) = around.first.checked_add(part.first) else {
+            return Some((index, None));
+        };
+        Some((index, Some(Part { ty: part.ty, first })))
     }
 
     /// Visits the part, to which a step has led: the step comes to a leaf if the part is one.
     #[inline]
     fn visit(&mut self, gctx: GlobalCtx<'_>) -> Step
-        requires exists { self.old.part.ty < length_of gctx.types.now }
-        requires references { GlobalReferencesOk (lists_of gctx) }
+        requires { self.old.part.ty < length_of gctx.types.now }
         ensures { (e : Elements) → IsVisited (lists_of gctx.entry) e self.old self.new result }
     {
         let Some(leaf) = self.leaf(gctx) else {
             return Step::Other;
         };
         // A leaf has no parts, so the next step may pass it without a look at its type.
-        self.next = u64::from(u32::MAX) + 1;
+        self.next = PAST_PARTS;
         Step::Leaf(leaf)
     }
 
@@ -168,12 +174,17 @@ impl Place {
         ensures ty { self.new.ty ≡ self.old.ty }
         ensures steps { Steps (lists_of gctx.entry) (elements (lists_of gctx.entry) length) self.old self.new result }
     {
-        // What follows has the same parts around it, so a step to it needs no memory.
-        let Some((index, part)) = self.following(length, gctx) else {
-            return self.leave();
-        };
-        self.turn(index, part);
-        self.visit(gctx)
+        match self.following(length, gctx) {
+            // What follows has the same parts around it, so a step to it needs no memory.
+            Some((index, Some(part))) => {
+                self.turn(index, part);
+                self.visit(gctx)
+            }
+            // All leaves of a part that begins past `u64::MAX` are left out, so it isn't entered.
+            Some((index, None)) => self.leave(u64::from(index) + 1),
+            // The part around has no more, so the next step passes it without a look at its type.
+            None => self.leave(PAST_PARTS),
+        }
     }
 
     /// Visits the next element or member of the part, or passes the part if it has no more.

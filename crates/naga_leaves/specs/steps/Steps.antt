@@ -39,6 +39,11 @@ pub record IsFollowing (g : GlobalLists) (elements_of : Elements) (place : Place
   pub part_is : part ≡ record { ty = child.ty; first = around.first + child.first }
   pub begins : part.first ≤ largest_u64
 
+-- in the part around the part of `place`, there is no leaf between the part of `place` and the part at the index `next`
+abbrev pub HasNoLeafBefore : GlobalLists → Elements → Place → ℕ → Type 0
+HasNoLeafBefore g elements_of place next = (path : List ℕ) (last : ℕ) → place.path.items ≡ path ++ last ∷ []
+    → (last + 1 ≤ next) × (next ≤ suc largest_u32) × HasSameFrom g elements_of place.ty (path ++ (last + 1) ∷ []) (path ++ next ∷ [])
+
 -- the leaf that the part of a place is
 abbrev pub leaf_of_part : GlobalLists → Elements → Place → Option LeafBytes
 leaf_of_part g elements_of place = option_map (moved place.part.first) (leaf_at g elements_of place.part.ty [])
@@ -57,11 +62,11 @@ pub record IsVisited (g : GlobalLists) (elements_of : Elements) (before now : Pl
   pub path : now.path.items ≡ before.path.items
   pub visits : Visits g elements_of before now step
 
--- a part was left, or the whole has ended
-abbrev pub Leaves : Place → Place → Step → Type 0
-Leaves before now (Leaf leaf) = ⊥
-Leaves before now Other = (index : ℕ) × IsLeft before now index
-Leaves before now End = (before.path.items ≡ []) × IsUnmoved before now
+-- a part was left for the index `next` of the part around it, or the whole has ended
+abbrev pub Leaves : Place → Place → ℕ → Step → Type 0
+Leaves before now next (Leaf leaf) = ⊥
+Leaves before now next Other = (index : ℕ) × IsLeft before now index next
+Leaves before now next End = (before.path.items ≡ []) × IsUnmoved before now
 
 -- a step came to the next leaf, or past no leaf, or there is no leaf any more
 abbrev pub Steps : GlobalLists → Elements → Place → Place → Step → Type 0

@@ -25,8 +25,8 @@ returns-in_default-checked_add-clause-ok c =
 pub returns-in_err-enter-clause-place : goal.returns-in_err-enter-clause-place
 returns-in_err-enter-clause-place c = unmoved_place _ _ c.args.self.now c.enter.new.self c.in_err-enter.ensures.err c.requires.place
 
-pub visit-requires-clause-exists : goal.visit-requires-clause-exists
-visit-requires-clause-exists c =
+pub visit-requires : goal.visit-requires
+visit-requires c =
     let first : c.in-Some-checked_add.first ≡ c.args.self.now.part.first + c.in-Some.part.first = search rules in
     let arrives : Arrives (lists_of c.args.gctx) (elements (lists_of c.args.gctx) c.args.length) c.args.self.now c.enter.new.self =
     entered_arrives (lists_of c.args.gctx) c.requires.references (elements (lists_of c.args.gctx) c.args.length) c.args.self.now c.requires.place c.in-Some.index (part_of c.in-Some.part) c.in-Some.ensures.0 c.in-Some.ensures.1 c.in-Some.ensures.2 c.enter.new.self _ c.in_ok-enter.ensures.ok (part_by c.in-Some.part.ty _ _ first) in
