@@ -365,7 +365,8 @@ impl StructType<'_> {
     /// What the struct may be used for, by what all its members may be used for.
     fn flags(&self, common: &Common, sources: &Sources) -> TypeFlags
         requires known { MembersKnown self.now }
-        requires common { common.now.flags ≡ record { 0 = rule.common_flags (surroundings_of self.now) self.now.members.now } }
+        requires common { common.now.flags
+            ≡ record { 0 = rule.common_flags (surroundings_of self.now) self.now.members.now } }
         requires sources { sources.now ≡ sources_of self.now.members.now }
         ensures { result ≡ record { 0 = rule.struct_flags (surroundings_of self.now) self.now.members.now } }
     {
@@ -427,12 +428,16 @@ impl StructType<'_> {
     }
 
     /// How many members, from the first on, have one alignment in both spaces and begin at a multiple of
-    /// it, and the greatest alignment of these.
+    /// it, and the greatest alignment of these. None are counted if the span isn't aligned.
     fn members_alike(&self) -> (usize, Alignment)
         requires { MembersKnown self.now }
         ensures uniform { AreLaidOut Uniform self.now result.0 result.1 }
         ensures storage { AreLaidOut Storage self.now result.0 result.1 }
     {
+        // With such a span the struct has no layout in either space, so nothing asks about its members.
+        if self.check_span().is_err() {
+            return (0, Alignment::ONE);
+        }
         let mut greatest = Alignment::ONE;
         for index in 0..self.members.len() {
             let member = &self.members[index];
@@ -453,7 +458,8 @@ impl StructType<'_> {
         requires { MembersKnown self.now }
         ensures flags { result.flags
             ≡ record { 0 = rule.common_flags (surroundings_of self.now) self.now.members.now } }
-        ensures immediates { result.immediates ≡ rule.struct_immediates (surroundings_of self.now) self.now.members.now }
+        ensures immediates { result.immediates
+            ≡ rule.struct_immediates (surroundings_of self.now) self.now.members.now }
         ensures uniform { AreLaidOut Uniform self.now result.alike result.alignment }
         ensures storage { AreLaidOut Storage self.now result.alike result.alignment }
     {
@@ -578,7 +584,8 @@ impl StructType<'_> {
     /// The layout in the uniform address space (WGSL "Address Space Layout Constraints").
     fn uniform_layout(&self, common: &Common) -> LayoutCompatibility
         requires known { MembersKnown self.now }
-        requires flags { common.now.flags ≡ record { 0 = rule.common_flags (surroundings_of self.now) self.now.members.now } }
+        requires flags { common.now.flags
+            ≡ record { 0 = rule.common_flags (surroundings_of self.now) self.now.members.now } }
         requires alike { AreLaidOut Uniform self.now common.now.alike common.now.alignment }
         ensures { result ≡ layouts.uniform_layout_of (surroundings_of self.now) self.now.handle self.now.members.now
             self.now.span }
