@@ -44,7 +44,7 @@ use std::alloc::Global;
 /// `NotResolvable` are arguments and local variables, as the function isn't given; cooperative loads,
 /// whose expression doesn't hold the size of the matrix; texels of storage images, whose format is a
 /// number without meaning here; results of ray queries in a module without the special type; and
-/// results of functions without one. It takes no memory.
+/// results of functions without one. `resolve` takes no memory, and `push_type` only for the list.
 ///
 /// It goes as naga's typifier (`proc/typifier.rs`) does. Mathematical functions are those of
 /// `PlainTyping`.

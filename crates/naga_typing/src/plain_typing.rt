@@ -25,7 +25,7 @@ use std::alloc::Global;
 /// arguments of mathematical functions: the type of a sum is the type of its left operand, whatever the
 /// right one is. Operands from which no type follows are `IncompatibleOperands`, and so are arguments
 /// that a mathematical function doesn't take. Loads, variables, arguments, images, rays, calls and the
-/// results of statements are `NotResolvable`. It takes no memory.
+/// results of statements are `NotResolvable`. `resolve` takes no memory, and `push_type` only for the list.
 ///
 /// Each mathematical function has one row of types (WGSL "Numeric Built-in Functions" and those after
 /// it), of scalars of any width.

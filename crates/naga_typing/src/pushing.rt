@@ -1,9 +1,10 @@
-//! The types of the most frequent variants of expressions, added to the types before them where they are resolved.
+//! The types of the most frequent variants of expressions, added to the list of types where they are resolved.
 //!
-//! A type as a result takes 56 bytes. They are written by their parts, and a processor waits where they are read in
-//! wider pieces as the result is handed on. So these functions write a type once, where it stays. What they don't
-//! resolve themselves they leave to the functions of `FullTyping`, whose contracts give the same types. Each variant
-//! of type is written by a function out of line: inlined, the ends of all arms would be merged into one, which copies.
+//! A `TypeResolution` takes 56 bytes. A function that returns one writes its fields one by one, and a processor waits
+//! if they are then copied in wider pieces. So the functions of this file write a type once, into the list. A type
+//! that they don't resolve themselves they take from the functions of full_typing.rt and plain_typing.rt, whose
+//! contracts give the same types. A type of each variant is added by a function that isn't inlined: otherwise the
+//! compiler merges the ends of all arms of a match into one, which copies.
 
 ghost use Rattle.std.specs.Prelude.{◌≡◌, ◌<◌, All, Ok, OnErr, Some, length, slice_get};
 ghost use Rattle.naga_ir.specs.ItemReferences.{global_lists};

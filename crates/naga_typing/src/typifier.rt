@@ -143,16 +143,15 @@ fn compare_types_inner(lhs: &TypeResolution, rhs: &TypeResolution, types: &Uniqu
     let right = rhs.inner_with(types);
     // WGSL tells structs apart by their declarations, even if their members are equal;
     // a struct that is given as a value has none.
-    match (is_struct(left), is_struct(right)) {
-        (true, true) => lhs.handle().is_some() && lhs.handle() == rhs.handle(),
-        (false, false) => are_equivalent(left, right, types),
-        (true, false) | (false, true) => false,
+    if is_struct(left) || is_struct(right) {
+        return false;
     }
+    are_equivalent(left, right, types)
 }
 
 /// Whether two types are given by handles that are equal.
 fn are_one_handle(lhs: &TypeResolution, rhs: &TypeResolution) -> bool
-    ensures { IsTrue result → AreOneHandle lhs.now rhs.now }
+    ensures { IsTrue result ↔ AreOneHandle lhs.now rhs.now }
 {
     match (lhs, rhs) {
         (TypeResolution::Handle(left), TypeResolution::Handle(right)) => left == right,

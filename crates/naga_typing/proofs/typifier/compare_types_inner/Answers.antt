@@ -10,4 +10,4 @@ pub are_equivalent-requires-clause-right_exists : goal.are_equivalent-requires-c
 are_equivalent-requires-clause-right_exists c = parts_exist c.args.types.now _ _ c.requires.parts_exist c.requires.rhs_exists c.inner_with-right.ensures
 
 pub returns-then-are_one_handle : goal.returns-then-are_one_handle
-returns-then-are_one_handle c = (λ _. one_handle_is_same c.args.types.now c.args.lhs.now c.args.rhs.now _ c.inner_with-left.ensures (c.are_one_handle.ensures c.if-are_one_handle.true), λ _. refl)
+returns-then-are_one_handle c = (λ _. one_handle_is_same c.args.types.now c.args.lhs.now c.args.rhs.now _ c.inner_with-left.ensures (c.are_one_handle.ensures.0 c.if-are_one_handle.true), λ _. refl)
