@@ -39,10 +39,11 @@ before_line (b ∷ word) text first others in' h =
     slice_split-cons_no (λ b. b == line_feed) b (word ++ text) (All-head IsIn b word in')
     ∙ ap (onto_first b) (before_line word text first others (All-tail IsIn b word in') h)
 
--- the bytes of a word part neither words nor lines
+-- no byte of a word parts words
 no_space : (word : List ℕ) → All IsInWord word → All (λ b. (b == space) ≡ false) word
 no_space word in' = All-weaker IsInWord (λ b. (b == space) ≡ false) (λ b h. h.0) word in'
 
+-- no byte of a word parts lines
 no_feed : (word : List ℕ) → All IsInWord word → All (λ b. (b == line_feed) ≡ false) word
 no_feed word in' = All-weaker IsInWord (λ b. (b == line_feed) ≡ false) (λ b h. h.1) word in'
 
@@ -77,10 +78,10 @@ ends_text text word in' whole =
       lines ∙ ap (λ l. l ∷ []) (sym line),
     )
 
--- one word more, of words to which others are still to come
+-- words that were added are the whole with those that are still to come, after one word more too
 pub one_word_more : (now before whole tail : List (List ℕ)) (word : List ℕ) (words : List (List ℕ)) → now ≡ before ++ word ∷ [] → words ≡ word ∷ tail → before ++ words ≡ whole → now ++ tail ≡ whole
 one_word_more now before whole tail word words pushed here h = ap (λ l. l ++ tail) pushed ∙ append_assoc before (word ∷ []) tail ∙ ap (λ l. before ++ l) (sym here) ∙ h
 
--- the last word
+-- words that were added are the whole after the last word
 pub last_word : (now before whole : List (List ℕ)) (word : List ℕ) (words : List (List ℕ)) → now ≡ before ++ word ∷ [] → words ≡ word ∷ [] → before ++ words ≡ whole → now ≡ whole
 last_word now before whole word words pushed here h = pushed ∙ ap (λ l. before ++ l) (sym here) ∙ h

@@ -40,7 +40,7 @@ pub fn number_up_to(word: &[u8], most: u64) -> Option<u64>
         let value = short_value(word)?;
         return if value <= most { Some(value) } else { None };
     }
-    // Only 20 digits may write a number of more than 64 bits.
+    // A word of 20 digits may write a number of more than 64 bits.
     let mut value = 0u128;
     for byte in word {
         if !byte.is_ascii_digit() {

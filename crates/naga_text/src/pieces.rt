@@ -8,7 +8,7 @@ ghost use Rattle.std.specs.Prelude.{◌≡◌, ◌==◌, ◌<◌, ◌⊎◌, ◌
 
 use std::alloc::AllocError;
 
-/// The bytes before the first separator, and those after it if there is one. Texts are read piece by piece, so that
+/// The bytes before the first separator, and those after it if there is one. A caller goes on with the latter, so that
 /// no list of all pieces is made.
 #[inline]
 pub fn split_first(bytes: &[u8], separator: u8) -> (&[u8], Option<&[u8]>)

@@ -230,8 +230,8 @@ fn has_content(text: &[u8]) -> bool
 }
 
 /// Reads the first line of a text, and returns whether it could be read, and the bytes after that line's end if
-/// another line follows. What `words` has is replaced by the words of the line: all lines have their words in the same
-/// memory.
+/// another line follows. The words of a line that has content replace what `words` has: all lines have their words in
+/// the same memory.
 fn read_next<'a>(
     alloc: Global,
     so_far: &mut ContentsSoFar,

@@ -3,7 +3,7 @@ use Rattle.std.specs.Prelude.{◌≡◌, ◌==◌, ℕ, false, List, [], ◌∷�
 use Rattle.naga_text.specs.Bytes.{line_feed, space}
 use Rattle.naga_text.specs.Words.{lines_of}
 
--- the first of lines; there always is one
+-- the first of lines; a text always has one
 abbrev pub first_of : List (List ℕ) → List ℕ
 first_of [] = []
 first_of (line ∷ lines) = line

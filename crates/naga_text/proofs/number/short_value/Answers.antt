@@ -2,7 +2,7 @@ use Rattle.std.proofs.Common.{ℕ, ◌^◌, ◌<◌, ◌≤◌, arith, lit<}
 use Rattle.std.proofs.Math.Nat.{pow-le-pow_right}
 use Rattle.naga_text.proofs.number.short_value.Goals as goal
 
--- what at most 18 digits write
+-- a number that at most 18 digits write is below 10 to the power of 18
 below : (value i : ℕ) → value < 10 ^ i → i ≤ 18 → value < 10 ^ 18
 below value i h few = let most : 10 ^ i ≤ 10 ^ 18 = pow-le-pow_right {n = 10} (lit< tt) few in omega (arith, h, most)
 
