@@ -1,18 +1,16 @@
 //! The rules of operators on one value, of selections, derivatives, queries and conversions.
 
 ghost use Rattle.std.specs.Prelude.{◌≡◌, ◌↔◌, ◌<◌, IsTrue, Ok, length, unwrap_or};
-ghost use Rattle.naga_flags.specs.Width.{is_good_width};
 ghost use Rattle.naga_info.specs.Results.{IsRuleResult};
 ghost use Rattle.naga_info.specs.Stages as stages;
 ghost use Rattle.naga_info.specs.Surroundings.{AreSound, surroundings};
 ghost use Rattle.naga_operator_exprs.specs.Operators as rule;
 ghost use Rattle.naga_types.specs.Checks.{ok_unless};
 
-use naga_flags::flags::{Capabilities, ShaderStages};
+use naga_flags::flags::ShaderStages;
 use naga_flags::width::check_width;
 use naga_info::context::{FunctionContext, every_stage};
 use naga_info::expression_error::ExpressionError;
-use naga_info::type_methods::is_number;
 use naga_ir::expression::{RelationalFunction, UnaryOperator};
 use naga_ir::handle::Handle;
 use naga_ir::tags::ExpressionTag;
@@ -50,8 +48,8 @@ pub fn validate_unary(
     }
 }
 
-/// Whether every stage may use an operator on one value: whether `validate_unary` accepts it. The rule is the
-/// same, but no `ExpressionError` is made, which takes less time where most operands are accepted.
+/// Whether every stage may use an operator on one value: whether `validate_unary` accepts it. It makes no
+/// `ExpressionError`, so it takes less time where most operands are accepted.
 pub fn admits_unary(
     context: FunctionContext<'_>,
     op: UnaryOperator,
@@ -132,8 +130,8 @@ pub fn validate_select(
     Ok(every_stage())
 }
 
-/// Whether every stage may use a selection: whether `validate_select` accepts it. The rule is the same, but no
-/// error is made, which takes less time where most operands are accepted, and no memory.
+/// Whether every stage may use a selection: whether `validate_select` accepts it. It makes no `ExpressionError`, so
+/// it takes less time where most operands are accepted, and no memory.
 ///
 /// The cost is linear in the members of structs that it compares.
 pub fn admits_select(
@@ -282,16 +280,8 @@ pub fn validate_as(
     }
 }
 
-/// Whether a scalar has a width that is allowed under `capabilities`.
-fn has_good_width(capabilities: Capabilities, scalar: Scalar) -> bool
-    ensures { result ≡ is_good_width capabilities.0 scalar }
-{
-    // Numbers of 32 bits need no capability.
-    (is_number(scalar.kind) && scalar.width == 4) || check_width(capabilities, scalar).is_ok()
-}
-
-/// Whether every stage may use a conversion: whether `validate_as` accepts it. The rule is the same, but no error
-/// is made, which takes less time where most operands are accepted.
+/// Whether every stage may use a conversion: whether `validate_as` accepts it. It makes no `ExpressionError`, so it
+/// takes less time where most operands are accepted.
 pub fn admits_as(
     context: FunctionContext<'_>,
     expr: Handle<ExpressionTag>,
@@ -305,7 +295,7 @@ pub fn admits_as(
     match cast_scalar(context.type_of(expr)) {
         Some(scalar) => {
             let target = converted(scalar, kind, convert);
-            has_good_width(context.capabilities, target)
+            check_width(context.capabilities, target).is_ok()
         }
         None => false,
     }
