@@ -19,17 +19,18 @@ use Rattle.naga_operator_exprs.specs.declared.integers.Place.TheVariants.{InFunc
 none_held : (found : Option Forbidden) (forbidden : Forbidden) → found ≡ None → found ≡ Some forbidden → ⊥
 none_held found forbidden none some = cc (none, some)
 
--- what is not so is false, and what is not true isn't so
+-- `not b` is true if `b` isn't true
 pub not_true : (b : Bool) → (b ≡ true → ⊥) → not b ≡ true
 not_true true h = absurd (h refl)
 not_true false h = refl
 
+-- `b` isn't true if `not b` is
 pub true_not : (b : Bool) → not b ≡ true → b ≡ true → ⊥
 true_not true n h = cc n
 true_not false n h = cc h
 
 module _ (s : ExpressionSurroundings) (op : BinaryOperator) (left right : ℕ) where
-  -- where the rule is to accept, no constant on the right is forbidden
+  -- if the rule accepts, no constant on the right is forbidden
   none_forbidden : (rule : Result ShaderStages ExpressionError) → IsBinaryRule s op left right rule → rule ≡ Ok every_stage → (forbidden : Forbidden) → RightIsForbidden s op left right forbidden → ⊥
   none_forbidden _ (wrong_operands misfit) is forbidden held = cc is
   none_forbidden _ (forbidden_constant other fits has) is forbidden held = cc is
@@ -53,7 +54,7 @@ module _ (s : ExpressionSurroundings) (op : BinaryOperator) (left right : ℕ) (
   accepted_by_some forbidden fits h allowed =
       accepted (fit true fits) (λ other held. allowed (subst (λ f. ContainsForbidden s f (InFunction right)) (sym (same_Some forbidden other (sym (found (Some forbidden) h) ∙ held.0))) held.1))
 
-  -- and only there
+  -- if the rule accepts, the constant on the right is not forbidden
   pub allowed_by_rule : (forbidden : Forbidden) → forbidden_on_right op x ≡ Some forbidden → IsBinaryRule s op left right (Ok every_stage) → ContainsForbidden s forbidden (InFunction right) → ⊥
   allowed_by_rule forbidden h rule has = none_forbidden s op left right (Ok every_stage) rule refl forbidden (found (Some forbidden) h, has)
 
