@@ -37,11 +37,7 @@ pub fn validate_literal_value(
 pub(crate) fn admits_literal_value(context: FunctionContext<'_>, literal: Literal) -> bool
     ensures { IsTrue result ↔ (rule.literal_value_rule (surroundings context.entry) literal ≡ Ok stages.every_stage) }
 {
-    match literal {
-        // The usual literals need no capability.
-        Literal::F32(_) | Literal::U32(_) | Literal::I32(_) | Literal::Bool(_) => true,
-        _ => validate_literal(context.capabilities, literal).is_ok(),
-    }
+    validate_literal(context.capabilities, literal).is_ok()
 }
 
 /// The stages that may use a zero value (WGSL "Zero Value").
