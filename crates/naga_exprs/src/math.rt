@@ -28,14 +28,20 @@ fn keeps_halves(fun: MathFunction) -> bool
     )
 }
 
+/// Whether the capability of a function is given, if it needs one.
+fn has_capability(capabilities: Capabilities, fun: MathFunction) -> bool
+    ensures { IsTrue result ↔ (rule.float16_error capabilities.0 fun ≡ None) }
+{
+    // These need no type of 16 bits, only halves within 32 bits: a capability of its own.
+    !keeps_halves(fun) || capabilities.contains(Capabilities::SHADER_FLOAT16_IN_FLOAT32)
+}
+
 /// Checks that the capability of a function is given, if it needs one.
 fn check_capability(capabilities: Capabilities, fun: MathFunction) -> Result<(), ExpressionError>
     ensures { result ≡ ok_unless (rule.float16_error capabilities.0 fun) tt }
 {
-    // These need no type of 16 bits, only halves within 32 bits: a capability of its own.
-    let keeps_float16 = keeps_halves(fun);
-    let needed = Capabilities::SHADER_FLOAT16_IN_FLOAT32;
-    if keeps_float16 && !capabilities.contains(needed) {
+    if !has_capability(capabilities, fun) {
+        let needed = Capabilities::SHADER_FLOAT16_IN_FLOAT32;
         return Err(ExpressionError::MissingCapabilities(needed));
     }
     Ok(())
@@ -129,13 +135,6 @@ pub fn validate_math<T: Typing>(
             Err(ExpressionError::WrongArgumentCount(fun))
         }
     }
-}
-
-/// Whether the capability of a function is given, if it needs one.
-fn has_capability(capabilities: Capabilities, fun: MathFunction) -> bool
-    ensures { IsTrue result ↔ (rule.float16_error capabilities.0 fun ≡ None) }
-{
-    !keeps_halves(fun) || capabilities.contains(Capabilities::SHADER_FLOAT16_IN_FLOAT32)
 }
 
 /// Whether a function takes each of some arguments, which have these types.
