@@ -148,10 +148,10 @@ known_types_exist s sound types known these those =
 pub arguments_typed : (s : ExpressionSurroundings) (fun : MathFunction) (arg : ℕ) (arg1 arg2 arg3 : Option ℕ) → IsReadySomewhere s (form.Math fun arg arg1 arg2 arg3) → OfArguments (λ (e : ℕ). e < length s.types) arg arg1 arg2 arg3
 arguments_typed s fun arg arg1 arg2 arg3 can = of_arguments (λ (e : ℕ). e < length s.types) (form.Math fun arg arg1 arg2 arg3) fun arg arg1 arg2 arg3 can.1.typed refl
 
--- and so is the type of each that is given
+-- the type of an argument that is given is known
 pub argument_typed : (n : ℕ) (given : Option ℕ) (e : ℕ) → IfSome given (λ (e : ℕ). e < n) → given ≡ Some e → e < n
 argument_typed n given e all is = subst (λ (o : Option ℕ). IfSome o (λ (e : ℕ). e < n)) is all
 
--- what is ready is ready as its variant
+-- an expression that is ready is ready when written as its variant
 pub ready_as : (s : ExpressionSurroundings) (x y : Expression) → x ≡ y → IsReadySomewhere s x → IsReadySomewhere s y
 ready_as s x y is ready = subst (IsReadySomewhere s) is ready

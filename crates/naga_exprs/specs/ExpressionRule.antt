@@ -64,7 +64,7 @@ IsRule t s (form.CooperativeMultiplyAdd a b c) rule = rule ≡ cooperative_multi
 abbrev pub IsExpressionResult : MathTyping → ExpressionSurroundings → Expression → Result ShaderStages ExpressionError → Type 0
 IsExpressionResult t s x result = (rule : Result ShaderStages ExpressionError) × IsRule t s x rule × IsRuleResult rule result
 
--- expression `x` is of a variant that most expressions of shaders are of, and whose rule lets every stage use it or none
+-- whether an expression is of a variant that functions of shaders mostly consist of; the rules of these let every stage use it, or refuse it
 abbrev pub is_frequent : Expression → Bool
 is_frequent (form.Literal value) = true
 is_frequent (form.Constant c) = true

@@ -4,7 +4,7 @@
 -- ConstExpression.const_expression_rule: which global expressions are accepted, and the first condition that another breaks
 -- ExpressionRule.IsRule: the rule of an expression of a function, by its variant
 -- ExpressionRule.IsExpressionResult: what a call returns for an expression, out of memory aside
--- ExpressionRule.is_frequent: the variants of expressions that are admitted by a bool
+-- ExpressionRule.is_frequent: which variants of expressions a call checks that returns only whether every stage may use them
 -- Accesses.IsAccessRule: the rule of an access at an index that is computed
 -- Accesses.access_index_rule: the rule of an access at a known index
 -- Vectors.swizzle_rule: the rule of a swizzle

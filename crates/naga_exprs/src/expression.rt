@@ -163,14 +163,14 @@ pub fn validate_expression<T: Typing>(
     }
 }
 
-/// Whether an expression is of a frequent variant, keeps its rule, and may be used by every stage. What is required
-/// is as for `validate_expression`, which accepts it then. Frequent are the variants that functions of shaders
-/// mostly consist of: variables, arguments, literals and other constants, compositions and parts of values, loads,
-/// operators, conversions and mathematical functions.
+/// Whether an expression is of a frequent variant, keeps its rule, and may be used by every stage. If so,
+/// `validate_expression`, which requires the same, returns every stage. Frequent are the variants that functions of
+/// shaders mostly consist of: variables, arguments, literals and other constants, compositions and parts of values,
+/// loads, operators, conversions and mathematical functions.
 ///
 /// A function is accepted sooner if this is called first: an `ExpressionError` is wide, and to hand on a result that
-/// may hold one takes longer than to check most expressions. The cost is as of `validate_expression`. It takes no
-/// memory.
+/// may hold one takes longer than to check most expressions. The cost is the same as of `validate_expression`. It
+/// takes no memory.
 pub fn admits_expression<T: Typing>(
     typing: &T,
     context: FunctionContext<'_>,

@@ -25,14 +25,14 @@ accepts true true (Some x) a b p i n = cc n
 accepts true false bad a b p i n = cc i
 accepts false integer bad a b p i n = cc p
 
--- and then the third holds
+-- if an access is accepted, its third condition holds
 accepted : (parts integer : Boolean) (bad : Option ExpressionError) (a b : ExpressionError) → Ok every_stage ≡ first_error_or (require parts a ∷ require integer b ∷ bad ∷ []) every_stage → bad ≡ None
 accepted true true None a b h = refl
 accepted true true (Some x) a b h = cc h
 accepted true false bad a b h = cc h
 accepted false integer bad a b h = cc h
 
--- what isn't there is nothing
+-- an error that isn't there is `None`
 nothing : (found : Option ExpressionError) → is_none found ≡ true → found ≡ None
 nothing None h = refl
 nothing (Some x) h = cc h

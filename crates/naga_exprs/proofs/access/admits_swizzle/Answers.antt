@@ -13,7 +13,7 @@ accepted : (bad : Option ExpressionError) → is_none bad ≡ true → ok_unless
 accepted None h = refl
 accepted (Some x) h = cc h
 
--- and if it accepts there is none
+-- there is no error if the rule accepts
 no_error : (bad : Option ExpressionError) → ok_unless bad every_stage ≡ Ok every_stage → is_none bad ≡ true
 no_error None h = refl
 no_error (Some x) h = cc h
