@@ -1,9 +1,10 @@
 //! A validator of shader modules: it accepts exactly the modules that keep the rules, and reports what
 //! is wrong with any other.
 //!
-//! What a user needs of the crates below is re-exported here: all of their public names but the rules of
-//! single variants of expressions with what they take, the functions on kinds and sizes that these rules
-//! share, `every_stage`, `ABSTRACT_WIDTH`, `override_count` and `HandleVec`.
+//! What a user needs of the crates below is re-exported here: all of their public names but the functions
+//! that check single variants of expressions (`validate_binary`, `admits_binary` and so on) with what they
+//! take, the functions on kinds and sizes that these share, `every_stage`, `ABSTRACT_WIDTH`,
+//! `override_count` and `HandleVec`.
 #![tactic(auto)]
 
 pub mod driver;
@@ -23,6 +24,7 @@ pub use function::FunctionError;
 pub use function::FunctionsError;
 pub use naga_exprs::const_expression::validate_const_expression;
 pub use naga_exprs::const_expression::validate_literal;
+pub use naga_exprs::expression::admits_expression;
 pub use naga_exprs::expression::validate_expression;
 pub use naga_flags::extension::ImplementedEnableExtension;
 pub use naga_flags::flags::Capabilities;
