@@ -381,7 +381,7 @@ impl<T: Typing> Validator<T> {
         validate_expression(self.alloc, &self.typing, context, expression)
     }
 
-    /// What the validation of an expression of a function depends on under the validator.
+    /// What the validation of an expression of a function depends on, besides the expression and the typing.
     pub(super) fn context<'a>(
         &self,
         overrides_resolved: bool,

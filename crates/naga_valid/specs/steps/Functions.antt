@@ -23,11 +23,11 @@ pub record CanCheckRules (s : FunctionSurroundings) (types : List TypeResolution
   pub reached : AreTypesReached s types
   pub exist : All (ResolutionExists (global_lists s.«module»)) types
 
--- these are the kinds of expressions, or none, while they aren't found
+-- `kinds` are the kinds of expressions `xs`, or none while they aren't found
 abbrev pub AreFoundKinds : List Expression_ → List ExpressionKind → Type 0
 AreFoundKinds xs kinds = (kinds ≡ []) ⊎ AreKinds xs kinds
 
--- by these kinds the rule of expression `x`, one of `xs`, can be checked: it needs none, or they are found
+-- `kinds` are enough to check the rule of expression `x`, one of `xs`: it needs none, or they are the kinds of `xs`
 abbrev pub SufficeFor : List Expression_ → Expression_ → List ExpressionKind → Type 0
 SufficeFor xs x kinds = (kind_operands x ≡ []) ⊎ AreKinds xs kinds
 
