@@ -50,7 +50,7 @@ fn find_leaf(module: &Module, ty: Handle<TypeTag>, path: &[u32], digest: &mut Di
     }
 }
 
-/// Looks up instances, which are no leaves, then members of instances, then parts of members, each at most once.
+/// Looks up instances, which aren't leaves, then members of instances, then parts of members, each at most once.
 fn find_leaves(module: &Module, ty: Handle<TypeTag>, random: &mut Random, digest: &mut Digest)
     requires exists { ty < length «module».now.types }
     requires references { GlobalReferencesOk (global_lists «module».now) }
