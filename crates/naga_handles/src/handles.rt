@@ -1,6 +1,6 @@
 //! Whether all handles of a module are right.
 
-ghost use Rattle.std.specs.Prelude.{◌≡◌, ◌↔◌, ℕ, IfErr, IfOk, IsTrue, List, [], ◌∷◌, MatchResult, None, Ok, OnOk, map, option_to_list};
+ghost use Rattle.std.specs.Prelude.{◌≡◌, ◌↔◌, ℕ, IfErr, IfOk, IsTrue, List, ◌∷◌, MatchResult, None, Ok, OnOk, map, option_to_list};
 ghost use Rattle.std.specs.List.{enumerate_from, flat_map};
 ghost use Rattle.std.specs.Fn.{FnReturnsAt};
 ghost use Rattle.naga_ir.specs.ItemReferences.{named_references, body_references, constant_references, entry_point_references, global_lists, global_variable_references, local_references, local_variable_references, override_references, signature_references};
@@ -194,38 +194,6 @@ fn check_valued(
     scope.check_all(&[Some(Reference::Type_(ty)), init.map(Reference::Expression)])
 }
 
-/// Whether an expression names no type and no other item, as most do.
-#[tactic(auto, unfolding(naga_ir::specs::References::named_type, naga_ir::specs::References::named_item))]
-fn names_nothing(expression: &Expression) -> bool
-    ensures { IsTrue result → named_references expression.now ≡ [] }
-{
-    match expression {
-        Expression::ZeroValue(_)
-        | Expression::Compose { .. }
-        | Expression::Constant(_)
-        | Expression::Override(_)
-        | Expression::GlobalVariable(_)
-        | Expression::LocalVariable(_)
-        | Expression::CallResult(_)
-        | Expression::AtomicResult { .. }
-        | Expression::WorkGroupUniformLoadResult { .. }
-        | Expression::SubgroupOperationResult { .. } => false,
-        _ => true,
-    }
-}
-
-/// Whether the type and the item exist that an expression names, if it names any. Out of line, so that the room for
-/// this list is not cleared for each expression.
-#[inline(never)]
-fn check_named(scope: &Scope, expression: &Expression) -> Result<(), InvalidHandleError>
-    ensures { ChecksEach IsResult (checks_in scope.now (named_references expression.now)) result }
-{
-    scope.check_all(&[
-        expression.named_type().map(Reference::Type_),
-        expression.named_item(),
-    ])
-}
-
 #[inline(always)]
 fn validate_expression_handles(
     scope: &Scope,
@@ -236,11 +204,11 @@ fn validate_expression_handles(
         result }
 {
     // Operands precede the expression, so that one pass in order can type all of them.
-    if names_nothing(expression) {
-        return check_operands(handle, expression);
-    }
     check_operands(handle, expression)?;
-    check_named(scope, expression)
+    scope.check_all(&[
+        expression.named_type().map(Reference::Type_),
+        expression.named_item(),
+    ])
 }
 
 /// Why the handles of an expression aren't right.
