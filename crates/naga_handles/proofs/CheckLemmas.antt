@@ -5,7 +5,6 @@ use Rattle.std.specs.Fn.{FnReturnsAt, Shared}
 use Rattle.std.specs.List.{flat_map}
 use Rattle.std.proofs.lemmas.List.{map-append}
 use Rattle.std.proofs.lemmas.List.Concat.{flat_map_single}
-use Rattle.std.proofs.lemmas.List.Elements.{All-weaker}
 use Rattle.naga_ir.specs.Handles.{Counts}
 use Rattle.naga_ir.specs.ItemReferences.{named_references}
 use Rattle.naga_ir.specs.Operands.{present}
@@ -105,41 +104,11 @@ checks-called-one {r = r} n subjects reference xs e means h =
     checks-along IsResult _ _ r (ap (checks n subjects) (flat_map_single reference xs))
     (checks-called n subjects (λ x. reference x ∷ []) xs e (λ y t k. checks-single IsResult (check n subjects (reference y.now)) t (means y t k)) h)
 
--- references that a closure accepts, with another error for others, are right if what it accepts is
-pub checks-admitted : {each : Reference → Result (Unit {0}) Reference → Type 0}
-    (n : Counts) (subjects : Subjects) (xs : List Reference) → ((x : Reference) → each x (Ok tt) → IsResult (check n subjects x) (Ok tt))
-    → ChecksEach each xs (Ok tt) → ChecksEach IsResult (checks n subjects xs) (Ok tt)
-checks-admitted {each = each} n subjects xs means h =
-    let right : Reference → Result (Unit {0}) InvalidHandleError → Type 0 = λ x r. IsResult (check n subjects x) r in
-    checks-map right IsResult (check n subjects) xs (Ok tt) (λ x t k. k)
-    (record { accepted = All-weaker (λ x. each x (Ok tt)) (λ x. right x (Ok tt)) means xs h.accepted; refused = tt })
-
--- of references of which a closure names the first that isn't right, the check of this one is the result
-pub checks-named : {each : Reference → Result (Unit {0}) Reference → Type 0}
-    (n : Counts) (subjects : Subjects) (xs : List Reference) (named : Reference) (r : Result (Unit {0}) InvalidHandleError)
-    → ((x : Reference) → each x (Ok tt) → IsResult (check n subjects x) (Ok tt))
-    → ((x refused : Reference) → each x (Err refused) → (refused ≡ x) × (IsResult (check n subjects x) (Ok tt) → ⊥))
-    → ChecksEach each xs (Err named) → IsResult (check n subjects named) r → ChecksEach IsResult (checks n subjects xs) r
-checks-named n subjects xs named (Ok u) accepts refuses h is =
-    let first = h.refused in
-    let wrong = refuses first.item named first.refused in
-    absurd (wrong.1 (subst (λ x. IsResult (check n subjects x) (Ok u)) wrong.0 is))
-checks-named {each = each} n subjects xs named (Err e) accepts refuses h is =
-    let right : Reference → Result (Unit {0}) InvalidHandleError → Type 0 = λ x r. IsResult (check n subjects x) r in
-    let first = h.refused in
-    let wrong = refuses first.item named first.refused in
-    checks-map right IsResult (check n subjects) xs (Err e) (λ x t k. k)
-    (record {
-      accepted = tt;
-      refused = record {
-        before = first.before;
-        item = first.item;
-        after = first.after;
-        at = first.at;
-        accepted_before = All-weaker (λ x. each x (Ok tt)) (λ x. right x (Ok tt)) accepts first.before first.accepted_before;
-        refused = subst (λ x. right x (Err e)) wrong.0 is;
-      };
-    })
+-- checking references by a closure
+pub checks-visited : {each : Reference → Result (Unit {0}) InvalidHandleError → Type 0} {r : Result (Unit {0}) InvalidHandleError}
+    (n : Counts) (subjects : Subjects) (xs : List Reference) → ((x : Reference) (t : Result (Unit {0}) InvalidHandleError) → each x t → IsResult (check n subjects x) t)
+    → ChecksEach each xs r → ChecksEach IsResult (checks n subjects xs) r
+checks-visited {each = each} {r = r} n subjects xs means h = checks-map each IsResult (check n subjects) xs r means h
 
 -- a reference that may be there, as the references that are
 pub one-present : {A : Type 0} (f : A → Reference) (o : Option A) → present (option_map f o ∷ []) ≡ map f (option_to_list o)

@@ -1,6 +1,6 @@
 //! Whether all handles of a module are right.
 
-ghost use Rattle.std.specs.Prelude.{◌≡◌, ◌↔◌, ℕ, IfErr, IfOk, IsTrue, List, ◌∷◌, MatchResult, None, Ok, OnOk, map, option_to_list};
+ghost use Rattle.std.specs.Prelude.{◌≡◌, ◌↔◌, ℕ, IfErr, IfOk, IsTrue, List, ◌∷◌, None, Ok, OnOk, map, option_to_list};
 ghost use Rattle.std.specs.List.{enumerate_from, flat_map};
 ghost use Rattle.std.specs.Fn.{FnReturnsAt};
 ghost use Rattle.naga_ir.specs.ItemReferences.{named_references, body_references, constant_references, entry_point_references, global_lists, global_variable_references, local_references, local_variable_references, override_references, signature_references};
@@ -8,7 +8,6 @@ ghost use Rattle.naga_ir.specs.References as spec;
 ghost use Rattle.naga_ir.specs.ItemReferences as item;
 ghost use Rattle.naga_ir.specs.Handles.{GlobalReferencesOk, HandlesAccepted, function_counts, module_counts};
 ghost use Rattle.naga_ir.specs.Operands.{present};
-ghost use Rattle.naga_ir.specs.Statements.{block_references};
 ghost use Rattle.naga_ir.specs.declared.reference.Reference.TheVariants as to;
 ghost use Rattle.naga_ir.specs.FirstError.{ChecksEach};
 ghost use Rattle.naga_arena.specs.Memory.{UnlessOutOfMemory};
@@ -29,7 +28,6 @@ use naga_ir::ir::{
 use naga_ir::list::List;
 use naga_ir::memory::OutOfMemory;
 use naga_ir::reference::Reference;
-use naga_ir::statement::Block;
 use naga_ir::tags::{ConstantTag, ExpressionTag, FunctionTag, GlobalVariableTag, TypeTag};
 use naga_ir::text::{StaticText, Text};
 use naga_ir::types::{Type, TypeInner};
@@ -139,33 +137,6 @@ impl Scope {
         } else {
             self.counts.check_exists(reference)
         }
-    }
-
-    /// Whether an item may refer to this, and else the reference, of which `check` says why.
-    ///
-    /// The result of `check` has room for a whole error. It would be copied wherever it is handed on, also where there
-    /// is no error, and a processor waits for what it reads wider than it was written. Each block inside another would
-    /// take room for it too.
-    #[inline(always)]
-    fn admit(&self, reference: Reference) -> Result<(), Reference>
-        ensures { MatchResult result
-            (λ _. IsResult (record {
-              there = self.now.counts;
-              subject = of_function self.now.caller reference;
-              target = reference;
-            }) (Ok tt))
-            (λ refused. (refused ≡ reference) × (IsResult (record {
-              there = self.now.counts;
-              subject = of_function self.now.caller reference;
-              target = reference;
-            }) (Ok tt) → ⊥)) }
-    {
-        // Passed by value, the reference would be moved for the prover, and couldn't be returned.
-        let target = &reference;
-        if self.check(*target).is_ok() {
-            return Ok(());
-        }
-        Err(reference)
     }
 
     /// Whether an item may refer to all of these. `None` is a reference that it doesn't have.
@@ -282,21 +253,13 @@ fn validate_locals(scope: &Scope, function: &Function) -> Result<(), InvalidHand
     )
 }
 
-/// Whether what the statements of a block refer to exists.
-fn validate_block(scope: &Scope, block: &Block) -> Result<(), InvalidHandleError>
-    ensures { ChecksEach IsResult (checks_in scope.now (block_references block.now)) result }
-{
-    match block.try_for_each_reference(&|reference: Reference| scope.admit(reference)) {
-        Ok(()) => Ok(()),
-        Err(reference) => scope.check(reference),
-    }
-}
-
 /// Whether what the statements of a function refer to exists, and its filter.
 fn validate_body(scope: &Scope, function: &Function) -> Result<(), InvalidHandleError>
     ensures { ChecksEach IsResult (checks_in scope.now (body_references function.now)) result }
 {
-    validate_block(scope, &function.body)?;
+    function
+        .body
+        .try_for_each_reference(&|reference: Reference| scope.check(reference))?;
     scope.check_all(&[
         function
             .diagnostic_filter_leaf
