@@ -1,10 +1,11 @@
 //! Whether all handles of a module are right.
 
-ghost use Rattle.std.specs.Prelude.{◌≡◌, ◌↔◌, ℕ, IfErr, IfOk, IsTrue, List, ◌∷◌, None, Ok, OnOk, map, option_to_list};
+ghost use Rattle.std.specs.Prelude.{◌≡◌, ◌↔◌, ℕ, IfErr, IfOk, IsTrue, List, ◌∷◌, None, OnOk, map, option_to_list};
 ghost use Rattle.std.specs.List.{enumerate_from, flat_map};
 ghost use Rattle.std.specs.Fn.{FnReturnsAt};
-ghost use Rattle.naga_ir.specs.ItemReferences.{named_references, body_references, constant_references, entry_point_references, global_lists, global_variable_references, local_references, local_variable_references, override_references, signature_references};
+ghost use Rattle.naga_ir.specs.ItemReferences.{body_references, constant_references, entry_point_references, global_lists, global_variable_references, local_references, local_variable_references, override_references, signature_references};
 ghost use Rattle.naga_ir.specs.References as spec;
+ghost use Rattle.naga_ir.specs.Statements.{block_references};
 ghost use Rattle.naga_ir.specs.ItemReferences as item;
 ghost use Rattle.naga_ir.specs.Handles.{GlobalReferencesOk, HandlesAccepted, function_counts, module_counts};
 ghost use Rattle.naga_ir.specs.Operands.{present};
@@ -28,6 +29,7 @@ use naga_ir::ir::{
 use naga_ir::list::List;
 use naga_ir::memory::OutOfMemory;
 use naga_ir::reference::Reference;
+use naga_ir::statement::Block;
 use naga_ir::tags::{ConstantTag, ExpressionTag, FunctionTag, GlobalVariableTag, TypeTag};
 use naga_ir::text::{StaticText, Text};
 use naga_ir::types::{Type, TypeInner};
@@ -253,13 +255,22 @@ fn validate_locals(scope: &Scope, function: &Function) -> Result<(), InvalidHand
     )
 }
 
+/// Whether what the statements of a block refer to exists. A function without statements costs no call.
+#[inline(always)]
+fn validate_statements(scope: &Scope, block: &Block) -> Result<(), InvalidHandleError>
+    ensures { ChecksEach IsResult (checks_in scope.now (block_references block.now)) result }
+{
+    if block.body.is_empty() {
+        return Ok(());
+    }
+    block.try_for_each_reference(&|reference: Reference| scope.check(reference))
+}
+
 /// Whether what the statements of a function refer to exists, and its filter.
 fn validate_body(scope: &Scope, function: &Function) -> Result<(), InvalidHandleError>
     ensures { ChecksEach IsResult (checks_in scope.now (body_references function.now)) result }
 {
-    function
-        .body
-        .try_for_each_reference(&|reference: Reference| scope.check(reference))?;
+    validate_statements(scope, &function.body)?;
     scope.check_all(&[
         function
             .diagnostic_filter_leaf
