@@ -27,7 +27,7 @@ fn ask(alloc: Global, module: &Module, totals: &mut Totals) -> Result<(), OutOfM
     match visit_order(alloc, module) {
         Ok(walk) => {
             add_order(&mut totals.digest, walk.order.as_slice());
-            totals.digest.add(walk.reads);
+            totals.digest.add(walk.looks);
         }
         Err(fault) => totals.refuse(alloc, &fault)?,
     }

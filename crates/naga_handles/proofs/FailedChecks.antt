@@ -258,7 +258,7 @@ member-refused m c among fault (inl (past, e)) =
     let t = to.Type_ c.0.0 in
     let named = All-contains (Other m) (members m) t (in_members m) (contains-map (λ (k : (ℕ × ℕ) × List (List ℕ)). to.Type_ k.0.0) m.doc_comments.struct_members c among) in
     inl (subst (IsFault m) (sym e) (invalid (missing t) (not_there (module_counts m) t (other t named) (λ within. omega (arith, within, past)))))
-member-refused m c among fault (inr (x, at, lacks, inl e)) = inr (e, (c.0.0, faults.display_name x, missing_member c.0.0 c.0.1 c.1 x among at lacks))
+member-refused m c among fault (inr (x, at, lacks, inl e)) = inr (e, inr (c.0.0, faults.display_name x, missing_member c.0.0 c.0.1 c.1 x among at lacks))
 member-refused m c among fault (inr (x, at, lacks, inr e)) = inl (subst (IsFault m) (sym e) (missing_member c.0.0 c.0.1 c.1 x among at lacks))
 
 -- so a refusal of these comments is one of the module

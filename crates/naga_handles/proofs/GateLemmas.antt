@@ -1,5 +1,5 @@
 -- How many expressions the sizes of types need, and which type needs an expression first.
-use Rattle.std.proofs.Common.{◌≡◌, ℕ, zero, suc, ◌+◌, ◌<◌, ◌≤◌, max, Bool, true, false, cond, ◌⊎◌, inl, inr, length, Option, Some, None, arith, refl, ap, ◌∙◌, add-one}
+use Rattle.std.proofs.Common.{◌≡◌, ℕ, zero, suc, ◌+◌, ◌<◌, ◌≤◌, max, Bool, true, false, cond, ◌⊎◌, inl, inr, length, arith, refl, add-one}
 use Rattle.std.proofs.lemmas.Bool.Decides.{nat_tests}
 use Rattle.std.proofs.lemmas.Bool.{cases_lt}
 use Rattle.naga_ir.specs.Handles.{size_initialiser}
@@ -69,15 +69,6 @@ module _ (g : GlobalLists) where
   pub top_next : (t : ℕ) → top_before g (t + 1) ≡ max (top_before g t) (reach (size_initialiser g t))
   unfolding top_before
   top_next t = let e : top_before g (suc t) ≡ max (top_before g t) (reach (size_initialiser g t)) = refl in rw (add-one) e
-
-  pub top_sized : (t n : ℕ) → size_initialiser g t ≡ Some n → top_before g (t + 1) ≡ max (top_before g t) (n + 1)
-  top_sized t n h = top_next t ∙ ap (λ (o : Option ℕ). max (top_before g t) (reach o)) h
-
-  pub top_unsized : (t : ℕ) → size_initialiser g t ≡ None → top_before g (t + 1) ≡ top_before g t
-  top_unsized t h = let e : reach (size_initialiser g t) ≡ 0 = ap reach h in let n = top_next t in omega arith
-
-  pub top_more : (t : ℕ) → top_before g t ≤ top_before g (t + 1)
-  top_more t = let n = top_next t in omega arith
 
   pub top_has : (t : ℕ) → reach (size_initialiser g t) ≤ top_before g (t + 1)
   top_has t = let n = top_next t in omega arith

@@ -16,11 +16,11 @@ get_front : {X : Type 0} (xs ys : List X) (k : ℕ) (x : X) → slice_get xs k �
 get_front xs ys k x at = get_stays xs ys k (slice_get_within xs k x at) ∙ at
 
 -- the added item has the last index
-get_last : {X : Type 0} (xs : List X) (x : X) (k : ℕ) → k ≡ length xs → slice_get (xs ++ x ∷ []) k ≡ Some x
+pub get_last : {X : Type 0} (xs : List X) (x : X) (k : ℕ) → k ≡ length xs → slice_get (xs ++ x ∷ []) k ≡ Some x
 get_last xs x k h = grind (arith, common_steps, gets)
 
 -- an item before the added one was in the list
-get_old : {X : Type 0} (xs : List X) (x y : X) (k : ℕ) → k < length xs → slice_get (xs ++ x ∷ []) k ≡ Some y → slice_get xs k ≡ Some y
+pub get_old : {X : Type 0} (xs : List X) (x y : X) (k : ℕ) → k < length xs → slice_get (xs ++ x ∷ []) k ≡ Some y → slice_get xs k ≡ Some y
 get_old xs x y k l h = grind (arith, common_steps, gets)
 
 module _ (g : GlobalLists) where

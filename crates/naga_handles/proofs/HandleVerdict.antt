@@ -1,5 +1,5 @@
 -- Whether the handles of a whole module are right.
-use Rattle.std.proofs.Common.{◌≡◌, ⊎_elim, inl, inr, ℕ, List}
+use Rattle.std.proofs.Common.{◌≡◌, ⊎_elim, inl, inr}
 use Rattle.std.specs.Prelude.{Result, Ok, Err, OnOk, IfErr}
 use Rattle.std.specs.List.{flat_map}
 use Rattle.naga_arena.specs.Memory.{UnlessOutOfMemory}
@@ -11,7 +11,7 @@ use Rattle.naga_handles.specs.Faults.{IsFault, NeedsMemory}
 use Rattle.naga_handles.specs.Order.{CanBeOrdered}
 use Rattle.naga_handles.specs.steps.OtherItems.{IsHandleRefusal, OtherItemsOk}
 use Rattle.naga_handles.specs.declared.error.ValidationFault.{ValidationFault}
-use Rattle.naga_handles.specs.declared.error.ValidationFault.TheVariants.{MissingMember, OutOfMemory}
+use Rattle.naga_handles.specs.declared.error.ValidationFault.TheVariants.{OutOfMemory}
 use Rattle.naga_handles.proofs.AcceptedHandles.{all_accepted, fault_breaks}
 use Rattle.naga_arena.proofs.Elements.{all-left, all-right}
 
@@ -28,7 +28,4 @@ all_right m can (Err fault) others = tt
 pub decides : (m : Module) (result : Result (Unit {0}) ValidationFault) → OnOk result (HandlesAccepted m) → IfErr result (IsHandleRefusal m)
     → UnlessOutOfMemory (λ f. (f ≡ OutOfMemory) × NeedsMemory m) result (λ _. HandlesAccepted m) (λ f. IsFault m f × (HandlesAccepted m → ⊥))
 decides m (Ok _) accepted refused = accepted
-decides m (Err f) accepted refused =
-    ⊎_elim (λ (fault : IsFault m f). inr (fault, fault_breaks m f fault))
-    (λ (w : (f ≡ OutOfMemory) × ((t : ℕ) × (name : List ℕ) × IsFault m (MissingMember t name))). inl (w.0, inr w.1))
-    refused
+decides m (Err f) accepted refused = ⊎_elim (λ (fault : IsFault m f). inr (fault, fault_breaks m f fault)) (λ (memory : (f ≡ OutOfMemory) × NeedsMemory m). inl memory) refused

@@ -14,3 +14,4 @@ pub mod PlacesBefore
 pub mod RankLemmas
 mod ReferenceLists
 pub mod VisitLemmas
+mod WorkedTable

@@ -1,5 +1,5 @@
 -- What shows that something is wrong with types and global expressions, and what their items begin with.
-use Rattle.std.proofs.Common.{◌≡◌, ◌<◌, ◌≤◌, ◌⊎◌, inl, inr, ℕ, Option, Some, None, Result, Ok, Err, MatchResult, IfErr, length, slice_get, refl, sym, ap, subst, ◌∙◌}
+use Rattle.std.proofs.Common.{◌≡◌, ◌<◌, ◌≤◌, ◌⊎◌, inl, inr, ℕ, Option, Some, None, option_map, Result, Ok, Err, MatchResult, IfErr, length, slice_get, refl, sym, ap, subst, ◌∙◌}
 use Rattle.std.proofs.lemmas.Bool.{cases_lt}
 use Rattle.std.proofs.lemmas.Option.{same_Some, slice_get_past}
 use Rattle.naga_ir.specs.Handles.{Counts, Exists, OrderedReference, constant, initialiser_at, initialiser_of, module_counts, operand, override, part, size_initialiser, size_type, sized_by}
@@ -16,7 +16,7 @@ use Rattle.naga_ir.specs.Parts.{parts, size_override}
 use Rattle.naga_ir.specs.declared.types.TypeInner.{TypeInner}
 use Rattle.naga_ir.specs.declared.types.«Type».{«Type»}
 use Rattle.naga_handles.specs.Faults.{IsOrderFault, VisitedReference, forward, missing, not_back, not_visited}
-use Rattle.naga_handles.specs.steps.VisitState.{ItemOk, NamesLate, SizeOk, constant_value, named_initialiser}
+use Rattle.naga_handles.specs.steps.VisitState.{ItemOk, NamesLate, SizeOk, named_initialiser}
 use Rattle.naga_handles.specs.declared.error.InvalidHandleError.{InvalidHandleError}
 
 -- what isn't there is a fault
@@ -40,7 +40,7 @@ pub value : (g : GlobalLists) (e n : ℕ) (x : Expression) → slice_get g.expre
 unfolding named_initialiser
 value g e n (form.Constant c) at begins = by_constant (slice_get g.constants c) refl begins
   where
-    by_constant : (d : Option Constant) → slice_get g.constants c ≡ d → constant_value d ≡ Some n → OrderedReference g (to.Expression e) (to.Expression n)
+    by_constant : (d : Option Constant) → slice_get g.constants c ≡ d → option_map (λ (v : Constant). v.init) d ≡ Some n → OrderedReference g (to.Expression e) (to.Expression n)
     by_constant None stands h = absurd (cc)
     by_constant (Some d) stands h = subst (λ (k : ℕ). OrderedReference g (to.Expression e) (to.Expression k)) (same_Some d.init n h) (constant e c d at stands)
 value g e n (form.Override o) at begins = by_override (slice_get g.overrides o) refl begins

@@ -1,15 +1,15 @@
 -- What follows when all items were visited, and what a fault contradicts.
-use Rattle.std.proofs.Common.{◌≡◌, ◌<◌, ◌≤◌, ◌⊎◌, inl, inr, ℕ, zero, suc, List, [], ◌∷◌, ◌++◌, Option, Some, All, Contains, length, map, slice_get, refl, sym, ap, subst, ◌∙◌, arith, option_to_list}
+use Rattle.std.proofs.Common.{◌≡◌, ◌<◌, ◌≤◌, ℕ, zero, suc, List, [], ◌∷◌, ◌++◌, Option, Some, option_map, All, Contains, length, map, slice_get, refl, sym, ap, subst, ◌∙◌, arith, option_to_list}
 use Rattle.std.specs.List.{flat_map}
-use Rattle.std.proofs.lemmas.Bool.{cases_lt}
 use Rattle.std.proofs.lemmas.List.Elements.{All-append, All-contains, Contains-append_left, Contains-append_right}
 use Rattle.std.proofs.lemmas.Option.{slice_get_within}
 use Rattle.naga_handles.proofs.ReferenceLists.{all_in, all_named, all_of_option, all_within}
 use Rattle.naga_ir.proofs.ReferencesOfItems.{item_in, only, type_in, within_all}
-use Rattle.naga_ir.specs.Handles.{Exists, OrderedReference, constant, initialiser_of, module_counts, operand, override, part, place_of, size_initialiser, size_type}
+use Rattle.naga_ir.specs.Handles.{Exists, NamesType, OrderedReference, SizesResolveFirst, constant, initialiser_of, module_counts, operand, override, part, place_of, size_type}
 use Rattle.naga_ir.specs.ItemReferences.{expression_references, global_lists, type_references}
 use Rattle.naga_ir.specs.References.{named_item, named_type, operands}
 use Rattle.naga_ir.specs.declared.expression.Expression.{Expression}
+use Rattle.naga_ir.specs.declared.ir.Constant.{Constant}
 use Rattle.naga_ir.specs.declared.expression.Expression.TheVariants as form
 use Rattle.naga_ir.specs.declared.ir.Module.{Module}
 use Rattle.naga_ir.specs.declared.reference.Reference.{Reference}
@@ -17,23 +17,20 @@ use Rattle.naga_ir.specs.declared.reference.Reference.TheVariants as to
 use Rattle.naga_ir.specs.Parts.{parts, size_override}
 use Rattle.naga_ir.specs.declared.types.«Type».{«Type»}
 use Rattle.naga_handles.specs.Faults.{IsOrderFault, VisitedReference, initialiser, item, not_back, not_gated, not_visited, size, type_}
+use Rattle.naga_ir.specs.Ranks.{reach}
 use Rattle.naga_handles.specs.Order.{CanBeOrdered}
-use Rattle.naga_handles.specs.steps.VisitState.{AllBefore, ExpressionOk, NamesBefore, Reached, Seen, TypeOk, constant_value, named_initialiser}
+use Rattle.naga_handles.specs.declared.walk.Walker.{Walker}
+use Rattle.naga_handles.specs.steps.VisitState.{AllBefore, ExpressionOk, ExpressionsOk, GateOk, TypeOk, Visited, named_initialiser}
 use Rattle.naga_handles.specs.declared.error.InvalidHandleError.{InvalidHandleError}
 use Rattle.naga_handles.proofs.OrderFaults.{size_within}
-use Rattle.naga_handles.proofs.VisitLemmas.{seen_names, seen_stands}
 
 before_of : (place : ℕ) (others : List ℕ) (p : ℕ) → AllBefore place others → Contains others p → p < place
 unfolding AllBefore
 before_of place others p all h = all p h
 
-names_of : (t u : ℕ) (x : Expression) → NamesBefore t x → named_type x ≡ Some u → u < t
-unfolding NamesBefore
-names_of t u x all h = all u h
-
 module _ (m : Module) (types : (t : ℕ) (x : «Type») → slice_get m.types t ≡ Some x → TypeOk m t x.inner)
     (expressions : (e : ℕ) (x : Expression) → slice_get m.global_expressions e ≡ Some x → ExpressionOk m e x)
-    (names : (e : ℕ) (x : Expression) → slice_get m.global_expressions e ≡ Some x → NamesBefore (length m.types) x) where
+    (names : (e u : ℕ) → NamesType (global_lists m) e u → u < length m.types) where
   abbrev There : Reference → Type 0
   There = Exists (module_counts m)
 
@@ -52,7 +49,7 @@ module _ (m : Module) (types : (t : ℕ) (x : «Type») → slice_get m.types t 
       All-append There (map to.Expression (operands x)) (map to.Type_ (option_to_list (named_type x)) ++ option_to_list (named_item x))
       (all_in There to.Expression (operands x) (λ o h. let before = before_of e (operands x) o stands.operands_before h in omega (arith, before, there)))
       (All-append There (map to.Type_ (option_to_list (named_type x))) (option_to_list (named_item x))
-      (all_named There to.Type_ (named_type x) (λ u h. names_of (length m.types) u x (names e x at) h))
+      (all_named There to.Type_ (named_type x) (λ u h. names e u (x, at, h)))
       (all_of_option There (named_item x) stands.item.exists))
 
   begins : (e n : ℕ) (x : Expression) → slice_get m.global_expressions e ≡ Some x → named_initialiser (global_lists m) x ≡ Some n → n < e
@@ -63,10 +60,10 @@ module _ (m : Module) (types : (t : ℕ) (x : «Type») → slice_get m.types t 
   back _ _ (part t u x at h) = before_of t (parts x.inner) u (types t x at).parts_before h
   back _ _ (size_type t o x v at sized stands) = (types t x at).size.type_before o v sized stands
   back _ _ (operand e o x at h) = before_of e (operands x) o (expressions e x at).operands_before h
-  back _ _ (constant e c d at stands) = begins e d.init (form.Constant c) at (ap constant_value stands)
+  back _ _ (constant e c d at stands) = begins e d.init (form.Constant c) at (ap (option_map (λ (v : Constant). v.init)) stands)
   back _ _ (override e o n v at stands h) = begins e n (form.Override o) at (ap initialiser_of stands ∙ h)
 
-  all_right : ((t n e : ℕ) (x : Expression) → t < length m.types → size_initialiser (global_lists m) t ≡ Some n → e ≤ n → slice_get m.global_expressions e ≡ Some x → NamesBefore t x) → ((t : ℕ) → t < length m.types → (x : «Type») × (slice_get m.types t ≡ Some x)) → CanBeOrdered m
+  all_right : SizesResolveFirst (global_lists m) → ((t : ℕ) → t < length m.types → (x : «Type») × (slice_get m.types t ≡ Some x)) → CanBeOrdered m
   all_right gates there = record {
     exist =
         All-append There (flat_map (λ (t : «Type»). type_references t.inner) m.types) (flat_map expression_references m.global_expressions)
@@ -74,7 +71,7 @@ module _ (m : Module) (types : (t : ℕ) (x : «Type») → slice_get m.types t 
         (all_within There expression_references m.global_expressions of_expression);
     initialisers = λ t n h. let x = there t (size_within (global_lists m) t n h) in (types t x.0 x.1).size.initialiser_exists n h;
     back = back;
-    gates = λ t n e u h l named. names_of t u named.0 (gates t n e named.0 (size_within (global_lists m) t n h) h l named.1) named.2;
+    gates = gates;
   }
 
 at_place : {X : Type 0} (xs : List X) (k : ℕ) → k < length xs → (x : X) × (slice_get xs k ≡ Some x)
@@ -82,18 +79,16 @@ at_place [] k h = absurd (omega (arith, h))
 at_place (x ∷ xs) zero h = (x, refl)
 at_place (x ∷ xs) (suc k) h = at_place xs k (omega (arith, h))
 
--- if all were visited, all can be ordered
-pub can_be_ordered : (m : Module) (c reads : ℕ) → Reached m (length m.types) c reads → ((e : ℕ) → c ≤ e → e < length m.global_expressions → Seen m (length m.types) e) → CanBeOrdered m
-can_be_ordered m c reads r rest =
-    all_right m (λ t x at. r.types t x (slice_get_within m.types t x at) at) (λ e x at. seen_stands m (length m.types) e x (seen e x at) at) (λ e x at. seen_names m (length m.types) e x (seen e x at) at)
-    (λ t n e x within h l at. r.gates t n e x within h l at) (at_place m.types)
+-- if all were visited, and the greatest type that an expression names exists, all can be ordered
+pub can_be_ordered : (m : Module) (w : Walker) → Visited m (length m.types) w → length m.global_expressions ≤ w.visited → reach w.greatest ≤ length m.types → CanBeOrdered m
+unfolding ExpressionsOk GateOk
+can_be_ordered m w v all there =
+    all_right m (λ t x at. v.types t x (slice_get_within m.types t x at) at) (λ e x at. v.right e x (reached e x at) at)
+    (λ e u named. omega (arith, v.names.0.covers e u (reached e named.0 named.1) named, there))
+    (λ t n e u begins l named. v.gates t (size_within (global_lists m) t n begins) n e u begins l named) (at_place m.types)
   where
-    by_place : (e : ℕ) → e < length m.global_expressions → (e < c) ⊎ (c ≤ e) → Seen m (length m.types) e
-    by_place e there (inl l) = r.seen e l
-    by_place e there (inr l) = rest e l there
-
-    seen : (e : ℕ) (x : Expression) → slice_get m.global_expressions e ≡ Some x → Seen m (length m.types) e
-    seen e x at = by_place e (slice_get_within m.global_expressions e x at) (cases_lt e c)
+    reached : (e : ℕ) (x : Expression) → slice_get m.global_expressions e ≡ Some x → e < w.visited
+    reached e x at = omega (arith, slice_get_within m.global_expressions e x at, all)
 
 module _ (m : Module) (a : CanBeOrdered m) where
   abbrev of_types : List Reference

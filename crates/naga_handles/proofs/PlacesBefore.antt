@@ -17,10 +17,6 @@ module _ (place : ℕ) (all : List ℕ) where
   none_below left is = record { seen = λ p h. inr (subst (λ l. Contains l p) (sym is) h); inside = λ p h. subst (λ l. Contains l p) is h }
 
   module _ (left : List ℕ) (o : ℕ) (more : List ℕ) (b : Below left) (e : left ≡ o ∷ more) where
-    -- what comes next is one of all
-    pub one_of_all : Contains all o
-    one_of_all = b.inside o (subst (λ l. Contains l o) (sym e) (0, omega arith, refl))
-
     pub one_below : o < place → Below more
     one_below below = record {
       seen = λ p h. ⊎_elim

@@ -1,133 +1,148 @@
--- What is known from type to type, and what follows at the end.
-use Rattle.std.proofs.Common.{◌≡◌, ◌<◌, ◌≤◌, ◌+◌, ◌⊎◌, inl, inr, ℕ, Some, None, length, slice_get, refl, sym, ap, subst, ◌∙◌, arith}
+-- What is known of the types that expressions name, and of the types before one.
+use Rattle.std.proofs.Common.{◌≡◌, ◌<◌, ◌≤◌, ◌+◌, ◌⊎◌, inl, inr, ℕ, max, List, [], ◌∷◌, ◌++◌, Option, Some, None, length, slice_get, refl, sym, ap, subst, ◌∙◌, arith, length-append}
 use Rattle.std.proofs.lemmas.Bool.{cases_lt}
-use Rattle.std.proofs.lemmas.Option.{same_Some}
-use Rattle.naga_arena.specs.Numbers.{largest_u32}
-use Rattle.naga_ir.specs.Handles.{size_initialiser}
-use Rattle.naga_ir.specs.ItemReferences.{global_lists}
+use Rattle.std.proofs.lemmas.Option.{same_Some, slice_get_within}
+use Rattle.naga_ir.specs.Handles.{Exists, NamesType, module_counts, size_initialiser}
+use Rattle.naga_ir.specs.ItemReferences.{GlobalLists, global_lists}
+use Rattle.naga_ir.specs.Ranks.{reach}
 use Rattle.naga_ir.specs.References.{named_type}
-use Rattle.naga_ir.specs.Ranks.{reach, top_before}
 use Rattle.naga_ir.specs.declared.expression.Expression.{Expression}
 use Rattle.naga_ir.specs.declared.ir.Module.{Module}
 use Rattle.naga_ir.specs.declared.reference.Reference.TheVariants as to
 use Rattle.naga_ir.specs.declared.types.«Type».{«Type»}
-use Rattle.naga_handles.specs.Faults.{IsOrderFault, forward, not_gated}
-use Rattle.naga_handles.specs.steps.VisitState.{ExpressionOk, NamesBefore, Reached, Seen, SeenUpTo, TypeOk}
-use Rattle.naga_handles.specs.declared.error.InvalidHandleError.{InvalidHandleError}
-use Rattle.naga_handles.proofs.GateLemmas.{top_grows, top_has, top_sized, top_unsized, top_zero}
+use Rattle.naga_handles.specs.Faults.{IsOrderFault, forward, missing, not_gated, not_visited, type_}
+use Rattle.naga_handles.specs.steps.VisitState.{ExpressionOk, ExpressionsOk, GateOk, IsGreatest, IsTable, TypeOk, Visited}
+use Rattle.naga_handles.specs.declared.walk.Walker.{Walker}
+use Rattle.naga_handles.specs.declared.walk.reader.Reader.{Reader}
+use Rattle.naga_handles.proofs.GrowingOrder.{get_last, get_old}
 use Rattle.naga_handles.proofs.OrderFaults.{size_within}
 
-module _ (m : Module) where
-  -- an expression that is all right was seen
-  pub seen_one : (t e : ℕ) (x : Expression) → slice_get m.global_expressions e ≡ Some x → ExpressionOk m e x → NamesBefore t x → Seen m t e
-  unfolding Seen
-  seen_one t e x at stands names y is =
-      let same : x ≡ y = same_Some x y (sym at ∙ is) in
-      subst (λ z. ExpressionOk m e z × NamesBefore t z) same (stands, names)
+reach_same : (one other : Option ℕ) → reach one ≡ reach other → one ≡ other
+reach_same None None h = refl
+reach_same None (Some v) h = absurd (omega (arith, h))
+reach_same (Some u) None h = absurd (omega (arith, h))
+reach_same (Some u) (Some v) h = ap Some (omega (arith, h))
 
-  -- what was seen is all right
-  pub seen_stands : (t e : ℕ) (x : Expression) → Seen m t e → slice_get m.global_expressions e ≡ Some x → ExpressionOk m e x
-  unfolding Seen
-  seen_stands t e x s at = (s x at).0
+module _ (g : GlobalLists) where
+  -- no expression names a type
+  pub greatest_none : IsGreatest g 0 None
+  greatest_none = record { covers = λ e u h named. absurd (omega (arith, h)); named = λ u h. absurd (cc) }
 
-  pub seen_names : (t e : ℕ) (x : Expression) → Seen m t e → slice_get m.global_expressions e ≡ Some x → NamesBefore t x
-  unfolding Seen
-  seen_names t e x s at = (s x at).1
+  pub table_none : (room : ℕ) → IsTable g [] 0 room
+  table_none room = record { each = λ e entry at. absurd (cc); long = omega arith }
 
-  -- one more was seen
-  pub seen_more : (t from e : ℕ) → ((k : ℕ) → from ≤ k → k < e → Seen m t k) → Seen m t e → (k : ℕ) → from ≤ k → k < e + 1 → Seen m t k
-  seen_more t from e before here k a b = by_place (cases_lt k e)
-    where
-      by_place : (k < e) ⊎ (e ≤ k) → Seen m t k
-      by_place (inl l) = before k a l
-      by_place (inr l) = let s : e ≡ k = omega arith in subst (Seen m t) s here
-
-  -- what was seen for a type counts for each later one
-  pub seen_later : (t v e : ℕ) → t ≤ v → Seen m t e → Seen m v e
-  unfolding Seen NamesBefore
-  seen_later t v e l s x at = ((s x at).0, λ u names. let b = (s x at).1 u names in omega (arith, l, b))
-
-  -- an expression that a size needs and that names a type too late is a fault
-  pub late_gate : (t n e : ℕ) (x : Expression) (f : InvalidHandleError) → size_initialiser (global_lists m) t ≡ Some n → e ≤ n → slice_get m.global_expressions e ≡ Some x
-      → ((u : ℕ) × (named_type x ≡ Some u) × (t ≤ u) × (f ≡ forward (to.Type_ t) (to.Type_ u))) → IsOrderFault m f
-  late_gate t n e x f begins l at late = subst (IsOrderFault m) (sym late.3) (not_gated t n e late.0 begins l (x, at, late.1) late.2)
-
-  -- before the first type nothing was visited
-  reached_none : Reached m 0 0 0
-  reached_none = record {
-    inside = omega arith;
-    few = omega arith;
-    top = top_zero (global_lists m);
-    counted = refl;
-    seen = λ e h. absurd (omega (arith, h));
-    types = λ k x h. absurd (omega (arith, h));
-    gates = λ k n e x h. absurd (omega (arith, h));
-  }
-
-  pub reached_at : (c reads : ℕ) → c ≡ 0 → reads ≡ 0 → Reached m 0 c reads
-  reached_at c reads none same = subst (λ (k : ℕ). Reached m 0 k reads) (sym none) (subst (λ (k : ℕ). Reached m 0 0 k) (sym same) reached_none)
-
-  module _ (t c reads : ℕ) (x : «Type») (r : Reached m t c reads) (at : slice_get m.types t ≡ Some x) (stands : TypeOk m t x.inner) where
-    types_more : (k : ℕ) (y : «Type») → k < t + 1 → slice_get m.types k ≡ Some y → TypeOk m k y.inner
-    types_more k y h there = by_place (cases_lt k t)
+  module _ (c : ℕ) (x : Expression) (before named after : Option ℕ) (at : slice_get g.expressions c ≡ Some x) (names : named_type x ≡ named) (was : IsGreatest g c before)
+      (greatest : reach after ≡ max (reach before) (reach named)) where
+    covers_more : (e u : ℕ) → e < c + 1 → NamesType g e u → u < reach after
+    covers_more e u h n = by_place (cases_lt e c)
       where
-        by_place : (k < t) ⊎ (t ≤ k) → TypeOk m k y.inner
-        by_place (inl l) = r.types k y l there
+        by_place : (e < c) ⊎ (c ≤ e) → u < reach after
+        by_place (inl l) = omega (arith, was.covers e u l n, greatest)
         by_place (inr l) =
-            let place : t ≡ k = omega (arith, h, l) in
-            let same : x ≡ y = same_Some x y (sym at ∙ ap (slice_get m.types) place ∙ there) in
-            subst (λ (j : ℕ). TypeOk m j y.inner) place (subst (λ (z : «Type»). TypeOk m t z.inner) same stands)
+            let place : e ≡ c = omega (arith, h, l) in
+            let same : n.0 ≡ x = same_Some n.0 x (sym n.1 ∙ ap (slice_get g.expressions) place ∙ at) in
+            let here : reach named ≡ u + 1 = ap reach (sym names ∙ sym (ap named_type same) ∙ n.2) in
+            omega (arith, here, greatest)
 
-    -- a type whose size needs no expression was visited
-    pub reached_unsized : (now : ℕ) → now ≡ reads + 1 → size_initialiser (global_lists m) t ≡ None → Reached m (t + 1) c now
-    reached_unsized now counted none = record {
-      inside = r.inside;
-      few = r.few;
-      top = top_unsized (global_lists m) t none ∙ r.top;
-      counted = omega (arith, r.counted, counted);
-      seen = λ e h. seen_later t (t + 1) e (omega arith) (r.seen e h);
-      types = types_more;
-      gates = λ k n e y h begins l there. gates_more k n e y h begins l there (cases_lt k t);
-    }
+    named_more : (u : ℕ) → after ≡ Some u → (e : ℕ) × (e < c + 1) × NamesType g e u
+    named_more u h = by_reach (cases_lt (reach before) (reach named))
       where
-        gates_more : (k n e : ℕ) (y : Expression) → k < t + 1 → size_initialiser (global_lists m) k ≡ Some n → e ≤ n → slice_get m.global_expressions e ≡ Some y → (k < t) ⊎ (t ≤ k) → NamesBefore k y
-        gates_more k n e y h begins l there (inl b) = r.gates k n e y b begins l there
-        gates_more k n e y h begins l there (inr b) =
-            let place : k ≡ t = omega (arith, h, b) in
-            let nothing = ap (size_initialiser (global_lists m)) place ∙ none in absurd (cc)
+        by_reach : (reach before < reach named) ⊎ (reach named ≤ reach before) → (e : ℕ) × (e < c + 1) × NamesType g e u
+        by_reach (inl l) = (c, omega arith, (x, at, names ∙ sym (reach_same after named (omega (arith, greatest, l))) ∙ h))
+        by_reach (inr l) = let old = was.named u (sym (reach_same after before (omega (arith, greatest, l))) ∙ h) in (old.0, omega (arith, old.1), old.2)
 
-    -- a type whose size needs expressions was visited with them
-    pub reached_sized : (d last now : ℕ) → size_initialiser (global_lists m) t ≡ Some last → SeenUpTo m t c d last → d ≤ largest_u32 → now ≡ t + 1 + d → Reached m (t + 1) d now
-    reached_sized d last now sized up few counted = record {
-      inside = up.inside;
-      few = few;
-      top = by_top;
-      counted = counted;
-      seen = λ e h. seen_later t (t + 1) e (omega arith) (seen_now e h (cases_lt e c));
-      types = types_more;
-      gates = λ k n e y h begins l there. gates_more k n e y h begins l there (cases_lt k t);
-    }
-      where
-        by_top : top_before (global_lists m) (t + 1) ≡ d
-        by_top = omega (arith, top_sized (global_lists m) t last sized, r.top, up.reach, up.grows, up.tight)
+    -- the next expression names a type, or none
+    pub greatest_more : IsGreatest g (c + 1) after
+    greatest_more = record { covers = covers_more; named = named_more }
 
-        seen_now : (e : ℕ) → e < d → (e < c) ⊎ (c ≤ e) → Seen m t e
-        seen_now e h (inl l) = r.seen e l
-        seen_now e h (inr l) = up.each e l h
+  -- the table gets an entry as long as there is room
+  pub table_more : (entries : List (Option ℕ)) (c room : ℕ) (greatest : Option ℕ) → IsTable g entries c room → length entries < room → IsGreatest g (c + 1) greatest → IsTable g (entries ++ greatest ∷ []) (c + 1) room
+  table_more entries c room greatest was l is = record {
+    each = λ e entry at. by_place e entry at (cases_lt e (length entries));
+    long = omega (arith, length-append entries (greatest ∷ []), was.long, l);
+  }
+    where
+      by_place : (e : ℕ) (entry : Option ℕ) → slice_get (entries ++ greatest ∷ []) e ≡ Some entry → (e < length entries) ⊎ (length entries ≤ e) → IsGreatest g (e + 1) entry
+      by_place e entry at (inl b) = was.each e entry (get_old entries greatest entry e b at)
+      by_place e entry at (inr b) =
+          let within = slice_get_within (entries ++ greatest ∷ []) e entry at in
+          let place : e ≡ length entries = omega (arith, within, length-append entries (greatest ∷ []), b) in
+          let here : c ≡ e = omega (arith, place, was.long, l) in
+          let same : greatest ≡ entry = same_Some greatest entry (sym (get_last entries greatest e place) ∙ at) in
+          subst (λ (k : ℕ). IsGreatest g (k + 1) entry) here (subst (IsGreatest g (c + 1)) same is)
 
-        gates_more : (k n e : ℕ) (y : Expression) → k < t + 1 → size_initialiser (global_lists m) k ≡ Some n → e ≤ n → slice_get m.global_expressions e ≡ Some y → (k < t) ⊎ (t ≤ k) → NamesBefore k y
-        gates_more k n e y h begins l there (inl b) = r.gates k n e y b begins l there
-        gates_more k n e y h begins l there (inr b) =
-            let place : t ≡ k = omega (arith, h, b) in
-            let same : last ≡ n = same_Some last n (sym sized ∙ ap (size_initialiser (global_lists m)) place ∙ begins) in
-            let within : e < d = omega (arith, l, same, up.reach) in
-            subst (λ (j : ℕ). NamesBefore j y) place (seen_names t e y (seen_now e within (cases_lt e c)) there)
+  pub table_full : (entries : List (Option ℕ)) (c room : ℕ) → IsTable g entries c room → room ≤ length entries → IsTable g entries (c + 1) room
+  table_full entries c room was l = record { each = was.each; long = omega (arith, was.long, l) }
 
-  -- no size needs an expression past all that sizes need
-  pub ungated : (e : ℕ) → top_before (global_lists m) (length m.types) ≤ e → (t n : ℕ) → size_initialiser (global_lists m) t ≡ Some n → e ≤ n → ⊥
-  ungated e low t n begins high =
+module _ (m : Module) where
+  pub right_none : ExpressionsOk m 0
+  unfolding ExpressionsOk
+  right_none e x h at = absurd (omega (arith, h))
+
+  -- one more expression is right
+  pub right_more : (c : ℕ) (x : Expression) → ExpressionsOk m c → slice_get m.global_expressions c ≡ Some x → ExpressionOk m c x → ExpressionsOk m (c + 1)
+  unfolding ExpressionsOk
+  right_more c x before at here e y h there = by_place (cases_lt e c)
+    where
+      by_place : (e < c) ⊎ (c ≤ e) → ExpressionOk m e y
+      by_place (inl l) = before e y l there
+      by_place (inr l) =
+          let place : c ≡ e = omega (arith, h, l) in
+          let same : x ≡ y = same_Some x y (sym at ∙ ap (slice_get m.global_expressions) place ∙ there) in
+          subst (λ (k : ℕ). ExpressionOk m k y) place (subst (ExpressionOk m c) same here)
+
+  -- a size that needs no expression
+  pub gate_none : (t : ℕ) → size_initialiser (global_lists m) t ≡ None → GateOk m t
+  unfolding GateOk
+  gate_none t none n e u begins l names = absurd (cc)
+
+  module _ (t n : ℕ) (entry : Option ℕ) (sized : size_initialiser (global_lists m) t ≡ Some n) (is : IsGreatest (global_lists m) (n + 1) entry) where
+    -- a size whose expressions name types before the type alone
+    pub gate_passed : reach entry ≤ t → GateOk m t
+    unfolding GateOk
+    gate_passed before k e u begins l names =
+        let same : n ≡ k = same_Some n k (sym sized ∙ begins) in
+        omega (arith, is.covers e u (omega (arith, l, same)) names, before)
+
+    -- one whose expressions name the type itself or a later one
+    pub gate_refused : (u : ℕ) → entry ≡ Some u → t ≤ u → IsOrderFault m (forward (to.Type_ t) (to.Type_ u))
+    gate_refused u at late =
+        let by = is.named u at in
+        not_gated t n by.0 u sized (omega (arith, by.1)) by.2 late
+
+  -- one more type was visited, with one more look
+  pub visited_more : (t : ℕ) (x : «Type») (w : Walker) (reader : Reader) → Visited m t w → slice_get m.types t ≡ Some x → TypeOk m t x.inner → GateOk m t → reader.looks ≡ w.reader.looks + 1
+      → Visited m (t + 1) (record { reader = reader; visited = w.visited; kept = w.kept; greatest = w.greatest; table = w.table })
+  visited_more t x w reader v at stands gate counted = record {
+    inside = v.inside;
+    right = v.right;
+    kept = v.kept;
+    names = v.names;
+    room = v.room;
+    types = λ k y h there. type_at k y h there (cases_lt k t);
+    gates = λ k h. gate_at k h (cases_lt k t);
+    few = omega (arith, v.few, counted);
+    looks = λ all. omega (arith, v.looks all, counted);
+  }
+    where
+      type_at : (k : ℕ) (y : «Type») → k < t + 1 → slice_get m.types k ≡ Some y → (k < t) ⊎ (t ≤ k) → TypeOk m k y.inner
+      type_at k y h there (inl l) = v.types k y l there
+      type_at k y h there (inr l) =
+          let place : t ≡ k = omega (arith, h, l) in
+          let same : x ≡ y = same_Some x y (sym at ∙ ap (slice_get m.types) place ∙ there) in
+          subst (λ (j : ℕ). TypeOk m j y.inner) place (subst (λ (z : «Type»). TypeOk m t z.inner) same stands)
+
+      gate_at : (k : ℕ) → k < t + 1 → (k < t) ⊎ (t ≤ k) → GateOk m k
+      gate_at k h (inl l) = v.gates k l
+      gate_at k h (inr l) = let place : t ≡ k = omega (arith, h, l) in subst (GateOk m) place gate
+
+  -- after all types, if the greatest type that an expression names is missing, that is a fault: no size needs the expression
+  pub missing_type : (w : Walker) (u : ℕ) → Visited m (length m.types) w → w.greatest ≡ Some u → (Exists (module_counts m) (to.Type_ u) → ⊥) → IsOrderFault m (missing (to.Type_ u))
+  unfolding GateOk
+  missing_type w u v named absent =
+      let by = v.names.0.named u named in
+      let ungated : (t n : ℕ) → size_initialiser (global_lists m) t ≡ Some n → by.0 ≤ n → ⊥ = λ t n begins l.
       let there = size_within (global_lists m) t n begins in
-      let reaches : reach (size_initialiser (global_lists m) t) ≡ n + 1 = ap reach begins in
-      let has = top_has (global_lists m) t in
-      let grows = top_grows (global_lists m) (t + 1) (length m.types) (omega (arith, there)) in
-      absurd (omega (arith, low, high, reaches, has, grows))
+      let before = v.gates t there n by.0 u begins l by.2 in
+      omega (arith, there, before, absent) in
+      not_visited (to.Type_ u) (type_ by.0 u by.2 ungated) absent

@@ -73,7 +73,7 @@ fn validate_all_handles(alloc: Global, module: &Module) -> Result<(), Validation
     ensures accepted { OnOk result (HandlesAccepted «module».now) }
     ensures refused { IfErr result (IsHandleRefusal «module».now) }
 {
-    walk(module)?;
+    walk(alloc, module)?;
     validate_other_handles(alloc, module)
 }
 

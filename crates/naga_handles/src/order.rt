@@ -1,11 +1,11 @@
 //! The order in which types and global expressions can be visited.
 
-ghost use Rattle.std.specs.Prelude.{◌≡◌, ◌+◌, ◌<◌, ◌≤◌, List, [], ◌∷◌, ◌++◌, IfErr, IfOk, OnOk, length};
+ghost use Rattle.std.specs.Prelude.{◌≡◌, ◌+◌, ◌≤◌, List, [], ◌∷◌, ◌++◌, IfErr, IfOk, OnOk, length};
 ghost use Rattle.naga_arena.specs.Memory.{UnlessOutOfMemory};
 ghost use Rattle.naga_arena.specs.Numbers.{largest_u32};
 ghost use Rattle.naga_ir.specs.ItemReferences.{global_lists};
 ghost use Rattle.naga_handles.specs.Order.{CanBeOrdered, IsOrder, NamesOrderFault, RanksFall};
-ghost use Rattle.naga_handles.specs.steps.VisitState.{IsNoOrder, Placed, PlacesUpTo, Reached};
+ghost use Rattle.naga_handles.specs.steps.VisitState.{IsNoOrder, PlacesUpTo};
 ghost use Rattle.naga_handles.specs.declared.order.Item.TheVariants as item;
 
 use crate::error::ValidationFault;
@@ -28,8 +28,8 @@ pub enum Item {
 pub struct Walk {
     /// Each type and each global expression once, after all that it depends on.
     pub order: Vec<Item>,
-    /// How many types and global expressions were read from the module.
-    pub reads: u64,
+    /// How many types and global expressions were looked at.
+    pub looks: u64,
 }
 
 /// The types and global expressions of a module in an order in which each follows all that it depends
@@ -37,7 +37,7 @@ pub struct Walk {
 /// the type that it names, and the initialiser of the constant or override that it names.
 ///
 /// Types are in their order, and so are expressions. Each type is preceded by the expressions up to
-/// the initialiser that sizes it; the others are last. `reads` is the number of items: the private
+/// the initialiser that sizes it; the others are last. `looks` is the number of items: the private
 /// reader of the walk counts what it reads. The cost is linear in the module.
 ///
 /// # Errors
@@ -50,7 +50,7 @@ pub fn visit_order(alloc: Global, module: &Module) -> Result<Walk, ValidationFau
         (λ fault. NamesOrderFault «module».now fault × (CanBeOrdered «module».now → ⊥)) }
     ensures order { IfOk result (λ walk. IsOrder (global_lists «module».now) walk.order.items) }
     ensures falls { OnOk result (RanksFall (global_lists «module».now)) }
-    ensures reads { IfOk result (λ walk. walk.reads
+    ensures looks { IfOk result (λ walk. walk.looks
         ≡ length «module».now.types + length «module».now.global_expressions) }
 {
     order_of(alloc, module)
@@ -61,21 +61,24 @@ pub fn visit_order(alloc: Global, module: &Module) -> Result<Walk, ValidationFau
 fn order_of(alloc: Global, module: &Module) -> Result<Walk, ValidationFault>
     ensures accepted { OnOk result (CanBeOrdered «module».now) }
     ensures order { IfOk result (λ walk. IsOrder (global_lists «module».now) walk.order.items) }
-    ensures reads { IfOk result (λ walk. walk.reads
+    ensures looks { IfOk result (λ walk. walk.looks
         ≡ length «module».now.types + length «module».now.global_expressions) }
     ensures refused { IfErr result (IsNoOrder «module».now) }
 {
-    let mut walker = Walker::new();
+    let mut walker = Walker::of_expressions(alloc, module, module.global_expressions.len())?;
     let mut order = Vec::new(alloc);
+    let mut placed = 0;
     for index in 0..module.types.len() {
-        visit_in_order(&mut walker, module, &mut order, Handle::new(index as u32))?;
+        let handle = Handle::new(index as u32);
+        let needed = placed.max(walker.visit_type(module, handle)?);
+        push_visited(&mut order, placed, needed, handle)?;
+        placed = needed;
     }
-    let before = walker.visited();
-    walker.visit_rest(module)?;
-    push_expressions(&mut order, before, walker.visited())?;
+    walker.check_rest(module)?;
+    push_expressions(&mut order, placed, module.global_expressions.len())?;
     Ok(Walk {
         order,
-        reads: walker.reads(),
+        looks: walker.looks(),
     })
 }
 
@@ -105,26 +108,5 @@ fn push_visited(
 {
     push_expressions(order, from, to)?;
     order.push(Item::Type_(handle))?;
-    Ok(())
-}
-
-/// Visits a type, and adds to an order what was visited.
-fn visit_in_order(
-    walker: &mut Walker,
-    module: &Module,
-    order: &mut Vec<Item>,
-    handle: Handle<TypeTag>,
-) -> Result<(), ValidationFault>
-    requires few { handle < largest_u32 }
-    requires exists { handle < length «module».now.types }
-    requires reached { Reached «module».now handle walker.old.visited walker.old.reader.reads }
-    requires placed { Placed (global_lists «module».now) order.old.items handle walker.old.visited }
-    ensures reached { OnOk result (Reached «module».now (handle + 1) walker.new.visited walker.new.reader.reads) }
-    ensures placed { OnOk result (Placed (global_lists «module».now) order.new.items (handle + 1) walker.new.visited) }
-    ensures refused { IfErr result (IsNoOrder «module».now) }
-{
-    let before = walker.visited();
-    walker.visit_type(module, handle)?;
-    push_visited(order, before, walker.visited(), handle)?;
     Ok(())
 }

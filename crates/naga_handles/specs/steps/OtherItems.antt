@@ -1,5 +1,5 @@
 -- Which items are right, types and global expressions aside.
-use Rattle.std.specs.Prelude.{◌≡◌, ◌⊎◌, ℕ, ◌<◌, List, Some, All, Contains, length, slice_get}
+use Rattle.std.specs.Prelude.{◌≡◌, ◌⊎◌, ℕ, ◌<◌, Some, All, Contains, length, slice_get}
 use Rattle.std.specs.List.{flat_map}
 use Rattle.naga_ir.specs.Handles.{Exists, MemberExists, OrderedOperands, function_counts, module_counts, place_of}
 use Rattle.naga_ir.specs.ItemReferences.{all_functions, constant_references, filter_references, function_references, other_references, override_references}
@@ -8,9 +8,9 @@ use Rattle.naga_ir.specs.declared.ir.Function.{Function}
 use Rattle.naga_ir.specs.declared.ir.Module.{Module}
 use Rattle.naga_ir.specs.declared.reference.Reference.{Reference}
 use Rattle.naga_ir.specs.declared.reference.Reference.TheVariants as to
-use Rattle.naga_handles.specs.Faults.{IsFault}
+use Rattle.naga_handles.specs.Faults.{IsFault, NeedsMemory}
 use Rattle.naga_handles.specs.declared.error.ValidationFault.{ValidationFault}
-use Rattle.naga_handles.specs.declared.error.ValidationFault.TheVariants.{MissingMember, OutOfMemory}
+use Rattle.naga_handles.specs.declared.error.ValidationFault.TheVariants.{OutOfMemory}
 
 -- what all items but types and global expressions refer to exists, and precedes them if it has to; all that comments document exists
 pub record OtherItemsOk (m : Module) : Type 0 where
@@ -25,6 +25,6 @@ pub record OtherItemsOk (m : Module) : Type 0 where
   pub calls_back : (i j : ℕ) (f : Function) → slice_get m.functions i ≡ Some f → Contains (function_references f) (to.Function j) → j < i
   pub filters_back : (i j : ℕ) (n : DiagnosticFilterNode) → slice_get m.diagnostic_filters i ≡ Some n → n.parent ≡ Some j → j < i
 
--- why a module is refused: for a fault, or because memory was refused for the name of a type without a documented member
+-- why a module is refused: for a fault, or because memory was refused that may be requested
 abbrev pub IsHandleRefusal : Module → ValidationFault → Type 0
-IsHandleRefusal m fault = IsFault m fault ⊎ ((fault ≡ OutOfMemory) × ((t : ℕ) × (name : List ℕ) × IsFault m (MissingMember t name)))
+IsHandleRefusal m fault = IsFault m fault ⊎ ((fault ≡ OutOfMemory) × NeedsMemory m)

@@ -1,10 +1,10 @@
 -- What is known while types and global expressions are visited.
-use Rattle.std.specs.Prelude.{◌≡◌, ◌⊎◌, ℕ, ◌+◌, ◌<◌, ◌≤◌, max, List, Option, Some, None, Contains, length, slice_get}
+use Rattle.std.specs.Prelude.{◌≡◌, ◌⊎◌, ℕ, ◌+◌, ◌<◌, ◌≤◌, min, List, Option, Some, None, Contains, MatchOption, option_map, length, slice_get, vec_capacity}
 use Rattle.naga_arena.specs.Numbers.{largest_u32}
-use Rattle.naga_ir.specs.Handles.{Exists, initialiser_of, module_counts, size_initialiser}
+use Rattle.naga_ir.specs.Handles.{Exists, NamesType, initialiser_of, module_counts, size_initialiser}
 use Rattle.naga_ir.specs.ItemReferences.{GlobalLists, global_lists}
-use Rattle.naga_ir.specs.Ranks.{gate, rank_of_expression, rank_of_type, top_before}
-use Rattle.naga_ir.specs.References.{named_item, named_type, operands}
+use Rattle.naga_ir.specs.Ranks.{gate, rank_of_expression, rank_of_type, reach}
+use Rattle.naga_ir.specs.References.{named_item, operands}
 use Rattle.naga_ir.specs.declared.expression.Expression.{Expression}
 use Rattle.naga_ir.specs.declared.expression.Expression.TheVariants as form
 use Rattle.naga_ir.specs.declared.ir.Constant.{Constant}
@@ -14,13 +14,14 @@ use Rattle.naga_ir.specs.declared.reference.Reference.{Reference}
 use Rattle.naga_ir.specs.Parts.{parts, size_override}
 use Rattle.naga_ir.specs.declared.types.TypeInner.{TypeInner}
 use Rattle.naga_ir.specs.declared.types.«Type».{«Type»}
-use Rattle.naga_handles.specs.Faults.{forward}
+use Rattle.naga_handles.specs.Faults.{IsOrderFault, forward}
 use Rattle.naga_handles.specs.Order.{NamesOrderFault, rank_of, reference_to}
 use Rattle.naga_handles.specs.declared.error.InvalidHandleError.{InvalidHandleError}
 use Rattle.naga_handles.specs.declared.error.ValidationFault.{ValidationFault}
 use Rattle.naga_handles.specs.declared.error.ValidationFault.TheVariants.{OutOfMemory}
 use Rattle.naga_handles.specs.declared.order.Item.{Item}
 use Rattle.naga_handles.specs.declared.order.Item.TheVariants as item
+use Rattle.naga_handles.specs.declared.walk.Walker.{Walker}
 
 -- all these indices are less than this one
 unfoldable pub AllBefore : ℕ → List ℕ → Type 0
@@ -30,14 +31,9 @@ AllBefore place others = (p : ℕ) → Contains others p → p < place
 abbrev pub NamesLate : (ℕ → Reference) → ℕ → List ℕ → InvalidHandleError → Type 0
 NamesLate at place others error = (p : ℕ) × Contains others p × (place ≤ p) × (error ≡ forward (at place) (at p))
 
--- the initialiser of a constant, if there is one
-abbrev pub constant_value : Option Constant → Option ℕ
-constant_value None = None
-constant_value (Some c) = Some c.init
-
 -- the initialiser of the constant or override that an expression names
 unfoldable pub named_initialiser : GlobalLists → Expression → Option ℕ
-named_initialiser g (form.Constant c) = constant_value (slice_get g.constants c)
+named_initialiser g (form.Constant c) = option_map (λ (d : Constant). d.init) (slice_get g.constants c)
 named_initialiser g (form.Override o) = initialiser_of (slice_get g.overrides o)
 named_initialiser g _ = None
 
@@ -62,31 +58,39 @@ pub record ExpressionOk (m : Module) (e : ℕ) (x : Expression) : Type 0 where
   pub operands_before : AllBefore e (operands x)
   pub item : ItemOk m e x
 
--- the type that an expression names precedes t
-unfoldable pub NamesBefore : ℕ → Expression → Type 0
-NamesBefore t x = (u : ℕ) → named_type x ≡ Some u → u < t
+-- this is the greatest type that the expressions before c name, if they name any
+pub record IsGreatest (g : GlobalLists) (c : ℕ) (greatest : Option ℕ) : Type 0 where
+  pub covers : (e u : ℕ) → e < c → NamesType g e u → u < reach greatest
+  pub named : (u : ℕ) → greatest ≡ Some u → (e : ℕ) × (e < c) × NamesType g e u
 
--- the references of the expression at e are right, and its type precedes t
-unfoldable pub Seen : Module → ℕ → ℕ → Type 0
-Seen m t e = (x : Expression) → slice_get m.global_expressions e ≡ Some x → ExpressionOk m e x × NamesBefore t x
+-- entry e of the table is the greatest type that the expressions 0 to e name; there is one for each expression before c, as far as there is room
+pub record IsTable (g : GlobalLists) (entries : List (Option ℕ)) (c room : ℕ) : Type 0 where
+  pub each : (e : ℕ) (entry : Option ℕ) → slice_get entries e ≡ Some entry → IsGreatest g (e + 1) entry
+  pub long : length entries ≡ min c room
 
--- the expressions from one index to another were visited for the type t, which the initialiser `last` sizes
-pub record SeenUpTo (m : Module) (t from to last : ℕ) : Type 0 where
-  pub inside : to ≤ length m.global_expressions
-  pub grows : from ≤ to
-  pub each : (e : ℕ) → from ≤ e → e < to → Seen m t e
-  pub reach : last < to
-  pub tight : to ≤ max from (last + 1)
+-- what the walker knows of the types that the visited expressions name
+abbrev pub Names : GlobalLists → Walker → Type 0
+Names g w = IsGreatest g w.visited w.greatest × IsTable g w.table.items w.visited (vec_capacity w.table)
 
--- the types before t and the expressions before c were visited, each once
-pub record Reached (m : Module) (t c reads : ℕ) : Type 0 where
-  pub inside : c ≤ length m.global_expressions
-  pub few : c ≤ largest_u32
-  pub top : top_before (global_lists m) t ≡ c
-  pub counted : reads ≡ t + c
-  pub seen : (e : ℕ) → e < c → Seen m t e
+-- the references of the expressions before c are right, their types aside
+unfoldable pub ExpressionsOk : Module → ℕ → Type 0
+ExpressionsOk m c = (e : ℕ) (x : Expression) → e < c → slice_get m.global_expressions e ≡ Some x → ExpressionOk m e x
+
+-- the expressions that the size of t needs name only types before t
+unfoldable pub GateOk : Module → ℕ → Type 0
+GateOk m t = (n e u : ℕ) → size_initialiser (global_lists m) t ≡ Some n → e ≤ n → NamesType (global_lists m) e u → u < t
+
+-- the expressions were visited, and the types before t
+pub record Visited (m : Module) (t : ℕ) (w : Walker) : Type 0 where
+  pub inside : w.visited ≤ length m.global_expressions
+  pub right : ExpressionsOk m w.visited
+  pub kept : MatchOption w.kept (w.visited ≡ length m.global_expressions) (IsOrderFault m)
+  pub names : Names (global_lists m) w
+  pub room : 0 < length m.overrides → length m.global_expressions ≤ vec_capacity w.table
   pub types : (k : ℕ) (x : «Type») → k < t → slice_get m.types k ≡ Some x → TypeOk m k x.inner
-  pub gates : (k n e : ℕ) (x : Expression) → k < t → size_initialiser (global_lists m) k ≡ Some n → e ≤ n → slice_get m.global_expressions e ≡ Some x → NamesBefore k x
+  pub gates : (k : ℕ) → k < t → GateOk m k
+  pub few : w.reader.looks ≤ t + largest_u32
+  pub looks : w.visited ≡ length m.global_expressions → w.reader.looks ≡ t + length m.global_expressions
 
 -- the order as far as the types before t and the expressions before c
 pub record Placed (g : GlobalLists) (order : List Item) (t c : ℕ) : Type 0 where

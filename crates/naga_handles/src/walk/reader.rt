@@ -12,32 +12,32 @@ use naga_ir::types::Type;
 /// Reads types and global expressions of a module, and counts how many.
 #[derive(Drop)]
 pub(crate) struct Reader {
-    reads: u64,
+    looks: u64,
 }
 
 impl Reader {
     /// Nothing was read.
     pub(crate) fn new() -> Reader
-        ensures { result.reads ≡ 0 }
+        ensures { result.looks ≡ 0 }
     {
-        Reader { reads: 0 }
+        Reader { looks: 0 }
     }
 
     /// How many items were read.
-    pub(crate) fn reads(&self) -> u64
-        ensures { result ≡ self.now.reads }
+    pub(crate) fn looks(&self) -> u64
+        ensures { result ≡ self.now.looks }
     {
-        self.reads
+        self.looks
     }
 
     /// The type that a handle names.
     pub(crate) fn type_at<'a>(&mut self, module: &'a Module, handle: Handle<TypeTag>) -> &'a Type
         requires exists { handle < length «module».now.types }
-        requires few { self.old.reads < 2 * largest_u32 }
+        requires few { self.old.looks < 2 * largest_u32 }
         ensures read { slice_get «module».now.types handle ≡ Some result.now }
-        ensures counted { self.new.reads ≡ self.old.reads + 1 }
+        ensures counted { self.new.looks ≡ self.old.looks + 1 }
     {
-        self.reads += 1;
+        self.looks += 1;
         &module.types[handle]
     }
 
@@ -48,11 +48,11 @@ impl Reader {
         handle: Handle<ExpressionTag>,
     ) -> &'a Expression
         requires exists { handle < length «module».now.global_expressions }
-        requires few { self.old.reads < 2 * largest_u32 }
+        requires few { self.old.looks < 2 * largest_u32 }
         ensures read { slice_get «module».now.global_expressions handle ≡ Some result.now }
-        ensures counted { self.new.reads ≡ self.old.reads + 1 }
+        ensures counted { self.new.looks ≡ self.old.looks + 1 }
     {
-        self.reads += 1;
+        self.looks += 1;
         &module.global_expressions[handle]
     }
 }

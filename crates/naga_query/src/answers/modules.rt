@@ -100,13 +100,13 @@ fn add_item(answer: &mut String, item: Item) -> Result<(), AllocError> {
     }
 }
 
-/// Adds the order in which types and global expressions are visited, and how many were read.
+/// Adds the order in which types and global expressions are visited, and how many were looked at.
 fn add_walk(answer: &mut String, walk: &Walk) -> Result<(), AllocError> {
     for item in &walk.order {
         add_item(answer, *item)?;
     }
-    let reads = walk.reads;
-    write!(answer, "reads {reads}\n")
+    let looks = walk.looks;
+    write!(answer, "looks {looks}\n")
 }
 
 /// `order`: adds the order of visits, or why there is none.

@@ -1,12 +1,16 @@
-use Rattle.std.proofs.Common.{◌≡◌, ℕ, length, arith, subst}
-use Rattle.naga_handles.specs.steps.VisitState.{Reached}
-use Rattle.naga_handles.proofs.VisitLemmas.{reached_at}
+use Rattle.std.proofs.Common.{◌≡◌, inl, sym, subst, rules}
+use Rattle.std.specs.Prelude.{Err, IfErr}
+use Rattle.naga_handles.specs.Faults.{invalid, on_walk}
+use Rattle.naga_handles.specs.steps.OtherItems.{IsHandleRefusal}
+use Rattle.naga_handles.specs.declared.error.ValidationFault.TheVariants.{Invalid}
 use Rattle.naga_handles.proofs.walk.walk.Goals as goal
 
-pub loop-index-init : goal.loop-index-init
-loop-index-init c = reached_at c.args.module.now c.new-walker.result.visited c.new-walker.result.reader.reads c.new-walker.ensures.visited c.new-walker.ensures.reads
+pub returns-in_err-visit_type-clause-refused : goal.returns-in_err-visit_type-clause-refused
+returns-in_err-visit_type-clause-refused c =
+    let is : c.from_residual-in_err-visit_type.result ≡ Err (Invalid c.in_err-visit_type.field-0.0) = search rules in
+    subst (λ r. IfErr r (IsHandleRefusal c.args.module.now)) (sym is) (inl (invalid _ (on_walk _ c.in_err-visit_type.ensures.refused)))
 
-pub visit_rest-requires-clause-reached : goal.visit_rest-requires-clause-reached
-visit_rest-requires-clause-reached c =
-    let all : c.loop-index.index ≡ length c.args.module.now.types = omega (arith, c.loop-index-test.false, c.len-index-end.ensures.value, c.loop-index.auto.index-end) in
-    subst (λ (t : ℕ). Reached c.args.module.now t c.loop-index.walker.visited c.loop-index.walker.reader.reads) all c.loop-index.invariant
+pub returns-in_err-check_rest-clause-refused : goal.returns-in_err-check_rest-clause-refused
+returns-in_err-check_rest-clause-refused c =
+    let is : c.from_residual-in_err-check_rest.result ≡ Err (Invalid c.in_err-check_rest.field-0.0) = search rules in
+    subst (λ r. IfErr r (IsHandleRefusal c.args.module.now)) (sym is) (inl (invalid _ (on_walk _ c.in_err-check_rest.ensures.refused)))
