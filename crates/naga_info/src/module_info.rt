@@ -1,7 +1,8 @@
 //! What validation learns of a module.
 
-ghost use Rattle.std.specs.Prelude.{◌≡◌, ◌+◌, ◌<◌, ◌≤◌, [], ◌∷◌, ◌++◌, length, IfOk, IsOk, OnErr, OnOk, Some, slice_get};
+ghost use Rattle.std.specs.Prelude.{◌≡◌, ◌+◌, ◌<◌, ◌≤◌, [], ◌∷◌, ◌++◌, length, map, IfOk, IsOk, OnErr, OnOk, Some, slice_get};
 ghost use Rattle.naga_info.specs.ModuleInfo.{no_lists};
+ghost use Rattle.naga_types.specs.declared.info.TypeInfo.{TypeInfo};
 
 use naga_flags::flags::{ShaderStages, TypeFlags};
 use naga_ir::handle::Handle;
@@ -9,6 +10,7 @@ use naga_ir::handle_vec::HandleVec;
 use naga_ir::list::List;
 use naga_ir::memory::OutOfMemory;
 use naga_ir::tags::{ExpressionTag, FunctionTag, TypeTag};
+use naga_types::info::TypeInfos;
 use naga_typing::typifier::TypeResolution;
 use std::alloc::{AllocError, Global};
 use std::marker::Model;
@@ -99,6 +101,23 @@ impl Model for ModuleInfo {
     } };
 }
 
+/// Adds flags at the end of others, all of them or none.
+fn append_flags(
+    all: &mut HandleVec<TypeFlags, TypeTag>,
+    added: &[TypeFlags],
+) -> Result<(), OutOfMemory>
+    ensures added { OnOk result (all.new.items ≡ all.old.items ++ added.now) }
+    ensures refused { OnErr result (all.new.items ≡ all.old.items) }
+    ensures within_room { length all.old.items + length added.now ≤ all.old.room → IsOk result }
+    ensures grows { all.old.room ≤ all.new.room }
+{
+    all.reserve(added.len())?;
+    for flags in added {
+        all.push(*flags).unwrap();
+    }
+    Ok(())
+}
+
 impl ModuleInfo {
     /// The info of a module that holds nothing.
     pub fn new(alloc: Global) -> ModuleInfo
@@ -146,6 +165,25 @@ impl ModuleInfo {
         ensures other_room { self.new.expression_room ≡ self.old.expression_room }
     {
         self.type_flags.push(flags)
+    }
+
+    /// Adds what each of these types may be used for. Within the room this takes no memory.
+    ///
+    /// # Errors
+    ///
+    /// `OutOfMemory` if memory was refused, which changes no list.
+    pub fn copy_flags(&mut self, infos: &TypeInfos) -> Result<(), OutOfMemory>
+        ensures copied { OnOk result (self.new.lists
+            ≡ record self.old.lists {
+              type_flags = self.old.lists.type_flags ++ map (λ (info : TypeInfo). info.flags) infos.now.infos;
+            }) }
+        ensures refused { OnErr result (self.new.lists ≡ self.old.lists) }
+        ensures within_room { length self.old.lists.type_flags + length infos.now.infos ≤ self.old.type_room
+            → IsOk result }
+        ensures grows { self.old.type_room ≤ self.new.type_room }
+        ensures other_room { self.new.expression_room ≡ self.old.expression_room }
+    {
+        append_flags(&mut self.type_flags, infos.flags())
     }
 
     /// Adds the type of the next global expression. Within the room this takes no memory.

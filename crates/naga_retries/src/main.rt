@@ -8,12 +8,14 @@
 //! it with one request after another refused. The status is 3 if nothing could be printed.
 #![tactic(auto)]
 
+mod acceptance;
 mod arenas;
 mod infos;
 mod leaves;
 mod retry;
 mod validation;
 
+use crate::acceptance::accept_again;
 use crate::arenas::append_again;
 use crate::infos::{add_type_infos, fill_function_info, fill_module_info, make_room};
 use crate::leaves::find_leaves;
@@ -26,6 +28,7 @@ use std::process::ExitCode;
 fn run(alloc: Global) -> Result<Memory, Wrong> {
     let mut memory = Memory::default();
     validate_again(alloc, &mut memory)?;
+    accept_again(alloc, &mut memory)?;
     append_again(alloc, &mut memory)?;
     fill_module_info(alloc, &mut memory)?;
     make_room(alloc, &mut memory)?;

@@ -10,6 +10,7 @@ pub mod HostLaws
 pub mod HostLeaves
 pub mod CheckedTypes
 mod CheckLemmas
+mod Columns
 pub mod KeptConditions
 pub mod LayoutParts
 pub mod LeafPlaces

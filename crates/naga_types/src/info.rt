@@ -1,6 +1,6 @@
 //! The infos of types, and what the rule of types depends on.
 
-ghost use Rattle.std.specs.Prelude.{◌≡◌, ◌==◌, ◌<◌, ◌≤◌, [], ◌∷◌, ◌++◌, length, IfOk, IsOk, OnErr, OnOk, Some, slice_get};
+ghost use Rattle.std.specs.Prelude.{◌≡◌, ◌==◌, ◌<◌, ◌≤◌, [], ◌∷◌, ◌++◌, length, map, IfOk, IsOk, OnErr, OnOk, Some, slice_get};
 
 use crate::error::Disalignment;
 use naga_flags::flags::{Capabilities, TypeFlags};
@@ -50,19 +50,29 @@ impl TypeInfo {
     }
 }
 
-/// The infos of a module's types. Contracts see them as a list in the order of the types, with the
-/// room for infos that takes no more memory.
+/// The infos of a module's types, in a column for each field. Contracts see them as a list in the order of the types,
+/// with the room for infos that takes no more memory.
 #[derive(Debug, Drop)]
 pub struct TypeInfos {
-    infos: HandleVec<TypeInfo, TypeTag>,
+    flags: HandleVec<TypeFlags, TypeTag>,
+    uniform_layouts: HandleVec<LayoutCompatibility, TypeTag>,
+    storage_layouts: HandleVec<LayoutCompatibility, TypeTag>,
+    immediates_compatibilities: HandleVec<ImmediateCompatibility, TypeTag>,
 }
 
 impl Model for TypeInfos {
-    ghost use Rattle.naga_types.specs.Infos.{Infos};
+    ghost use Rattle.std.specs.Prelude.{min};
+    ghost use Rattle.naga_types.specs.Infos.{AreColumns, Infos, infos_in};
 
     ghost Value = { Infos };
 
-    ghost view = { λ i. record { infos = i.infos.items; room = i.infos.room } };
+    ghost view = { λ i. record {
+      infos = infos_in i.flags.items i.uniform_layouts.items i.storage_layouts.items i.immediates_compatibilities.items;
+      room = min (min i.flags.room i.uniform_layouts.room) (min i.storage_layouts.room i.immediates_compatibilities.room);
+    } };
+
+    ghost invariant = { λ i. AreColumns i.flags.items i.uniform_layouts.items i.storage_layouts.items
+        i.immediates_compatibilities.items };
 }
 
 impl TypeInfos {
@@ -77,7 +87,10 @@ impl TypeInfos {
         ensures none { room ≡ 0 → IsOk result }
     {
         Ok(TypeInfos {
-            infos: HandleVec::with_capacity(alloc, room)?,
+            flags: HandleVec::with_capacity(alloc, room)?,
+            uniform_layouts: HandleVec::with_capacity(alloc, room)?,
+            storage_layouts: HandleVec::with_capacity(alloc, room)?,
+            immediates_compatibilities: HandleVec::with_capacity(alloc, room)?,
         })
     }
 
@@ -85,21 +98,52 @@ impl TypeInfos {
     pub fn room(&self) -> usize
         ensures { result ≡ self.now.room }
     {
-        self.infos.capacity()
+        let flags = self.flags.capacity();
+        let layouts = self
+            .uniform_layouts
+            .capacity()
+            .min(self.storage_layouts.capacity());
+        flags
+            .min(layouts)
+            .min(self.immediates_compatibilities.capacity())
     }
 
     /// How many infos there are.
     pub fn len(&self) -> usize
         ensures { result ≡ length self.now.infos }
     {
-        self.infos.len()
+        self.flags.len()
     }
 
     /// Whether there is no info.
     pub fn is_empty(&self) -> bool
         ensures { result ≡ (length self.now.infos == 0) }
     {
-        self.infos.is_empty()
+        self.flags.is_empty()
+    }
+
+    /// What each type may be used for, in the order of the types.
+    pub fn flags(&self) -> &[TypeFlags]
+        ensures { result.now ≡ map (λ info. info.flags) self.now.infos }
+    {
+        self.flags.as_slice()
+    }
+
+    /// Makes room for one more info.
+    ///
+    /// # Errors
+    ///
+    /// `OutOfMemory` if memory was refused, which leaves the infos as they were.
+    fn reserve_one(&mut self) -> Result<(), OutOfMemory>
+        ensures infos { self.new.infos ≡ self.old.infos }
+        ensures reserved { OnOk result (length self.old.infos < self.new.room) }
+        ensures within_room { length self.old.infos < self.old.room → IsOk result }
+        ensures room { self.old.room ≤ self.new.room }
+    {
+        self.flags.reserve(1)?;
+        self.uniform_layouts.reserve(1)?;
+        self.storage_layouts.reserve(1)?;
+        self.immediates_compatibilities.reserve(1)
     }
 
     /// Adds the info of the next type. Below the room this takes no memory.
@@ -113,9 +157,15 @@ impl TypeInfos {
         ensures within_room { length self.old.infos < self.old.room → IsOk result }
         ensures room { self.old.room ≤ self.new.room }
     {
-        // The prover has to meet the types inside an info before the info is pushed.
-        let _layouts = (info.uniform_layout, info.storage_layout);
-        self.infos.push(info)
+        // All columns have room before the first grows.
+        self.reserve_one()?;
+        self.flags.push(info.flags).unwrap();
+        self.uniform_layouts.push(info.uniform_layout).unwrap();
+        self.storage_layouts.push(info.storage_layout).unwrap();
+        self.immediates_compatibilities
+            .push(info.immediates_compatibility)
+            .unwrap();
+        Ok(())
     }
 
     /// The info of the type that a handle names.
@@ -123,14 +173,22 @@ impl TypeInfos {
         requires { handle < length self.now.infos }
         ensures { slice_get self.now.infos handle ≡ Some result }
     {
-        self.infos[handle]
+        TypeInfo {
+            flags: self.flags[handle],
+            uniform_layout: self.uniform_layouts[handle],
+            storage_layout: self.storage_layouts[handle],
+            immediates_compatibility: self.immediates_compatibilities[handle],
+        }
     }
 
     /// Forgets all infos, and keeps the room.
     pub fn clear(&mut self)
         ensures { self.new ≡ record self.old { infos = [] } }
     {
-        self.infos.clear();
+        self.flags.clear();
+        self.uniform_layouts.clear();
+        self.storage_layouts.clear();
+        self.immediates_compatibilities.clear();
     }
 }
 

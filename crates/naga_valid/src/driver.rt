@@ -459,10 +459,7 @@ fn validate_types(
     make_room(alloc, module, infos, &mut mod_info)?;
     for (handle, ty) in module.types.iter() {
         match type_info_of(alloc, settings, infos, layouter, handle, module) {
-            Ok(info) => {
-                mod_info.push_type(info.flags)?;
-                infos.push(info)?;
-            }
+            Ok(info) => infos.push(info)?,
             Err(source) => {
                 if is_out_of_memory(&source) {
                     return Err(WithSpan::new(ValidationError::OutOfMemory));
@@ -477,6 +474,7 @@ fn validate_types(
             }
         }
     }
+    mod_info.copy_flags(infos)?;
     Ok(mod_info)
 }
 

@@ -1,26 +1,20 @@
-use Rattle.std.proofs.Common.{rules, ◌≡◌, [], ◌∷◌, ◌++◌, List, length, refl, sym, subst, ap, ◌∙◌, inr, arith, length-append}
-use Rattle.std.proofs.lemmas.List.{map-append}
+use Rattle.std.proofs.Common.{rules, ◌≡◌, [], ◌∷◌, ◌++◌, length, map, refl, sym, subst, ap, ◌∙◌, inr, arith, length-append}
 use Rattle.std.proofs.lemmas.Option.{slice_get_within}
 use Rattle.naga_arena.proofs.InOrder.{none_follow, one_more_follows}
 use Rattle.naga_arena.specs.InOrder.{given_at}
 use Rattle.naga_info.specs.ModuleInfo.{ModuleInfoLists}
-use Rattle.naga_flags.specs.declared.flags.TypeFlags.{TypeFlags}
 use Rattle.naga_ir.specs.ItemReferences.{global_lists}
 use Rattle.naga_types.specs.AcceptedTypes.{types_rule}
 use Rattle.naga_types.specs.declared.error.TypeError.TheVariants.{OutOfMemory as NoMemory}
 use Rattle.naga_types.specs.declared.info.TypeInfo.{TypeInfo}
 use Rattle.naga_typing.proofs.Iteration.{Iterating, accepts_all, all_counted, begin, next_index, next_item, one_more}
 use Rattle.naga_arena.specs.Span.{inner_of}
-use Rattle.naga_valid.specs.Accepted.{Refuses, lists_of}
+use Rattle.naga_valid.specs.Accepted.{Refuses}
 use Rattle.naga_valid.specs.declared.error.ValidationError.{ValidationError}
 use Rattle.naga_valid.specs.declared.error.ValidationError.TheVariants.{Type_}
 use Rattle.naga_valid.proofs.Refusals.{type_refuses}
 use Rattle.naga_valid.proofs.RuleResults.{returns_err, returns_ok}
 use Rattle.naga_valid.proofs.driver.validate_types.Goals as goal
-
--- the lists of some infos
-abbrev lists : List TypeInfo → ModuleInfoLists
-lists infos = lists_of (record { infos = infos; resolutions = [] })
 
 pub loop-handle-init : goal.loop-handle-init
 loop-handle-init c =
@@ -29,7 +23,6 @@ loop-handle-init c =
     record {
       iterating = subst (λ n. Iterating accepts_all m.types n c.into_iter-handle-iterator.result) (sym (ap length made.infos)) (begin accepts_all m.types _ (c.into_iter-handle-iterator.ensures.into_iter_gives ∙ c.iter-handle-items.ensures));
       follow = none_follow (types_rule (global_lists m) c.args.settings.capabilities c.args.settings.resolved c.args.layouter.now) m.types _ made.infos;
-      lists = made.mod_info ∙ c.new-mod_info.ensures ∙ sym (ap lists made.infos);
     }
 
 pub type_info_of-requires-clause-exists : goal.type_info_of-requires-clause-exists
@@ -55,13 +48,9 @@ loop-handle-preserved c =
     let at = next_item accepts_all m.types _ _ _ _ _ iterating c.in-Some.ensures.steps in
     let place = next_index accepts_all m.types _ _ _ _ _ iterating c.in-Some.ensures.steps in
     let given = returns_ok m settings.capabilities settings.resolved c.args.layouter.now infos c.in-Some.handle c.in-Some.ty.now at info c.in-Ok.ensures in
-    let noted : List TypeFlags → ModuleInfoLists = λ flags. record { type_flags = flags; functions = []; entry_points = []; const_expression_types = [] } in
     record {
       iterating = subst (λ n. Iterating accepts_all m.types n c.next.new.self) (sym (ap length pushed ∙ length-append infos (info ∷ []))) (one_more accepts_all m.types _ _ _ _ _ iterating c.in-Some.ensures.steps refl);
       follow = one_more_follows rule m.types infos _ info c.loop-handle.invariant.follow (ap (given_at rule m.types infos) (sym place) ∙ given) pushed;
-      lists =
-          c.in_ok-push_type-in-Ok.ensures.pushed ∙ ap (λ (l : ModuleInfoLists). record l { type_flags = l.type_flags ++ info.flags ∷ [] }) c.loop-handle.invariant.lists
-          ∙ ap noted (sym (map-append (λ (i : TypeInfo). i.flags) infos (info ∷ []))) ∙ sym (ap lists pushed);
     }
 
 pub returns-in-Err : goal.returns-in-Err
@@ -97,5 +86,5 @@ returns c = (
       each_type = record { as_many = all_counted accepts_all c.args.module.now.types _ _ c.loop-handle.invariant.iterating c.in-None.ensures.steps.0; follow = c.loop-handle.invariant.follow };
     };
   },
-  c.loop-handle.invariant.lists,
+  c.in_ok-copy_flags.ensures.copied ∙ ap (λ (l : ModuleInfoLists). record l { type_flags = l.type_flags ++ map (λ (i : TypeInfo). i.flags) c.loop-handle.infos.infos }) (c.in_ok-make_room.ensures.mod_info ∙ c.new-mod_info.ensures),
 )
