@@ -46,12 +46,16 @@ use std::alloc::Global;
 ///
 /// Accepting takes no memory. The cost is linear in the expression's own components, in the members of
 /// structs that it compares, and in the pointers through which its base is reached, except for the search for
-/// forbidden integers on the right of a division or a shift. It goes through the compositions that a constant
-/// is made of as if they were written out in full, and calls itself at compositions of several components. If all
-/// these are accepted, they have at most as many components as a vector. Expressions that nobody has checked,
-/// global ones without the flag `CONSTANTS` or earlier ones of the function, can make the search take
-/// exponential time, by `vec2(E0, E0)`, `vec2(E1, E1)` and so on, or a stack as deep as their arena, by
-/// `vec2(E0, 1)`, `vec2(E1, 1)` and so on.
+/// forbidden integers on the right of a division or a shift, which also goes through the constants, splats and
+/// compositions that the operand is made of, and calls itself at compositions of several components. If all these
+/// are accepted, they are a vector of at most four components, and the calls are at most three deep.
+///
+/// Expressions that nobody has checked, global ones without the flag `CONSTANTS` or earlier ones of the function, can
+/// nest deeper. The calls are then as deep as they are nested, up to the length of the arena, by `vec2(E0, 1)`,
+/// `vec2(E1, 1)` and so on. The search notes what it has been through, so that shared ones, as in `vec2(E0, E0)`,
+/// `vec2(E1, E1)` and so on, take linear time. It has sixteen notes, one for each remainder of an index. So time is
+/// exponential if the indexes of all compositions leave one remainder, and each is `vec3(E, F, E)` of the one before
+/// it and another.
 ///
 /// # Errors
 ///

@@ -1,3 +1,4 @@
 mod BinaryResults
 mod Places
+mod Searches
 mod Sources

@@ -1,2 +1,3 @@
 -- What only private functions promise one another.
 pub mod Places
+pub mod Searched

@@ -1,10 +1,11 @@
 //! The integers in constant expressions.
 
-ghost use Rattle.std.specs.Prelude.{◌≡◌, ◌↔◌, ◌<◌, IfNone, IfSome, IsTrue, length, pos};
+ghost use Rattle.std.specs.Prelude.{◌≡◌, ◌↔◌, ◌<◌, IfNone, IfSome, IsTrue, None, Some, length, pos, replicate, slice_get};
 ghost use Rattle.naga_ir.specs.References.{named_type};
 ghost use Rattle.naga_info.specs.Surroundings.{AreSound, surroundings};
 ghost use Rattle.naga_operator_exprs.specs.Integers as spec;
 ghost use Rattle.naga_operator_exprs.specs.Integers.{ContainsForbidden, expression_at};
+ghost use Rattle.naga_operator_exprs.specs.steps.Searched.{HaveNone, note_count, note_of};
 ghost use Rattle.naga_operator_exprs.specs.steps.Places.{AreComponents, HasNoSourceAt, IsSource, IsSourceOrItself, OwnForbidden, PlaceExists, is_forbidden_found};
 
 use naga_info::context::FunctionContext;
@@ -231,13 +232,83 @@ fn is_forbidden_itself(
     }
 }
 
+/// How many compositions a search notes.
+const NOTE_COUNT: usize = 16;
+
+/// Where a search notes a composition.
+fn note_of(place: Place) -> usize
+    ensures value { result ≡ note_of place }
+    ensures within { result < note_count }
+{
+    match place {
+        Place::InFunction(handle) | Place::InModule(handle) => handle.index() % NOTE_COUNT,
+    }
+}
+
+/// What a search has found so far.
+#[derive(Drop)]
+struct Searched {
+    /// Compositions in which no forbidden number is: the last one searched, of those whose indexes leave the same
+    /// remainder. They are so few that they take no memory, and enough for compositions that share components which
+    /// stand near each other.
+    noted: [Option<Place>; NOTE_COUNT],
+}
+
+impl Searched {
+    /// The beginning of a search.
+    fn new() -> Searched
+        ensures { result.noted ≡ replicate note_count None }
+    {
+        Searched {
+            noted: [None; NOTE_COUNT],
+        }
+    }
+
+    /// Whether the composition at a place is noted.
+    fn has(&self, place: Place) -> bool
+        ensures { IsTrue result → slice_get self.now.noted (note_of place) ≡ Some (Some place) }
+    {
+        match self.noted[note_of(place)] {
+            Some(noted) => noted == place,
+            None => false,
+        }
+    }
+
+    /// Whether a forbidden number is in the constant expression at a place, of whose parts some may be searched.
+    fn finds(&mut self, context: FunctionContext<'_>, forbidden: Forbidden, place: Place) -> bool
+        requires sound { AreSound (surroundings context) }
+        requires exists { PlaceExists (surroundings context) place }
+        requires noted { HaveNone (surroundings context) forbidden self.old.noted }
+        ensures noted { HaveNone (surroundings context.entry) forbidden self.new.noted }
+        ensures found { IsTrue result ↔ ContainsForbidden (surroundings context.entry) forbidden place }
+    {
+        let last = source(context, place);
+        let components = components_at(context, &last);
+        if components.is_empty() {
+            return is_forbidden_itself(context, forbidden, expression_at(context, &last));
+        }
+        if self.has(last) {
+            return false;
+        }
+        for component in components {
+            if self.finds(context, forbidden, last.operand_place(*component)) {
+                return true;
+            }
+        }
+        // Only now, after its components, is the whole composition searched.
+        self.noted[note_of(last)] = Some(last);
+        false
+    }
+}
+
 /// Whether a forbidden number is in the constant expression at a place.
 ///
-/// The cost is the size of the expression written out in full. Expressions that have their integers from one
-/// other are followed in a loop; a composition of several components is a recursion. If compositions are
-/// accepted, the recursion is at most as deep as a vector has components.
-pub(crate) fn has_forbidden<'a>(
-    context: FunctionContext<'a>,
+/// Expressions that have their integers from one other are followed in a loop; a composition of several components is
+/// a recursion. If compositions are accepted, they are of a vector, and the recursion is at most three deep. Else it is
+/// as deep as they are nested, and each is searched once if no two have indexes that leave the same remainder by
+/// `NOTE_COUNT`; if all leave the same, each can be searched twice as often as the one that it is a component of.
+pub(crate) fn has_forbidden(
+    context: FunctionContext<'_>,
     forbidden: Forbidden,
     place: Place,
 ) -> bool
@@ -245,11 +316,5 @@ pub(crate) fn has_forbidden<'a>(
     requires exists { PlaceExists (surroundings context) place }
     ensures { IsTrue result ↔ ContainsForbidden (surroundings context.entry) forbidden place }
 {
-    let last = source(context, place);
-    for component in components_at(context, &last) {
-        if has_forbidden(context, forbidden, last.operand_place(*component)) {
-            return true;
-        }
-    }
-    is_forbidden_itself(context, forbidden, expression_at(context, &last))
+    Searched::new().finds(context, forbidden, place)
 }
