@@ -1,8 +1,7 @@
 -- Words of which each is read, one by one.
-use Rattle.std.proofs.Common.{◌≡◌, ℕ, ◌+◌, ◌<◌, List, [], ◌∷◌, ◌++◌, Option, None, Some, drop, get_or, length, map, refl, sym, ap, ◌∙◌, subst, append_assoc}
-use Rattle.std.proofs.lemmas.List.{drop-map, drop_more}
+use Rattle.std.proofs.Common.{◌≡◌, ℕ, List, [], ◌∷◌, ◌++◌, Option, Some, map, refl, subst}
 use Rattle.std.proofs.lemmas.Option.{option_and_then_some, same_Some}
-use Rattle.std.specs.Option.{option_and_then, option_map}
+use Rattle.std.specs.Option.{option_map}
 use Rattle.naga_text.specs.Forms.{Matches, Part}
 use Rattle.naga_text.specs.WordForms.{read_each}
 
@@ -24,33 +23,3 @@ module _ {A : Type 0} (reader : List ℕ → Option A) where
   -- the values so far, before the values of the words that are left
   abbrev pub after : List A → List (List ℕ) → Option (List A)
   after before ws = option_map (λ values. before ++ values) (read_each reader ws)
-
-  -- one value more
-  one_more : (before : List A) (w : List ℕ) (ws : List (List ℕ)) (a : A) → Some a ≡ reader w → after before (w ∷ ws) ≡ after (before ++ a ∷ []) ws
-  one_more before w ws a h = rw (sym h) (go (read_each reader ws))
-    where
-      go : (rest : Option (List A)) → option_map (λ values. before ++ values) (option_and_then (λ values. Some (a ∷ values)) rest) ≡ option_map (λ values. (before ++ a ∷ []) ++ values) rest
-      go None = refl
-      go (Some values) = ap Some (sym (append_assoc before (a ∷ []) values))
-
-  -- no value
-  none_after : (before : List A) (w : List ℕ) (ws : List (List ℕ)) → None ≡ reader w → after before (w ∷ ws) ≡ None
-  none_after before w ws h = rw (sym h) refl
-
-  module _ {X : Type 0} (f : X → List ℕ) (xs : List X) (i : ℕ) (d : X) where
-    -- the words that are left are one, and those left after it
-    left_after : i < length xs → drop i (map f xs) ≡ f (get_or xs i d) ∷ drop (i + 1) (map f xs)
-    left_after h = drop-map f i xs ∙ ap (map f) (drop_more xs i d h) ∙ ap (λ l. f (get_or xs i d) ∷ l) (sym (drop-map f (i + 1) xs))
-
-    -- the next word has no value, so the words have none
-    pub stopped : (before : List A) (read : Option A) → i < length xs → read ≡ reader (f (get_or xs i d)) → read ≡ None
-        → after before (drop i (map f xs)) ≡ read_each reader (map f xs) → None ≡ read_each reader (map f xs)
-    stopped before read h e none so_far =
-        sym (none_after before (f (get_or xs i d)) (drop (i + 1) (map f xs)) (sym none ∙ e)) ∙ sym (ap (after before) (left_after h)) ∙ so_far
-
-    -- the next word has a value, so the values so far are one more
-    pub went_on : (before now : List A) (read : Option A) (a : A) → i < length xs → read ≡ reader (f (get_or xs i d)) → read ≡ Some a → now ≡ before ++ a ∷ []
-        → after before (drop i (map f xs)) ≡ read_each reader (map f xs) → after now (drop (i + 1) (map f xs)) ≡ read_each reader (map f xs)
-    went_on before now read a h e some pushed so_far =
-        ap (λ values. after values (drop (i + 1) (map f xs))) pushed
-        ∙ sym (one_more before (f (get_or xs i d)) (drop (i + 1) (map f xs)) a (sym some ∙ e)) ∙ sym (ap (after before) (left_after h)) ∙ so_far

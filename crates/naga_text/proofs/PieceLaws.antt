@@ -1,21 +1,29 @@
 -- What precedes the first separator, and what follows it.
-use Rattle.std.proofs.Common.{◌≡◌, ◌==◌, ℕ, ◌+◌, ◌-◌, ◌<◌, All, IfNone, IfSome, None, Option, Some, false, List, [], ◌∷◌, ◌++◌, drop, get_or, length, take, arith, refl, sym, ap, append_assoc, ◌∙◌, length-drop, eq-eqb}
+use Rattle.std.proofs.Common.{◌≡◌, ◌==◌, ℕ, ◌+◌, ◌-◌, ◌<◌, ◌≤◌, All, IfNone, IfSome, None, Option, Some, false, List, [], ◌∷◌, ◌++◌, drop, get_or, length, take, arith, refl, sym, ap, ◌∙◌, length-drop, eq-eqb}
 use Rattle.std.proofs.lemmas.List.{drop_more, take-append-drop, take_all}
 use Rattle.std.proofs.lemmas.List.Elements.{All-head, All-tail, All-weaker}
 use Rattle.std.proofs.lemmas.List.Splits.{length-slice_split, slice_split-cons_no, slice_split_at, slice_split_none}
+use Rattle.std.specs.Option.{MatchOption}
+use Rattle.std.proofs.lemmas.List.Sums.{count_by-le-length}
 use Rattle.std.specs.List.{count_by, onto_first, slice_split}
 use Rattle.naga_text.specs.Bytes.{line_feed, space}
 use Rattle.naga_text.specs.Words.{lines_of, words_of}
-use Rattle.naga_text.specs.steps.Lines.{IsInWord, first_line, first_of}
+use Rattle.naga_text.specs.LineWords.{first_line, first_of, others_of}
+use Rattle.naga_text.specs.steps.Lines.{IsInWord}
+
+-- bytes are those before the one at `i`, that one, and those after it
+pub parts_at : (xs : List ℕ) (i : ℕ) → i < length xs → xs ≡ take i xs ++ get_or xs i 0 ∷ take (length xs - (i + 1)) (drop (i + 1) xs)
+parts_at xs i within =
+    let rest : take (length xs - (i + 1)) (drop (i + 1) xs) ≡ drop (i + 1) xs = take_all _ (drop (i + 1) xs) (simp length-drop (omega arith)) in
+    let whole : take i xs ++ get_or xs i 0 ∷ drop (i + 1) xs ≡ xs = ap (λ l. take i xs ++ l) (sym (drop_more xs i 0 within)) ∙ take-append-drop i xs in
+    sym whole ∙ ap (λ l. take i xs ++ get_or xs i 0 ∷ l) (sym rest)
 
 -- bytes of which the one at `i` is the first separator are the bytes before it, and the pieces of those after it
 pub split_at : (xs : List ℕ) (i separator : ℕ) → i < length xs → All (λ b. (b == separator) ≡ false) (take i xs) → get_or xs i 0 ≡ separator
     → slice_split (λ b. b == separator) xs ≡ take i xs ∷ slice_split (λ b. b == separator) (take (length xs - (i + 1)) (drop (i + 1) xs))
 split_at xs i separator within before here =
-    let rest : take (length xs - (i + 1)) (drop (i + 1) xs) ≡ drop (i + 1) xs = take_all _ (drop (i + 1) xs) (simp length-drop (omega arith)) in
-    let whole : take i xs ++ get_or xs i 0 ∷ drop (i + 1) xs ≡ xs = ap (λ l. take i xs ++ l) (sym (drop_more xs i 0 within)) ∙ take-append-drop i xs in
-    let split = slice_split_at (λ b. b == separator) (take i xs) (get_or xs i 0) (drop (i + 1) xs) before (eq-eqb (get_or xs i 0) separator here) in
-    ap (slice_split (λ b. b == separator)) (sym whole) ∙ split ∙ ap (λ l. take i xs ∷ slice_split (λ b. b == separator) l) (sym rest)
+    ap (slice_split (λ b. b == separator)) (parts_at xs i within)
+    ∙ slice_split_at (λ b. b == separator) (take i xs) (get_or xs i 0) (take (length xs - (i + 1)) (drop (i + 1) xs)) before (eq-eqb (get_or xs i 0) separator here)
 
 -- there is a first piece, and a list of those after it
 pub first_piece : {A : Type 0} (after : Option A) (pieces : List (List ℕ)) (first : List ℕ) (rest : A → List (List ℕ)) → IfNone after (pieces ≡ first ∷ []) → IfSome after (λ a. pieces ≡ first ∷ rest a)
@@ -49,39 +57,46 @@ no_feed word in' = All-weaker IsInWord (λ b. (b == line_feed) ≡ false) (λ b 
 
 -- a word before a space is the first of the first line, which has the words of the line after the space
 pub goes_on : (text word rest : List ℕ) → All IsInWord word → text ≡ word ++ space ∷ rest
-    → (words_of (first_line text) ≡ word ∷ words_of (first_line rest)) × ((others : List (List ℕ)) → lines_of rest ≡ first_line rest ∷ others → lines_of text ≡ first_line text ∷ others)
+    → (words_of (first_line text) ≡ word ∷ words_of (first_line rest)) × (others_of (lines_of text) ≡ others_of (lines_of rest))
 goes_on text word rest in' whole =
-    let joined : (others : List (List ℕ)) → lines_of rest ≡ first_line rest ∷ others → lines_of text ≡ (word ++ space ∷ first_line rest) ∷ others = λ others h.
-    ap lines_of whole ∙ before_line word (space ∷ rest) (space ∷ first_line rest) others (no_feed word in') (slice_split-cons_no (λ b. b == line_feed) space rest refl ∙ ap (onto_first space) h) in
     let piece = has_piece line_feed rest in
-    let first : first_line rest ≡ piece.0 = ap first_of piece.2 in
-    let line : first_line text ≡ word ++ space ∷ first_line rest = ap first_of (joined piece.1 (piece.2 ∙ ap (λ l. l ∷ piece.1) (sym first))) in (
-      ap words_of line ∙ slice_split_at (λ b. b == space) word space (first_line rest) (no_space word in') refl,
-      λ others h. joined others h ∙ ap (λ l. l ∷ others) (sym line),
+    let lines : lines_of text ≡ (word ++ space ∷ piece.0) ∷ piece.1 =
+    ap lines_of whole ∙ before_line word (space ∷ rest) (space ∷ piece.0) piece.1 (no_feed word in') (slice_split-cons_no (λ b. b == line_feed) space rest refl ∙ ap (onto_first space) piece.2) in
+    let first : first_line rest ≡ piece.0 = ap first_of piece.2 in (
+      ap words_of (ap first_of lines) ∙ slice_split_at (λ b. b == space) word space piece.0 (no_space word in') refl ∙ ap (λ line. word ∷ words_of line) (sym first),
+      ap others_of lines ∙ sym (ap others_of piece.2),
     )
 
 -- a word before a line feed is the first line, and its one word
-pub ends_line : (text word rest : List ℕ) → All IsInWord word → text ≡ word ++ line_feed ∷ rest → (words_of (first_line text) ≡ word ∷ []) × (lines_of text ≡ first_line text ∷ lines_of rest)
+pub ends_line : (text word rest : List ℕ) → All IsInWord word → text ≡ word ++ line_feed ∷ rest → (words_of (first_line text) ≡ word ∷ []) × (others_of (lines_of text) ≡ lines_of rest)
 ends_line text word rest in' whole =
-    let lines : lines_of text ≡ word ∷ lines_of rest = ap lines_of whole ∙ slice_split_at (λ b. b == line_feed) word line_feed rest (no_feed word in') refl in
-    let line : first_line text ≡ word = ap first_of lines in (
-      ap words_of line ∙ slice_split_none (λ b. b == space) word (no_space word in'),
-      lines ∙ ap (λ l. l ∷ lines_of rest) (sym line),
+    let lines : lines_of text ≡ word ∷ lines_of rest = ap lines_of whole ∙ slice_split_at (λ b. b == line_feed) word line_feed rest (no_feed word in') refl in (
+      ap words_of (ap first_of lines) ∙ slice_split_none (λ b. b == space) word (no_space word in'),
+      ap others_of lines,
     )
 
 -- a word that nothing follows is the only line, and its one word
-pub ends_text : (text word : List ℕ) → All IsInWord word → text ≡ word → (words_of (first_line text) ≡ word ∷ []) × (lines_of text ≡ first_line text ∷ [])
-ends_text text word in' whole =
-    let lines : lines_of text ≡ word ∷ [] = ap lines_of whole ∙ slice_split_none (λ b. b == line_feed) word (no_feed word in') in
-    let line : first_line text ≡ word = ap first_of lines in (
-      ap words_of line ∙ slice_split_none (λ b. b == space) word (no_space word in'),
-      lines ∙ ap (λ l. l ∷ []) (sym line),
+pub ends_text : (word : List ℕ) → All IsInWord word → (words_of (first_line word) ≡ word ∷ []) × (others_of (lines_of word) ≡ [])
+ends_text word in' =
+    let lines : lines_of word ≡ word ∷ [] = slice_split_none (λ b. b == line_feed) word (no_feed word in') in (
+      ap words_of (ap first_of lines) ∙ slice_split_none (λ b. b == space) word (no_space word in'),
+      ap others_of lines,
     )
 
--- words that were added are the whole with those that are still to come, after one word more too
-pub one_word_more : (now before whole tail : List (List ℕ)) (word : List ℕ) (words : List (List ℕ)) → now ≡ before ++ word ∷ [] → words ≡ word ∷ tail → before ++ words ≡ whole → now ++ tail ≡ whole
-one_word_more now before whole tail word words pushed here h = ap (λ l. l ++ tail) pushed ∙ append_assoc before (word ∷ []) tail ∙ ap (λ l. before ++ l) (sym here) ∙ h
+-- a text has its first line and the others
+pub lines_are : (text : List ℕ) → lines_of text ≡ first_line text ∷ others_of (lines_of text)
+lines_are text =
+    let piece = has_piece line_feed text in
+    piece.2 ∙ ap (λ line. line ∷ piece.1) (sym (ap first_of piece.2)) ∙ ap (λ others. first_line text ∷ others) (sym (ap others_of piece.2))
 
--- words that were added are the whole after the last word
-pub last_word : (now before whole : List (List ℕ)) (word : List ℕ) (words : List (List ℕ)) → now ≡ before ++ word ∷ [] → words ≡ word ∷ [] → before ++ words ≡ whole → now ≡ whole
-last_word now before whole word words pushed here h = pushed ∙ ap (λ l. before ++ l) (sym here) ∙ h
+-- what follows the first line are the others, if there are any
+pub others_follow : {A : Type 0} (text : List ℕ) (after : List (List ℕ)) (rest : Option A) (lines : A → List (List ℕ)) → after ≡ others_of (lines_of text) → MatchOption rest (after ≡ []) (λ a. after ≡ lines a)
+    → IfNone rest (lines_of text ≡ first_line text ∷ []) × IfSome rest (λ a. lines_of text ≡ first_line text ∷ lines a)
+others_follow text after None lines e h = (lines_are text ∙ ap (λ others. first_line text ∷ others) (sym e ∙ h), tt)
+others_follow text after (Some a) lines e h = (tt, lines_are text ∙ ap (λ others. first_line text ∷ others) (sym e ∙ h))
+
+-- a text has one line more than line feeds
+pub line_count : (text : List ℕ) → (1 ≤ length (lines_of text)) × (length (lines_of text) ≤ length text + 1)
+line_count text =
+    let lines = length-slice_split (λ b. b == line_feed) text in
+    let feeds = count_by-le-length (λ b. b == line_feed) text in (omega (arith, lines), omega (arith, lines, feeds))

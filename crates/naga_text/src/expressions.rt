@@ -1,10 +1,12 @@
 //! The expressions that words describe, one function a form.
 
+ghost use Rattle.naga_text.specs.LineWords.{lines_after, words_left};
 ghost use Rattle.naga_text.specs.Words.{handle_of};
 ghost use Rattle.naga_text.specs.steps.LineForms.{binary_of, compose_of, constant_expression_of, expression_of, fixed_expression_readers, literal_expression_of, override_expression_of, read_by, splat_of, unary_of, zero_value_of};
 ghost use Rattle.naga_text.specs.WordForms.{read_each};
 ghost use Rattle.std.specs.Prelude.{◌≡◌, IfOk, map};
 
+use crate::line_words::LineWords;
 use crate::literals::literal;
 use crate::number::handle;
 use crate::words::{binary_operator, equals, size, unary_operator};
@@ -14,6 +16,9 @@ use naga_ir::handle::Handle;
 use naga_ir::list::List;
 use naga_ir::tags::ExpressionTag;
 use std::alloc::Global;
+
+/// The most words that stand after the form of an expression other than `compose`: those of a binary operation.
+const MOST_WORDS: usize = 3;
 
 fn literal_expression(words: &[&[u8]]) -> Option<Expression>
     ensures { result ≡ literal_expression_of (map (λ w. w.now) words.now) }
@@ -78,15 +83,16 @@ fn binary(words: &[&[u8]]) -> Option<Expression>
     })
 }
 
-/// The components of words, if each is one.
+/// The components of the words that are left, if each is one.
 fn components(
     alloc: Global,
-    words: &[&[u8]],
+    words: &mut LineWords,
 ) -> Result<Option<List<Handle<ExpressionTag>>>, OutOfMemory>
-    ensures { IfOk result (λ read. read ≡ read_each handle_of (map (λ w. w.now) words.now)) }
+    ensures read { IfOk result (λ read. read ≡ read_each handle_of (words_left words.old)) }
+    ensures lines { lines_after words.new ≡ lines_after words.old }
 {
     let mut components = List::new(alloc);
-    for word in words {
+    while let Some(word) = words.next() {
         match handle(word) {
             Some(component) => components.push(component)?,
             None => return Ok(None),
@@ -95,16 +101,17 @@ fn components(
     Ok(Some(components))
 }
 
-fn compose(alloc: Global, words: &[&[u8]]) -> Result<Option<Expression>, OutOfMemory>
-    ensures { IfOk result (λ read. read ≡ compose_of (map (λ w. w.now) words.now)) }
+fn compose(alloc: Global, words: &mut LineWords) -> Result<Option<Expression>, OutOfMemory>
+    ensures read { IfOk result (λ read. read ≡ compose_of (words_left words.old)) }
+    ensures lines { lines_after words.new ≡ lines_after words.old }
 {
-    let Some((ty, rest)) = words.split_first() else {
+    let Some(ty) = words.next() else {
         return Ok(None);
     };
     let Some(ty) = handle(ty) else {
         return Ok(None);
     };
-    match components(alloc, rest)? {
+    match components(alloc, words)? {
         Some(components) => Ok(Some(Expression::Compose { ty, components })),
         None => Ok(None),
     }
@@ -126,16 +133,31 @@ fn fixed_expression(form: &[u8], words: &[&[u8]]) -> Option<Expression>
     }
 }
 
-/// The expression of the words after `expr`. Only the components of a composition take memory.
-pub fn expression(alloc: Global, words: &[&[u8]]) -> Result<Option<Expression>, OutOfMemory>
-    ensures { IfOk result (λ read. read ≡ expression_of (map (λ w. w.now) words.now)) }
+/// The expression of a form other than `compose`, and of the words after it, of which only so many are read as such a
+/// form has.
+fn short_expression(form: &[u8], words: &mut LineWords) -> Option<Expression>
+    ensures read { result ≡ read_by fixed_expression_readers form.now (words_left words.old) }
+    ensures lines { lines_after words.new ≡ lines_after words.old }
 {
-    let Some((form, rest)) = words.split_first() else {
+    let mut room: [&[u8]; MOST_WORDS] = [&[]; MOST_WORDS];
+    fixed_expression(form, words.all(&mut room)?)
+}
+
+/// The expression of the words after `expr`. Only the components of a composition take memory.
+///
+/// # Errors
+///
+/// `OutOfMemory` if a request for memory was refused.
+pub fn expression(alloc: Global, words: &mut LineWords) -> Result<Option<Expression>, OutOfMemory>
+    ensures read { IfOk result (λ read. read ≡ expression_of (words_left words.old)) }
+    ensures lines { lines_after words.new ≡ lines_after words.old }
+{
+    let Some(form) = words.next() else {
         return Ok(None);
     };
     if equals(form, b"compose") {
-        compose(alloc, rest)
+        compose(alloc, words)
     } else {
-        Ok(fixed_expression(form, rest))
+        Ok(short_expression(form, words))
     }
 }

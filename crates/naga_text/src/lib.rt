@@ -1,9 +1,10 @@
 //! The reader of the text that describes a module and how it is validated.
 #![tactic(auto)]
 
-mod expressions;
+pub mod expressions;
 pub mod line;
-mod literals;
+pub mod line_words;
+pub mod literals;
 mod members;
 pub mod number;
 mod pieces;

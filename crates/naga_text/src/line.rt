@@ -2,11 +2,13 @@
 
 ghost use Rattle.naga_flags.specs.Bits.{all_capabilities, all_validation_flags};
 ghost use Rattle.naga_text.specs.Forms.{IsForm};
+ghost use Rattle.naga_text.specs.LineWords.{lines_after, words_left};
 ghost use Rattle.naga_text.specs.steps.LineForms.{capabilities_of, constant_of, doc_of, expression_line_of, fixed_readers, flags_of, line_of, override_of, read_by, resolved_of, type_line_of};
 ghost use Rattle.naga_text.specs.declared.line.Line.{Line};
 ghost use Rattle.std.specs.Prelude.{◌≡◌, IfOk, IfSome, Some, map};
 
 use crate::expressions::expression;
+use crate::line_words::LineWords;
 use crate::number::{handle, index, number_up_to, optional_handle, optional_number};
 use crate::types::type_inner;
 use crate::words::equals;
@@ -63,6 +65,9 @@ fn all_capabilities() -> u64
 {
     Capabilities::all().bits()
 }
+
+/// The most words that stand after a keyword other than `type` and `expr`: those of an override.
+const MOST_WORDS: usize = 3;
 
 fn flags(words: &[&[u8]]) -> Option<Line>
     ensures { result ≡ flags_of (map (λ w. w.now) words.now) }
@@ -121,8 +126,8 @@ fn doc(words: &[&[u8]]) -> Option<Line>
     })
 }
 
-fn type_line(alloc: Global, words: &[&[u8]]) -> Result<Option<Line>, OutOfMemory>
-    ensures { IfOk result (λ read. read ≡ type_line_of (map (λ w. w.now) words.now)) }
+fn type_line(alloc: Global, words: &mut LineWords) -> Result<Option<Line>, OutOfMemory>
+    ensures { IfOk result (λ read. read ≡ type_line_of (words_left words.old)) }
 {
     match type_inner(alloc, words)? {
         Some(inner) => Ok(Some(Line::Type_(inner))),
@@ -130,8 +135,8 @@ fn type_line(alloc: Global, words: &[&[u8]]) -> Result<Option<Line>, OutOfMemory
     }
 }
 
-fn expression_line(alloc: Global, words: &[&[u8]]) -> Result<Option<Line>, OutOfMemory>
-    ensures { IfOk result (λ read. read ≡ expression_line_of (map (λ w. w.now) words.now)) }
+fn expression_line(alloc: Global, words: &mut LineWords) -> Result<Option<Line>, OutOfMemory>
+    ensures { IfOk result (λ read. read ≡ expression_line_of (words_left words.old)) }
 {
     match expression(alloc, words)? {
         Some(expression) => Ok(Some(Line::Expression(expression))),
@@ -140,7 +145,7 @@ fn expression_line(alloc: Global, words: &[&[u8]]) -> Result<Option<Line>, OutOf
 }
 
 /// The line of a keyword other than `type` and `expr`, and of the words after it.
-pub(crate) fn fixed_line(keyword: &[u8], words: &[&[u8]]) -> Option<Line>
+fn fixed_line(keyword: &[u8], words: &[&[u8]]) -> Option<Line>
     ensures { result ≡ read_by fixed_readers keyword.now (map (λ w. w.now) words.now) }
 {
     match keyword {
@@ -154,25 +159,40 @@ pub(crate) fn fixed_line(keyword: &[u8], words: &[&[u8]]) -> Option<Line>
     }
 }
 
+/// The line of a keyword other than `type` and `expr`, and of the words after it, of which only so many are read as
+/// such a line has.
+pub(crate) fn short_line(keyword: &[u8], words: &mut LineWords) -> Option<Line>
+    ensures read { result ≡ read_by fixed_readers keyword.now (words_left words.old) }
+    ensures lines { lines_after words.new ≡ lines_after words.old }
+{
+    let mut room: [&[u8]; MOST_WORDS] = [&[]; MOST_WORDS];
+    fixed_line(keyword, words.all(&mut room)?)
+}
+
 /// The line of a keyword and of the words after it. It is apart from `read_line`, whose two clauses follow from
 /// the one here.
-fn keyword(alloc: Global, words: &[&[u8]]) -> Result<Option<Line>, OutOfMemory>
-    ensures { IfOk result (λ read. read ≡ line_of (map (λ w. w.now) words.now)) }
+fn keyword(alloc: Global, words: &mut LineWords) -> Result<Option<Line>, OutOfMemory>
+    ensures { IfOk result (λ read. read ≡ line_of (words_left words.old)) }
 {
-    let Some((keyword, rest)) = words.split_first() else {
+    let Some(keyword) = words.next() else {
         return Ok(None);
     };
     match keyword {
-        _ if equals(keyword, b"type") => type_line(alloc, rest),
-        _ if equals(keyword, b"expr") => expression_line(alloc, rest),
-        _ => Ok(fixed_line(keyword, rest)),
+        _ if equals(keyword, b"type") => type_line(alloc, words),
+        _ if equals(keyword, b"expr") => expression_line(alloc, words),
+        _ => Ok(short_line(keyword, words)),
     }
 }
 
-/// The line that has these words, if one has.
-pub fn read_line(alloc: Global, words: &[&[u8]]) -> Result<Option<Line>, OutOfMemory>
-    ensures found { IfOk result (λ read. IfSome read (λ line. IsForm (map (λ w. w.now) words.now) line)) }
-    ensures only { (line : Line) → IsForm (map (λ w. w.now) words.now) line → IfOk result (λ read. read ≡ Some line) }
+/// The line that has the words that are left, if one has. None of them is read of `words` itself.
+///
+/// # Errors
+///
+/// `OutOfMemory` if a request for memory was refused.
+pub fn read_line(alloc: Global, words: &LineWords) -> Result<Option<Line>, OutOfMemory>
+    ensures found { IfOk result (λ read. IfSome read (λ line. IsForm (words_left words.now) line)) }
+    ensures only { (line : Line) → IsForm (words_left words.now) line → IfOk result (λ read. read ≡ Some line) }
 {
-    keyword(alloc, words)
+    let mut words = *words;
+    keyword(alloc, &mut words)
 }

@@ -1,9 +1,11 @@
 //! The members of a struct, each in one word.
 
+ghost use Rattle.naga_text.specs.LineWords.{lines_after, words_left};
 ghost use Rattle.naga_text.specs.WordForms.{binding_of, member_of, read_each};
 ghost use Rattle.naga_text.specs.Words.{pieces_of};
-ghost use Rattle.std.specs.Prelude.{◌≡◌, IfOk, Some, map, option_map};
+ghost use Rattle.std.specs.Prelude.{◌≡◌, IfOk, Some, option_map};
 
+use crate::line_words::LineWords;
 use crate::number::{handle, number};
 use crate::pieces::split_first;
 use naga_ir::OutOfMemory;
@@ -48,12 +50,16 @@ fn member(word: &[u8]) -> Option<StructMember>
     })
 }
 
-/// The members of words, if each is one.
-pub fn members(alloc: Global, words: &[&[u8]]) -> Result<Option<List<StructMember>>, OutOfMemory>
-    ensures { IfOk result (λ read. read ≡ read_each member_of (map (λ w. w.now) words.now)) }
+/// The members of the words that are left, if each is one.
+pub fn members(
+    alloc: Global,
+    words: &mut LineWords,
+) -> Result<Option<List<StructMember>>, OutOfMemory>
+    ensures read { IfOk result (λ read. read ≡ read_each member_of (words_left words.old)) }
+    ensures lines { lines_after words.new ≡ lines_after words.old }
 {
     let mut members = List::new(alloc);
-    for word in words {
+    while let Some(word) = words.next() {
         match member(word) {
             Some(member) => members.push(member)?,
             None => return Ok(None),

@@ -5,14 +5,14 @@ ghost use Rattle.naga_text.specs.Text.{IsFirstUnreadable, IsText, NamesLine, has
 ghost use Rattle.naga_text.specs.Words.{lines_of};
 ghost use Rattle.naga_text.specs.declared.text.Contents.{Contents};
 ghost use Rattle.naga_text.specs.declared.text.TextError.TheVariants as error;
-ghost use Rattle.naga_text.specs.steps.Lines.{first_line};
+ghost use Rattle.naga_text.specs.LineWords.{first_line, lines_after, words_left};
 ghost use Rattle.naga_text.specs.steps.SoFar.{AreAdded, AreRead, IsAdded, IsNewItem, IsNewType, IsReadNext, IsSetOnce, ReadSoFar, finished};
 ghost use Rattle.std.specs.Prelude.{◌≡◌, ◌<◌, ◌∷◌, ◌++◌, IfErr, IfNone, IfOk, IfSome, None, Ok, [], length, map};
 ghost use Rattle.naga_text.specs.ErrorNames.{text_error_name};
 
 use crate::expressions::expression;
-use crate::line::{Line, fixed_line};
-use crate::pieces::{push_words, split_first};
+use crate::line::{Line, short_line};
+use crate::line_words::LineWords;
 use crate::types::type_inner;
 use crate::words::equals;
 use naga_flags::flags::{Capabilities, ValidationFlags};
@@ -194,26 +194,27 @@ fn add(alloc: Global, so_far: &mut ContentsSoFar, line: Line) -> Result<bool, Ou
 fn add_words(
     alloc: Global,
     so_far: &mut ContentsSoFar,
-    words: &[&[u8]],
+    words: &mut LineWords,
 ) -> Result<bool, OutOfMemory>
-    ensures { IfOk result (AreAdded so_far.old (map (λ w. w.now) words.now) so_far.new) }
+    ensures added { IfOk result (AreAdded so_far.old (words_left words.old) so_far.new) }
+    ensures lines { lines_after words.new ≡ lines_after words.old }
 {
-    let Some((keyword, rest)) = words.split_first() else {
+    let Some(keyword) = words.next() else {
         return Ok(false);
     };
     if equals(keyword, b"type") {
-        return match type_inner(alloc, rest)? {
+        return match type_inner(alloc, words)? {
             Some(inner) => add_type(&mut so_far.module.types, inner),
             None => Ok(false),
         };
     }
     if equals(keyword, b"expr") {
-        return match expression(alloc, rest)? {
+        return match expression(alloc, words)? {
             Some(expression) => add_item(&mut so_far.module.global_expressions, expression),
             None => Ok(false),
         };
     }
-    match fixed_line(keyword, rest) {
+    match short_line(keyword, words) {
         Some(line) => add(alloc, so_far, line),
         None => Ok(false),
     }
@@ -230,28 +231,23 @@ fn has_content(text: &[u8]) -> bool
 }
 
 /// Reads the first line of a text, and returns whether it could be read, and the bytes after that line's end if
-/// another line follows. The words of a line that has content replace what `words` has: all lines have their words in
-/// the same memory.
+/// another line follows.
 fn read_next<'a>(
     alloc: Global,
     so_far: &mut ContentsSoFar,
     text: &'a [u8],
-    words: &mut Vec<&'a [u8]>,
 ) -> Result<(bool, Option<&'a [u8]>), OutOfMemory>
     ensures read { IfOk result (λ r. IsReadNext so_far.old (first_line text.now) so_far.new r.0) }
     ensures last { IfOk result (λ r. IfNone r.1 (lines_of text.now ≡ first_line text.now ∷ [])) }
     ensures more { IfOk result (λ r. IfSome r.1 (λ rest. lines_of text.now
         ≡ first_line text.now ∷ lines_of rest.now)) }
-    ensures shorter { IfOk result (λ r. IfSome r.1 (λ rest. length rest.now < length text.now)) }
 {
+    let mut words = LineWords::new(text);
     if !has_content(text) {
-        let (_, others) = split_first(text, b'\n');
-        return Ok((true, others));
+        return Ok((true, words.others()));
     }
-    words.clear();
-    let others = push_words(text, words)?;
-    let added = add_words(alloc, so_far, words)?;
-    Ok((added, others))
+    let added = add_words(alloc, so_far, &mut words)?;
+    Ok((added, words.others()))
 }
 
 /// Reads line after line.
@@ -259,11 +255,10 @@ fn read_lines(alloc: Global, text: &[u8]) -> Result<Contents, TextError>
     ensures { AreRead (lines_of text.now) result }
 {
     let mut so_far = ContentsSoFar::new(alloc);
-    let mut words = Vec::new(alloc);
     let mut rest = text;
     let mut count = 0;
     'lines: loop {
-        let (read, others) = read_next(alloc, &mut so_far, rest, &mut words)?;
+        let (read, others) = read_next(alloc, &mut so_far, rest)?;
         if !read {
             return Err(TextError::Line(count + 1));
         }

@@ -1,8 +1,10 @@
 //! The types that words describe, one function a form.
 
+ghost use Rattle.naga_text.specs.LineWords.{lines_after, words_left};
 ghost use Rattle.naga_text.specs.steps.LineForms.{acceleration_structure_of, array_of, atomic_of, binding_array_of, cooperative_matrix_of, image_of, matrix_of, memberless_readers, pointer_of, ray_query_of, read_by, sampler_of, scalar_of, scalar_type_of, struct_of, type_of, value_pointer_of, vector_of};
 ghost use Rattle.std.specs.Prelude.{◌≡◌, IfOk, map};
 
+use crate::line_words::LineWords;
 use crate::members::members;
 use crate::number::{handle, number, number_up_to};
 use crate::words::{
@@ -12,6 +14,9 @@ use crate::words::{
 use naga_ir::OutOfMemory;
 use naga_ir::types::{Scalar, TypeInner};
 use std::alloc::Global;
+
+/// The most words that stand after the form of a type other than `struct`: those of a cooperative matrix.
+const MOST_WORDS: usize = 5;
 
 fn scalar(kind_word: &[u8], width_word: &[u8]) -> Option<Scalar>
     ensures { result ≡ scalar_of kind_word.now width_word.now }
@@ -163,16 +168,17 @@ fn ray_query_type(words: &[&[u8]]) -> Option<TypeInner>
     })
 }
 
-fn struct_type(alloc: Global, words: &[&[u8]]) -> Result<Option<TypeInner>, OutOfMemory>
-    ensures { IfOk result (λ read. read ≡ struct_of (map (λ w. w.now) words.now)) }
+fn struct_type(alloc: Global, words: &mut LineWords) -> Result<Option<TypeInner>, OutOfMemory>
+    ensures read { IfOk result (λ read. read ≡ struct_of (words_left words.old)) }
+    ensures lines { lines_after words.new ≡ lines_after words.old }
 {
-    let Some((span, rest)) = words.split_first() else {
+    let Some(span) = words.next() else {
         return Ok(None);
     };
     let Some(span) = number(span) else {
         return Ok(None);
     };
-    match members(alloc, rest)? {
+    match members(alloc, words)? {
         Some(members) => Ok(Some(TypeInner::Struct { members, span })),
         None => Ok(None),
     }
@@ -200,16 +206,27 @@ fn memberless_type(form: &[u8], words: &[&[u8]]) -> Option<TypeInner>
     }
 }
 
-/// The type of the words after `type`. Only a struct's members take memory.
-pub fn type_inner(alloc: Global, words: &[&[u8]]) -> Result<Option<TypeInner>, OutOfMemory>
-    ensures { IfOk result (λ read. read ≡ type_of (map (λ w. w.now) words.now)) }
+/// The type of a form other than `struct`, and of the words after it, of which only so many are read as such a form
+/// has.
+fn short_type(form: &[u8], words: &mut LineWords) -> Option<TypeInner>
+    ensures read { result ≡ read_by memberless_readers form.now (words_left words.old) }
+    ensures lines { lines_after words.new ≡ lines_after words.old }
 {
-    let Some((form, rest)) = words.split_first() else {
+    let mut room: [&[u8]; MOST_WORDS] = [&[]; MOST_WORDS];
+    memberless_type(form, words.all(&mut room)?)
+}
+
+/// The type of the words after `type`. Only a struct's members take memory.
+pub fn type_inner(alloc: Global, words: &mut LineWords) -> Result<Option<TypeInner>, OutOfMemory>
+    ensures read { IfOk result (λ read. read ≡ type_of (words_left words.old)) }
+    ensures lines { lines_after words.new ≡ lines_after words.old }
+{
+    let Some(form) = words.next() else {
         return Ok(None);
     };
     if equals(form, b"struct") {
-        struct_type(alloc, rest)
+        struct_type(alloc, words)
     } else {
-        Ok(memberless_type(form, rest))
+        Ok(short_type(form, words))
     }
 }

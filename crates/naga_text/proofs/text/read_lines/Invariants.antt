@@ -10,8 +10,8 @@ invariant-lines l = record {
   left : lines_of l.rest ≡ drop l.count (lines_of l.text);
   so_far : ReadSoFar (take l.count (lines_of l.text)) l.so_far;
   before : (k : ℕ) → k < l.count → IsReadable (take k (lines_of l.text));
-  few : l.count + length l.rest ≤ length l.text;
+  few : l.count + length (lines_of l.rest) ≤ length (lines_of l.text);
 }
 
 abbrev pub decreases-lines : goal.decreases-lines
-decreases-lines l = length l.rest
+decreases-lines l = length (lines_of l.rest)
