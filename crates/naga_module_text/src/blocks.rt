@@ -1,14 +1,19 @@
 //! The blocks of a function's body while they are read.
 
-use crate::items::{known, only_handle};
+use crate::items::{MOST_WORDS, known, only_handle};
 use crate::statements::statement;
 use crate::unread::Unread;
 use naga_ir::handle::Handle;
 use naga_ir::statement::{Block, Statement, SwitchCase};
 use naga_ir::tags::ExpressionTag;
+use naga_text::line_words::LineWords;
 use naga_text::number::optional_handle;
 use naga_text::words::chosen;
 use std::alloc::Global;
+
+/// The most blocks that stand in one another in a body, as in the texts that naga's front end for WGSL reads. So passes
+/// over a body that is read can call themselves for each block in a block.
+pub const MOST_NESTED: usize = 127;
 
 /// A word that opens or closes a block.
 #[derive(Clone, Copy)]
@@ -175,8 +180,11 @@ impl OpenBlocks {
         }
     }
 
-    /// Opens a block.
+    /// Opens a block, unless it would stand in too many others.
     fn open(&mut self, opener: Opener) -> Result<(), Unread> {
+        if self.open.len() >= MOST_NESTED {
+            return Err(Unread::Line);
+        }
         let block = Block::new(self.alloc);
         self.open.push(OpenBlock { opener, block })?;
         Ok(())
@@ -255,14 +263,15 @@ impl OpenBlocks {
     }
 
     /// Adds what the words of a line on statements say.
-    pub fn add(&mut self, words: &[&[u8]]) -> Result<(), Unread> {
-        let Some((first, rest)) = words.split_first() else {
-            return Err(Unread::Line);
-        };
-        match mark_of(first) {
-            Some(mark) => self.mark(mark, rest),
+    pub fn add(&mut self, words: &mut LineWords) -> Result<(), Unread> {
+        let word = known(words.next())?;
+        match mark_of(word) {
+            Some(mark) => {
+                let mut room: [&[u8]; MOST_WORDS] = [&[]; MOST_WORDS];
+                self.mark(mark, known(words.all(&mut room))?)
+            }
             None => {
-                let statement = statement(self.alloc, words)?;
+                let statement = statement(self.alloc, word, words)?;
                 self.push(statement)
             }
         }

@@ -3,7 +3,7 @@
 use crate::declarations::{Callable, Declarations};
 use crate::forms::expression;
 use crate::functions::{Finished, OpenFunction, Part, part_of};
-use crate::items::{MOST_ITEMS, append, known, only_handle, only_word};
+use crate::items::{MOST_ITEMS, MOST_WORDS, append, known, only_handle, only_word};
 use crate::settings::Settings;
 use crate::unread::Unread;
 use bitflags::Flags;
@@ -15,20 +15,19 @@ use naga_ir::span::Span;
 use naga_ir::text::Text;
 use naga_ir::types::{Type, TypeInner};
 use naga_text::line::{Line, read_line};
+use naga_text::line_words::LineWords;
 use naga_text::number::{handle, index, number_up_to, optional_handle};
-use naga_text::words::{chosen, space};
+use naga_text::words::{chosen, equals, space};
 use std::alloc::Global;
 
-/// What a line adds to a module that the line text doesn't have.
+/// What a line with a fixed number of words adds to a module, if the line text doesn't have it.
 #[derive(Clone, Copy)]
 enum Keyword {
     Name,
     GlobalVariable,
-    GlobalExpression,
     Function,
     EntryPoint,
     SpecialTypes,
-    OtherTypes,
     Filter,
     FilterLeaf,
     Comment(Commented),
@@ -49,11 +48,9 @@ fn keyword_of(word: &[u8]) -> Option<Keyword> {
     let keywords = [
         ("name", Keyword::Name),
         ("global", Keyword::GlobalVariable),
-        ("g", Keyword::GlobalExpression),
         ("fn", Keyword::Function),
         ("entry", Keyword::EntryPoint),
         ("special", Keyword::SpecialTypes),
-        ("others", Keyword::OtherTypes),
         ("filter", Keyword::Filter),
         ("filterleaf", Keyword::FilterLeaf),
         ("doctype", Keyword::Comment(Commented::Type)),
@@ -269,9 +266,19 @@ impl Draft {
         Ok(())
     }
 
+    /// `g FORM`
+    fn add_global_expression(&mut self, words: &mut LineWords) -> Result<(), Unread> {
+        let expression = expression(self.alloc, words)?;
+        append(
+            &mut self.module.global_expressions,
+            expression,
+            self.unfinished.span,
+        )
+    }
+
     /// `others T..`
-    fn add_other_types(&mut self, words: &[&[u8]]) -> Result<(), Unread> {
-        for word in words {
+    fn add_other_types(&mut self, words: &mut LineWords) -> Result<(), Unread> {
+        while let Some(word) = words.next() {
             let ty = known(handle(word))?;
             self.module.special_types.others.push(ty)?;
         }
@@ -323,18 +330,9 @@ impl Draft {
         match keyword {
             Keyword::Name => self.set_name(words),
             Keyword::GlobalVariable => self.add_global_variable(words),
-            Keyword::GlobalExpression => {
-                let expression = expression(self.alloc, words)?;
-                append(
-                    &mut self.module.global_expressions,
-                    expression,
-                    self.unfinished.span,
-                )
-            }
             Keyword::Function => self.open_function(words),
             Keyword::EntryPoint => self.open_entry_point(words),
             Keyword::SpecialTypes => self.set_special_types(words),
-            Keyword::OtherTypes => self.add_other_types(words),
             Keyword::Filter => self.add_filter(words),
             Keyword::FilterLeaf => {
                 self.module.diagnostic_filter_leaf = Some(known(only_handle(words))?);
@@ -344,32 +342,49 @@ impl Draft {
         }
     }
 
+    /// The last function or entry point.
+    fn open(&mut self) -> Result<&mut OpenFunction, Unread> {
+        known(self.unfinished.open.as_mut())
+    }
+
     /// Adds what a line says of the last function or entry point.
     fn add_part(&mut self, part: Part, words: &[&[u8]]) -> Result<(), Unread> {
         let name = match part {
             Part::Argument | Part::Local => self.unfinished.name.take(),
             _ => None,
         };
-        match &mut self.unfinished.open {
-            Some(open) => open.add(part, words, name),
+        self.open()?.add(part, words, name)
+    }
+
+    /// Adds what a line says that has a fixed number of words after its first, or any line of the line text.
+    fn add_short(
+        &mut self,
+        line: &LineWords,
+        first: &[u8],
+        words: &mut LineWords,
+    ) -> Result<(), Unread> {
+        let mut room: [&[u8]; MOST_WORDS] = [&[]; MOST_WORDS];
+        if let Some(part) = part_of(first) {
+            return self.add_part(part, known(words.all(&mut room))?);
+        }
+        if let Some(keyword) = keyword_of(first) {
+            return self.add(keyword, known(words.all(&mut room))?);
+        }
+        match read_line(self.alloc, line)? {
+            Some(line) => self.add_line(line),
             None => Err(Unread::Line),
         }
     }
 
     /// Adds what the words of a line say.
-    fn add_words(&mut self, words: &[&[u8]]) -> Result<(), Unread> {
-        let Some((first, rest)) = words.split_first() else {
-            return Err(Unread::Line);
-        };
-        if let Some(part) = part_of(first) {
-            return self.add_part(part, rest);
-        }
-        if let Some(keyword) = keyword_of(first) {
-            return self.add(keyword, rest);
-        }
-        match read_line(self.alloc, words)? {
-            Some(line) => self.add_line(line),
-            None => Err(Unread::Line),
+    fn add_words(&mut self, line: &LineWords) -> Result<(), Unread> {
+        let mut words = *line;
+        let first = known(words.next())?;
+        match first {
+            _ if equals(first, b"s") => self.open()?.add_statement(&mut words),
+            _ if equals(first, b"g") => self.add_global_expression(&mut words),
+            _ if equals(first, b"others") => self.add_other_types(&mut words),
+            _ => self.add_short(line, first, &mut words),
         }
     }
 
@@ -378,11 +393,10 @@ impl Draft {
         if line.is_empty() || line.starts_with('#') {
             return Ok(());
         }
-        let words: Vec<&[u8]> = line
-            .as_bytes()
-            .split(|byte| *byte == b' ')
-            .collect(self.alloc)?;
-        self.add_words(&words)
+        if let Some(form) = line.strip_prefix("f ") {
+            return self.open()?.add_expression(form);
+        }
+        self.add_words(&LineWords::new(line.as_bytes()))
     }
 
     /// Adds what the lines of a text say, up to the first that can't be read, and notes that one.

@@ -1,6 +1,6 @@
 //! The forms of expressions that the line text doesn't have.
 
-use crate::items::{at_colon, known, only_handle, only_word};
+use crate::items::{MOST_WORDS, at_colon, known, only_handle, only_word};
 use crate::tables::math_function;
 use crate::unread::Unread;
 use naga_ir::expression::{
@@ -8,7 +8,8 @@ use naga_ir::expression::{
 };
 use naga_ir::handle::Handle;
 use naga_ir::tags::ExpressionTag;
-use naga_text::line::{Line, read_line};
+use naga_text::expressions;
+use naga_text::line_words::LineWords;
 use naga_text::number::{handle, number, number_up_to, optional_handle};
 use naga_text::words::{chosen, equals, kind, size, truth};
 use std::alloc::Global;
@@ -418,23 +419,15 @@ fn of_form(form: Form, words: &[&[u8]]) -> Option<Expression> {
     }
 }
 
-/// An expression whose form the line text has.
-fn of_line(alloc: Global, words: &[&[u8]]) -> Result<Expression, Unread> {
-    let mut line = words.to_vec(alloc)?;
-    line.insert(0, b"expr")?;
-    match read_line(alloc, &line)? {
-        Some(Line::Expression(expression)) => Ok(expression),
-        _ => Err(Unread::Line),
-    }
-}
-
 /// The expression that words say, of any form.
-pub fn expression(alloc: Global, words: &[&[u8]]) -> Result<Expression, Unread> {
-    let Some((form, rest)) = words.split_first() else {
-        return Err(Unread::Line);
-    };
-    match chosen(&FORMS, form) {
-        Some(form) => known(of_form(form, rest)),
-        None => of_line(alloc, words),
+pub fn expression(alloc: Global, words: &mut LineWords) -> Result<Expression, Unread> {
+    let mut rest = *words;
+    let word = known(rest.next())?;
+    match chosen(&FORMS, word) {
+        Some(form) => {
+            let mut room: [&[u8]; MOST_WORDS] = [&[]; MOST_WORDS];
+            known(of_form(form, known(rest.all(&mut room))?))
+        }
+        None => known(expressions::expression(alloc, words)?),
     }
 }

@@ -13,17 +13,16 @@ use naga_ir::ir::{
 use naga_ir::span::Span;
 use naga_ir::tags::{ExpressionTag, GlobalVariableTag, TypeTag};
 use naga_ir::text::Text;
+use naga_text::line_words::LineWords;
 use naga_text::number::{handle, optional_handle};
-use naga_text::words::{chosen, equals};
+use naga_text::words::chosen;
 use std::alloc::Global;
 
-/// What a line adds to a function or an entry point.
+/// What a line with a fixed number of words adds to a function or an entry point.
 #[derive(Clone, Copy)]
 pub enum Part {
     Argument,
     Local,
-    Expression,
-    Statement,
     Result,
     Named,
     FilterLeaf,
@@ -37,8 +36,6 @@ pub fn part_of(word: &[u8]) -> Option<Part> {
     let parts = [
         ("arg", Part::Argument),
         ("local", Part::Local),
-        ("f", Part::Expression),
-        ("s", Part::Statement),
         ("result", Part::Result),
         ("named", Part::Named),
         ("leaf", Part::FilterLeaf),
@@ -99,11 +96,11 @@ fn mesh_info(words: &[&[u8]]) -> Option<MeshStageInfo> {
     })
 }
 
-/// The words of an expression, and the type that is declared behind a colon.
-fn typed<'a, 'b>(words: &'a [&'b [u8]]) -> Option<(&'a [&'b [u8]], Option<Handle<TypeTag>>)> {
-    match words {
-        [form @ .., colon, ty] if equals(colon, b":") => Some((form, Some(handle(ty)?))),
-        _ => Some((words, None)),
+/// The form of an expression, and the type that is declared behind a colon.
+fn typed(form: &str) -> Option<(&str, Option<Handle<TypeTag>>)> {
+    match form.rsplit_once(" : ") {
+        Some((form, ty)) => Some((form, Some(handle(ty.as_bytes())?))),
+        None => Some((form, None)),
     }
 }
 
@@ -163,12 +160,13 @@ impl OpenFunction {
         )
     }
 
-    /// `f FORM` or `f FORM : T`
-    fn add_expression(&mut self, words: &[&[u8]]) -> Result<(), Unread> {
-        let Some((form, ty)) = typed(words) else {
+    /// Adds the expression of `FORM` or `FORM : T`.
+    pub fn add_expression(&mut self, form: &str) -> Result<(), Unread> {
+        let Some((form, ty)) = typed(form) else {
             return Err(Unread::Line);
         };
-        let expression = expression(self.alloc, form)?;
+        let mut words = LineWords::new(form.as_bytes());
+        let expression = expression(self.alloc, &mut words)?;
         append(&mut self.function.expressions, expression, Span::default())?;
         self.declared.push(Declared { ty, missing: None })?;
         Ok(())
@@ -212,13 +210,16 @@ impl OpenFunction {
         known(self.entry.as_mut())
     }
 
+    /// Adds the statement that words say, or opens or closes a block.
+    pub fn add_statement(&mut self, words: &mut LineWords) -> Result<(), Unread> {
+        self.blocks.add(words)
+    }
+
     /// Adds a part. An argument or a variable takes the name.
     pub fn add(&mut self, part: Part, words: &[&[u8]], name: Option<Text>) -> Result<(), Unread> {
         match part {
             Part::Argument => self.add_argument(words, name)?,
             Part::Local => self.add_local(words, name)?,
-            Part::Expression => self.add_expression(words)?,
-            Part::Statement => self.blocks.add(words)?,
             Part::Result => self.set_result(words)?,
             Part::Named => self.add_name(words)?,
             Part::FilterLeaf => {

@@ -6,11 +6,16 @@ use naga_ir::handle::Handle;
 use naga_ir::list::List;
 use naga_ir::span::Span;
 use naga_ir::tags::ExpressionTag;
+use naga_text::line_words::LineWords;
 use naga_text::number::handle;
 use std::alloc::Global;
 
 /// The number of items for which an arena has room.
 pub const MOST_ITEMS: usize = u32::MAX as usize;
+
+/// The most words that follow the word for what a line adds, unless a line can have any number of them: those of
+/// `sample`. Only so many are listed of a line.
+pub const MOST_WORDS: usize = 9;
 
 /// What words say, if they say something.
 pub fn known<T>(read: Option<T>) -> Result<T, Unread> {
@@ -45,10 +50,13 @@ pub fn append<T: Drop, K>(items: &mut Arena<T, K>, item: T, span: Span) -> Resul
     Ok(())
 }
 
-/// The expressions whose indices words write.
-pub fn expressions(alloc: Global, words: &[&[u8]]) -> Result<List<Handle<ExpressionTag>>, Unread> {
+/// The expressions whose indices the words that are left write.
+pub fn expressions(
+    alloc: Global,
+    words: &mut LineWords,
+) -> Result<List<Handle<ExpressionTag>>, Unread> {
     let mut expressions = List::new(alloc);
-    for word in words {
+    while let Some(word) = words.next() {
         expressions.push(known(handle(word))?)?;
     }
     Ok(expressions)

@@ -1,16 +1,17 @@
 //! Statements that contain no other statements.
 
-use crate::items::{at_colon, expressions, known};
+use crate::items::{MOST_WORDS, at_colon, expressions, known};
 use crate::unread::Unread;
 use naga_ir::range::Range;
 use naga_ir::statement::{
     AtomicFunction, GatherMode, RayPipelineFunction, RayQueryFunction, Statement, SubgroupOperation,
 };
+use naga_text::line_words::LineWords;
 use naga_text::number::{handle, number, optional_handle};
 use naga_text::words::{chosen, equals};
 use std::alloc::Global;
 
-/// A kind of statements that contain no others.
+/// A kind of statements that contain no others, and whose lines have a fixed number of words.
 #[derive(Clone, Copy)]
 enum Kind {
     Emit,
@@ -25,7 +26,6 @@ enum Kind {
     Atomic,
     ImageAtomic,
     WorkGroupUniformLoad,
-    Call,
     RayQuery,
     SubgroupBallot,
     SubgroupCollectiveOperation,
@@ -35,7 +35,7 @@ enum Kind {
 }
 
 /// The word of each kind.
-const KINDS: [(&str, Kind); 19] = [
+const KINDS: [(&str, Kind); 18] = [
     ("emit", Kind::Emit),
     ("break", Kind::Break),
     ("continue", Kind::Continue),
@@ -48,7 +48,6 @@ const KINDS: [(&str, Kind); 19] = [
     ("atomic", Kind::Atomic),
     ("imageatomic", Kind::ImageAtomic),
     ("wgload", Kind::WorkGroupUniformLoad),
-    ("call", Kind::Call),
     ("rayquery", Kind::RayQuery),
     ("ballot", Kind::SubgroupBallot),
     ("collective", Kind::SubgroupCollectiveOperation),
@@ -170,15 +169,12 @@ fn workgroup_load(words: &[&[u8]]) -> Option<Statement> {
 }
 
 /// `call F RESULT|- E..`
-fn call(alloc: Global, words: &[&[u8]]) -> Result<Statement, Unread> {
-    let [function, returned, arguments @ ..] = words else {
-        return Err(Unread::Line);
-    };
-    let function = known(handle(function))?;
-    let result = known(optional_handle(returned))?;
+fn call(alloc: Global, words: &mut LineWords) -> Result<Statement, Unread> {
+    let function = known(handle(known(words.next())?))?;
+    let result = known(optional_handle(known(words.next())?))?;
     Ok(Statement::Call {
         function,
-        arguments: expressions(alloc, arguments)?,
+        arguments: expressions(alloc, words)?,
         result,
     })
 }
@@ -352,8 +348,8 @@ fn trace_ray(words: &[&[u8]]) -> Option<Statement> {
 }
 
 /// The statement of a kind and of the words after it.
-fn of_kind(alloc: Global, kind: Kind, words: &[&[u8]]) -> Result<Statement, Unread> {
-    let read = match kind {
+fn of_kind(kind: Kind, words: &[&[u8]]) -> Option<Statement> {
+    match kind {
         Kind::Emit => emit(words),
         Kind::Break => alone(Statement::Break, words),
         Kind::Continue => alone(Statement::Continue, words),
@@ -366,21 +362,21 @@ fn of_kind(alloc: Global, kind: Kind, words: &[&[u8]]) -> Result<Statement, Unre
         Kind::Atomic => atomic(words),
         Kind::ImageAtomic => image_atomic(words),
         Kind::WorkGroupUniformLoad => workgroup_load(words),
-        Kind::Call => return call(alloc, words),
         Kind::RayQuery => ray_query(words),
         Kind::SubgroupBallot => ballot(words),
         Kind::SubgroupCollectiveOperation => collective(words),
         Kind::SubgroupGather => gather(words),
         Kind::CooperativeStore => cooperative_store(words),
         Kind::TraceRay => trace_ray(words),
-    };
-    known(read)
+    }
 }
 
-/// The statement that words say, which contains no others.
-pub fn statement(alloc: Global, words: &[&[u8]]) -> Result<Statement, Unread> {
-    let Some((kind, rest)) = words.split_first() else {
-        return Err(Unread::Line);
-    };
-    of_kind(alloc, known(chosen(&KINDS, kind))?, rest)
+/// The statement of a word and of the words after it, which contains no others.
+pub fn statement(alloc: Global, word: &[u8], words: &mut LineWords) -> Result<Statement, Unread> {
+    if equals(word, b"call") {
+        return call(alloc, words);
+    }
+    let kind = known(chosen(&KINDS, word))?;
+    let mut room: [&[u8]; MOST_WORDS] = [&[]; MOST_WORDS];
+    known(of_kind(kind, known(words.all(&mut room))?))
 }
