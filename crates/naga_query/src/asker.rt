@@ -89,7 +89,7 @@ fn add_on_module(
     match query {
         ModuleQuery::Handles => Ok(add_handles(alloc, answer, &draft.module)?),
         ModuleQuery::Order => Ok(add_order(alloc, answer, &draft.module)?),
-        ModuleQuery::Literal => add_literal(session, answer, draft.settings, words),
+        ModuleQuery::Literal => Ok(add_literal(session, answer, draft.settings, words)?),
         ModuleQuery::Width => Ok(add_width(session, answer, draft.settings, words)?),
         ModuleQuery::Range => Ok(add_range(answer, words)?),
         ModuleQuery::Exchange => add_exchange(alloc, answer, &draft.module, words),

@@ -20,11 +20,6 @@ pub struct Answered {
     pub failed: usize,
 }
 
-/// Whether a line begins a case.
-fn is_title(line: &str) -> bool {
-    line.starts_with("== ")
-}
-
 /// Whether a line is a part of a longer result.
 fn is_result(line: &str) -> bool {
     line.starts_with("| ")
@@ -43,14 +38,47 @@ fn query_in(line: &str) -> Option<&str> {
     }
 }
 
-/// Whether a line is one of a module's.
+/// Whether a line below a title is one of a module's.
 fn is_of_module(line: &str) -> bool {
-    !is_title(line) && !is_result(line) && !line.starts_with("? ")
+    !is_result(line) && !line.starts_with("? ")
+}
+
+/// Some of a file's lines, with line feeds between them, or none of its lines.
+type Lines<'a> = Option<&'a str>;
+
+/// The lines of a file before its first title, and the cases, without the mark of the first title.
+fn head_and_cases(text: &str) -> (Lines, Option<&str>) {
+    if text.is_empty() {
+        return (None, None);
+    }
+    let lines = text.strip_suffix('\n').unwrap_or(text);
+    if let Some(cases) = lines.strip_prefix("== ") {
+        return (None, Some(cases));
+    }
+    match lines.split_once("\n== ") {
+        Some((head, cases)) => (Some(head), Some(cases)),
+        None => (Some(lines), None),
+    }
+}
+
+/// The title of a case, and its lines below.
+fn title_and_lines(case: &str) -> (&str, Lines) {
+    match case.split_once('\n') {
+        Some((title, lines)) => (title, Some(lines)),
+        None => (case, None),
+    }
+}
+
+/// A line without the carriage return before its line feed.
+fn plain(line: &str) -> &str {
+    line.strip_suffix('\r').unwrap_or(line)
 }
 
 /// Adds the lines of a module, with indices in place of labels.
-fn add_lines(text: &mut String, labels: &mut Labels, lines: &[&str]) -> Result<(), AllocError> {
-    for line in lines {
+fn add_lines(text: &mut String, labels: &mut Labels, lines: Lines) -> Result<(), AllocError> {
+    let Some(lines) = lines else { return Ok(()) };
+    for line in lines.split('\n') {
+        let line = plain(line);
         if is_of_module(line) {
             text.push_str(labels.resolve(line)?.as_str())?;
             text.push('\n')?;
@@ -63,8 +91,8 @@ fn add_lines(text: &mut String, labels: &mut Labels, lines: &[&str]) -> Result<(
 fn resolved(
     alloc: Global,
     labels: &mut Labels,
-    shared: &[&str],
-    own: &[&str],
+    shared: Lines,
+    own: Lines,
 ) -> Result<String, AllocError> {
     let mut text = String::new(alloc);
     add_lines(&mut text, labels, shared)?;
@@ -73,7 +101,7 @@ fn resolved(
 }
 
 /// The case of its own lines, behind the shared ones.
-fn case_of(alloc: Global, shared: &[&str], own: &[&str]) -> Result<Case, OutOfMemory> {
+fn case_of(alloc: Global, shared: Lines, own: Lines) -> Result<Case, OutOfMemory> {
     let mut labels = Labels::new(alloc);
     let text = resolved(alloc, &mut labels, shared, own)?;
     let draft = Draft::of_text(alloc, text.as_str(), false)?;
@@ -85,11 +113,28 @@ fn case_of(alloc: Global, shared: &[&str], own: &[&str]) -> Result<Case, OutOfMe
 }
 
 /// The lines after the comments and empty lines at the head of a file.
-fn without_head<'a, 'b>(lines: &'a [&'b str]) -> &'a [&'b str] {
-    let head = lines
-        .iter()
-        .position(|line| !line.is_empty() && !line.starts_with('#'));
-    &lines[head.unwrap_or(lines.len())..]
+fn without_head(lines: Lines) -> Lines {
+    let lines = lines?;
+    let mut first = 0usize;
+    for line in lines.split('\n') {
+        let after = first.saturating_add(line.len()).saturating_add(1);
+        let line = plain(line);
+        if !line.is_empty() && !line.starts_with('#') {
+            return lines.get(first..);
+        }
+        first = after;
+    }
+    None
+}
+
+/// Whether one of the lines is a query.
+fn asks(lines: Lines) -> bool {
+    match lines {
+        Some(lines) => lines
+            .split('\n')
+            .any(|line| query_in(plain(line)).is_some()),
+        None => false,
+    }
 }
 
 /// A query with its result: behind it if that is one line, else in the lines below.
@@ -106,14 +151,38 @@ fn with_result(alloc: Global, query: &str, answer: &str) -> Result<String, Alloc
     Ok(text)
 }
 
-/// Lines, each ended by a line feed.
-fn joined(alloc: Global, lines: &[&str]) -> Result<String, AllocError> {
-    let mut text = String::new(alloc);
-    for line in lines {
-        text.push_str(line)?;
-        text.push('\n')?;
+/// A query whose result is not read yet, or only in part.
+#[derive(Drop)]
+struct Asked {
+    /// The line of the query and the lines of its result so far, each ended by a line feed.
+    stood: String,
+    /// The number of the query's line, from 1.
+    number: usize,
+}
+
+impl Asked {
+    /// The query of a line.
+    fn new(alloc: Global, line: &str, number: usize) -> Result<Asked, AllocError> {
+        let mut asked = Asked {
+            stood: String::new(alloc),
+            number,
+        };
+        asked.add_line(line)?;
+        Ok(asked)
     }
-    Ok(text)
+
+    /// Adds a line that stands there.
+    fn add_line(&mut self, line: &str) -> Result<(), AllocError> {
+        self.stood.push_str(line)?;
+        self.stood.push('\n')
+    }
+
+    /// The query itself.
+    fn query(&self) -> &str {
+        let stood = self.stood.as_str();
+        let (line, _) = stood.split_once('\n').unwrap_or((stood, ""));
+        query_in(line).unwrap_or(line)
+    }
 }
 
 /// A file of which a part is answered.
@@ -123,34 +192,42 @@ struct Answering {
     answered: Answered,
     /// The number of the next line, from 1.
     line: usize,
+    /// Whether the line before is a result without a query, which was noted.
+    is_noted: bool,
 }
 
 impl Answering {
+    /// Writes a line back.
+    fn add_line(&mut self, line: &str) -> Result<(), AllocError> {
+        self.answered.text.push_str(line)?;
+        self.answered.text.push('\n')
+    }
+
+    /// Answers a query, and notes that it has another result than the one that stood there.
+    fn add_answered(&mut self, case: &Case, asked: &Asked) -> Result<(), OutOfMemory> {
+        let alloc = self.sessions.alloc;
+        let mut answer = String::new(alloc);
+        add_answer(&mut self.sessions, &mut answer, asked.query(), case)?;
+        let now = with_result(alloc, asked.query(), answer.as_str())?;
+        if now == asked.stood {
+            self.answered.passed = self.answered.passed.saturating_add(1);
+        } else {
+            self.answered.failed = self.answered.failed.saturating_add(1);
+            self.add_difference(asked, now.as_str())?;
+        }
+        self.answered.text.push_str(now.as_str())?;
+        Ok(())
+    }
+
     /// Notes that a query has another result than the one that stood there.
-    fn add_difference(&mut self, stood: &str, now: &str) -> Result<(), AllocError> {
-        let line = self.line;
+    fn add_difference(&mut self, asked: &Asked, now: &str) -> Result<(), AllocError> {
+        let line = asked.number;
+        let stood = asked.stood.as_str();
         let differences = &mut self.answered.differences;
         write!(
             differences,
             "line {line}, where this stood:\n{stood}and this is right:\n{now}"
         )
-    }
-
-    /// Answers a line, with the lines of its result below it.
-    fn add_entry(&mut self, case: &Case, query: &str, entry: &[&str]) -> Result<(), OutOfMemory> {
-        let alloc = self.sessions.alloc;
-        let mut answer = String::new(alloc);
-        add_answer(&mut self.sessions, &mut answer, query, case)?;
-        let now = with_result(alloc, query, answer.as_str())?;
-        let stood = joined(alloc, entry)?;
-        if now == stood {
-            self.answered.passed = self.answered.passed.saturating_add(1);
-        } else {
-            self.answered.failed = self.answered.failed.saturating_add(1);
-            self.add_difference(stood.as_str(), now.as_str())?;
-        }
-        self.answered.text.push_str(now.as_str())?;
-        Ok(())
     }
 
     /// Notes a case or a result to which no query belongs.
@@ -161,52 +238,92 @@ impl Answering {
         write!(differences, "line {line}: {what} without a query\n")
     }
 
-    /// Writes lines back that are not queries.
-    fn add_others(&mut self, entry: &[&str]) -> Result<(), AllocError> {
-        if entry.iter().any(|line| is_result(line)) {
+    /// Writes a line of a result back, to which no query belongs.
+    fn add_unasked_result(&mut self, line: &str) -> Result<(), AllocError> {
+        if !self.is_noted {
             self.add_unasked("a result")?;
+            self.is_noted = true;
         }
-        let stood = joined(self.sessions.alloc, entry)?;
-        self.answered.text.push_str(stood.as_str())
+        self.add_line(line)
     }
 
-    /// Answers the queries of a case.
-    fn add_case(&mut self, case: &Case, own: &[&str]) -> Result<(), OutOfMemory> {
-        if own.first().is_some_and(|line| is_title(line))
-            && own.iter().all(|line| query_in(line).is_none())
-        {
+    /// Writes a line back that is no part of a result, unless it is a query. That one is returned.
+    fn add_other(&mut self, line: &str) -> Result<Option<Asked>, AllocError> {
+        self.is_noted = false;
+        if query_in(line).is_none() {
+            self.add_line(line)?;
+            return Ok(None);
+        }
+        Ok(Some(Asked::new(self.sessions.alloc, line, self.line)?))
+    }
+
+    /// Adds the next line to what is asked, and returns what is asked now.
+    fn add_next(
+        &mut self,
+        case: &Case,
+        asked: Option<Asked>,
+        line: &str,
+    ) -> Result<Option<Asked>, OutOfMemory> {
+        match asked {
+            Some(mut asked) if is_result(line) => {
+                asked.add_line(line)?;
+                Ok(Some(asked))
+            }
+            Some(asked) => {
+                self.add_answered(case, &asked)?;
+                Ok(self.add_other(line)?)
+            }
+            None if is_result(line) => {
+                self.add_unasked_result(line)?;
+                Ok(None)
+            }
+            None => Ok(self.add_other(line)?),
+        }
+    }
+
+    /// Answers the queries of lines about a case, and writes the other lines back.
+    fn add_queries(&mut self, case: &Case, lines: Lines) -> Result<(), OutOfMemory> {
+        let Some(lines) = lines else { return Ok(()) };
+        let mut asked = None;
+        for line in lines.split('\n') {
+            asked = self.add_next(case, asked, plain(line))?;
+            self.line = self.line.saturating_add(1);
+        }
+        match asked {
+            Some(asked) => self.add_answered(case, &asked),
+            None => Ok(()),
+        }
+    }
+
+    /// Answers the queries of lines about the case of its own lines, behind the shared ones.
+    fn add_case(&mut self, shared: Lines, own: Lines, lines: Lines) -> Result<(), OutOfMemory> {
+        let case = case_of(self.sessions.alloc, shared, own)?;
+        self.add_queries(&case, lines)
+    }
+
+    /// Writes the title of a case back, and notes if no line of the case is a query.
+    fn add_title(&mut self, title: &str, own: Lines) -> Result<(), AllocError> {
+        if !asks(own) {
             self.add_unasked("a case")?;
         }
-        for entry in own.chunk_by(|_, next| is_result(next)) {
-            match entry.first().and_then(|line| query_in(line)) {
-                Some(query) => self.add_entry(case, query, entry)?,
-                None => self.add_others(entry)?,
-            }
-            self.line = self.line.saturating_add(entry.len());
-        }
+        self.answered.text.push_str("== ")?;
+        self.add_line(plain(title))?;
+        self.line = self.line.saturating_add(1);
+        self.is_noted = false;
         Ok(())
-    }
-
-    /// Answers the queries before the first case.
-    fn add_head(&mut self, head: &[&str]) -> Result<(), OutOfMemory> {
-        let case = case_of(self.sessions.alloc, &[], without_head(head))?;
-        self.add_case(&case, head)
-    }
-
-    /// Answers the queries of a case, with the lines of all cases.
-    fn add_titled(&mut self, shared: &[&str], own: &[&str]) -> Result<(), OutOfMemory> {
-        let case = case_of(self.sessions.alloc, shared, own)?;
-        self.add_case(&case, own)
     }
 
     /// Answers the queries of one case after another. The lines before the first belong to each, except
     /// comments and empty lines at the head of the file.
-    fn add_sections(&mut self, lines: &[&str]) -> Result<(), OutOfMemory> {
-        let first = lines.iter().position(|line| is_title(line));
-        let (head, titled) = lines.split_at(first.unwrap_or(lines.len()));
-        self.add_head(head)?;
-        for own in titled.chunk_by(|_, next| !is_title(next)) {
-            self.add_titled(without_head(head), own)?;
+    fn add_sections(&mut self, text: &str) -> Result<(), OutOfMemory> {
+        let (head, cases) = head_and_cases(text);
+        let shared = without_head(head);
+        self.add_case(shared, None, head)?;
+        let Some(cases) = cases else { return Ok(()) };
+        for case in cases.split("\n== ") {
+            let (title, own) = title_and_lines(case);
+            self.add_title(title, own)?;
+            self.add_case(shared, own, own)?;
         }
         Ok(())
     }
@@ -218,7 +335,6 @@ impl Answering {
 ///
 /// `AllocError` if a request for memory was refused.
 pub fn answer_file(alloc: Global, text: &str) -> Result<Answered, AllocError> {
-    let lines: Vec<&str> = text.lines().collect(alloc)?;
     let mut answering = Answering {
         sessions: Sessions::new(alloc),
         answered: Answered {
@@ -228,8 +344,9 @@ pub fn answer_file(alloc: Global, text: &str) -> Result<Answered, AllocError> {
             failed: 0,
         },
         line: 1,
+        is_noted: false,
     };
-    match answering.add_sections(&lines) {
+    match answering.add_sections(text) {
         Ok(()) => Ok(answering.answered),
         Err(OutOfMemory) => Err(AllocError),
     }

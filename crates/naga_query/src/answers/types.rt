@@ -7,15 +7,15 @@ ghost use Rattle.naga_typing.specs.Resolutions.{TypesExist};
 
 use crate::answers::modules::add_not_applicable;
 use crate::session::Session;
-use naga_module_text::forms::expression;
-use naga_module_text::items::{expressions, only_handle};
+use naga_module_text::items::{known, only_handle};
 use naga_module_text::settings::Settings;
 use naga_module_text::unread::Unread;
+use naga_text::literals::literal;
 use naga_text::number::{handle, number_up_to};
 use naga_text::words::kind;
 use naga_valid::{
-    Expression, ExpressionTag, Handle, Layouter, List, Module, ModuleInfo, OutOfMemory,
-    PlainTyping, Scalar, TypeInfo, TypeLayout, TypeResolution, TypeTag, UniqueArena, to_ctx,
+    ExpressionTag, Handle, Layouter, List, Literal, Module, ModuleInfo, OutOfMemory, PlainTyping,
+    Scalar, TypeInfo, TypeLayout, TypeResolution, TypeTag, UniqueArena, to_ctx,
     validate_compose_at,
 };
 use std::alloc::{AllocError, Global};
@@ -164,13 +164,13 @@ fn composition(
     alloc: Global,
     words: &[&[u8]],
 ) -> Result<(Handle<TypeTag>, List<Handle<ExpressionTag>>), Unread> {
-    let Some((ty, components)) = words.split_first() else {
-        return Err(Unread::Line);
-    };
-    match handle(ty) {
-        Some(ty) => Ok((ty, expressions(alloc, components)?)),
-        None => Err(Unread::Line),
+    let (ty, rest) = known(words.split_first())?;
+    let ty = known(handle(ty))?;
+    let mut components = List::new(alloc);
+    for word in rest {
+        components.push(known(handle(word))?)?;
     }
+    Ok((ty, components))
 }
 
 /// `compose T E..`: adds whether a type can be composed of global expressions of an accepted module.
@@ -193,27 +193,26 @@ pub fn add_compose(
     }
 }
 
+/// The literal of a type and a value.
+fn literal_of(words: &[&[u8]]) -> Option<Literal> {
+    let [ty, value] = words else { return None };
+    literal(ty, value)
+}
+
 /// `literal L V`: adds whether a literal has a right value and width.
 pub fn add_literal(
     session: &mut Session<PlainTyping>,
     answer: &mut String,
     settings: Settings,
     words: &[&[u8]],
-) -> Result<(), OutOfMemory> {
-    let mut line = words.to_vec(session.alloc())?;
-    line.insert(0, b"lit")?;
-    match expression(session.alloc(), &line) {
-        Ok(Expression::Literal(literal)) => match session
-            .with_settings(settings)
-            .validate_literal(literal)
-        {
-            Ok(()) => answer.push_str("ok\n")?,
-            Err(error) => write!(answer, "{error:?}\n")?,
-        },
-        Err(Unread::OutOfMemory) => return Err(OutOfMemory),
-        _ => add_not_applicable(answer, "not a literal")?,
+) -> Result<(), AllocError> {
+    let Some(literal) = literal_of(words) else {
+        return add_not_applicable(answer, "not a literal");
+    };
+    match session.with_settings(settings).validate_literal(literal) {
+        Ok(()) => answer.push_str("ok\n"),
+        Err(error) => write!(answer, "{error:?}\n"),
     }
-    Ok(())
 }
 
 /// The scalar type of a kind and a width in bytes.
