@@ -1,11 +1,12 @@
 pub mod FirstError
 pub mod Handles
-pub mod Keys
 pub mod ModuleItems
+pub mod OneMore
 pub mod PartLemmas
 pub mod Powers
 pub mod ReferencesOfItems
 pub mod SameInner
 pub mod SameType
 pub mod StatementLemmas
+pub mod TypePaths
 pub mod WorkedModules

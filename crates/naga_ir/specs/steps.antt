@@ -2,3 +2,4 @@
 pub mod OperandForms
 pub mod OwnReferences
 pub mod StatementParts
+pub mod TypePaths

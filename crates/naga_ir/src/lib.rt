@@ -12,6 +12,7 @@ pub mod operands;
 pub mod parts;
 pub mod reference;
 pub mod statement;
+mod type_paths;
 pub mod types;
 pub mod unique_arena;
 

@@ -1,13 +1,13 @@
 //! The arena of types, in which no two are equal.
 
-ghost use Rattle.std.specs.Prelude.{◌≡◌, ◌==◌, ℕ, ◌<◌, ◌≤◌, [], ◌∷◌, ◌++◌, length, IsOk, IfOk, OnOk, OnErr, IfSome, IsSome, Contains, ◌↔◌, Some, slice_get, codes, IfErr};
+ghost use Rattle.std.specs.Prelude.{◌≡◌, ◌==◌, ℕ, ◌<◌, ◌≤◌, [], ◌∷◌, ◌++◌, length, IsOk, IfOk, OnOk, OnErr, IfSome, IsSome, Contains, ◌↔◌, Some, slice_get, codes, IfErr, vec_len, vec_capacity, ◌+◌};
 ghost use Rattle.naga_arena.specs.Existence.{IsGoodRange};
 ghost use Rattle.naga_arena.specs.Numbers.{largest_u32};
 ghost use Rattle.std.specs.List.{enumerate_from};
 ghost use Rattle.naga_ir.specs.Distinct.{AllDistinct};
 
+use crate::type_paths::{add_node, find};
 use crate::types::Type;
-use indexmap::IndexSet;
 use naga_arena::handle::{BadHandle, Handle};
 use naga_arena::iter::Iter;
 use naga_arena::memory::OutOfMemory;
@@ -22,24 +22,64 @@ use std::ops::Index;
 /// Types, of which no two are equal, in the order in which they were added, each with its span in the
 /// source. Contracts see the list of the types.
 ///
-/// An insertion hashes the type, so the expected cost of a module's types is linear in their size. The
-/// hasher has a fixed seed, as naga's has: types that were chosen to collide cost up to the square.
+/// An insertion hashes the type and follows the bits of its hash from type to type, some `log n` of n types. After
+/// twelve of these links, which only types that were chosen to collide have in common with many others, the bits of
+/// a second hash, SipHash, choose the way. However types are chosen, there are at most 44 links, unless types share
+/// all 64 bits of SipHash.
 #[derive(Drop)]
 pub struct UniqueArena {
-    set: IndexSet<Type>,
+    types: Vec<Type>,
     span_info: Vec<Span>,
+    /// The first hash of each type.
+    hashes: Vec<u64>,
+    /// Four links of each type to others.
+    links: Vec<u32>,
 }
 
 impl Model for UniqueArena {
     ghost use Rattle.naga_arena.specs.Numbers.{largest_u32};
     ghost use Rattle.std.specs.Prelude.{List, ◌≡◌, ◌≤◌, length};
     ghost use Rattle.naga_ir.specs.declared.types.«Type».{«Type»};
+    ghost use Rattle.naga_ir.specs.Distinct.{AllDistinct};
+    ghost use Rattle.naga_ir.specs.steps.TypePaths.{AllReached, LinksGoOn, AreFirstHashes};
 
     ghost Value = { List «Type» };
 
-    ghost view = { λ a. a.set.keys };
+    ghost view = { λ a. a.types.items };
 
-    ghost invariant = { λ a. (length a.span_info.items ≡ length a.set.keys) × (length a.set.keys ≤ largest_u32) };
+    ghost invariant = { λ a. (length a.span_info.items ≡ length a.types.items)
+        × (length a.types.items ≤ largest_u32)
+        × AllDistinct a.types.items
+        × AreFirstHashes a.hashes.items a.types.items
+        × LinksGoOn a.links.items (length a.types.items)
+        × AllReached a.links.items a.types.items };
+}
+
+/// Makes room for one more type.
+///
+/// # Errors
+///
+/// `OutOfMemory` if memory was refused.
+fn reserve(
+    types: &mut Vec<Type>,
+    span_info: &mut Vec<Span>,
+    hashes: &mut Vec<u64>,
+    links: &mut Vec<u32>,
+) -> Result<(), OutOfMemory>
+    ensures types { types.new.items ≡ types.old.items }
+    ensures span_info { span_info.new.items ≡ span_info.old.items }
+    ensures hashes { hashes.new.items ≡ hashes.old.items }
+    ensures links { links.new.items ≡ links.old.items }
+    ensures type_room { OnOk result (vec_len types.new < vec_capacity types.new) }
+    ensures span_room { OnOk result (vec_len span_info.new < vec_capacity span_info.new) }
+    ensures hash_room { OnOk result (vec_len hashes.new < vec_capacity hashes.new) }
+    ensures link_room { OnOk result (vec_len links.new + 4 ≤ vec_capacity links.new) }
+{
+    types.reserve(1)?;
+    span_info.reserve(1)?;
+    hashes.reserve(1)?;
+    links.reserve(4)?;
+    Ok(())
 }
 
 impl UniqueArena {
@@ -48,8 +88,10 @@ impl UniqueArena {
         ensures { result ≡ [] }
     {
         UniqueArena {
-            set: IndexSet::new(alloc),
+            types: Vec::new(alloc),
             span_info: Vec::new(alloc),
+            hashes: Vec::new(alloc),
+            links: Vec::new(alloc),
         }
     }
 
@@ -58,14 +100,14 @@ impl UniqueArena {
         ensures value { result ≡ length self.now }
         ensures bound { result ≤ largest_u32 }
     {
-        self.set.len()
+        self.types.len()
     }
 
     /// Whether there is no type.
     pub fn is_empty(&self) -> bool
         ensures { result ≡ (length self.now == 0) }
     {
-        self.set.is_empty()
+        self.types.is_empty()
     }
 
     /// All types, in the order of their handles. No two are equal.
@@ -74,7 +116,7 @@ impl UniqueArena {
         ensures bound { length result.now ≤ largest_u32 }
         ensures distinct { AllDistinct self.now }
     {
-        self.set.as_slice()
+        self.types.as_slice()
     }
 
     /// The range of the types that were added after the first `old_length` ones.
@@ -91,7 +133,7 @@ impl UniqueArena {
     pub fn iter(&self) -> Iter<'_, Type, TypeTag>
         ensures { result ≡ enumerate_from 0 self.now }
     {
-        Iter::new(self.set.as_slice())
+        Iter::new(self.types.as_slice())
     }
 
     /// The type that a handle names.
@@ -99,7 +141,7 @@ impl UniqueArena {
         requires { handle < length self.now }
         ensures { slice_get self.now handle ≡ Some result.now }
     {
-        &self.set.as_slice()[handle.index()]
+        &self.types[handle.index()]
     }
 
     /// The part of the source that a type was made from; the default span if that isn't known.
@@ -114,8 +156,15 @@ impl UniqueArena {
         ensures place { IfSome result (λ h. slice_get self.now h ≡ Some value.now) }
         ensures found { IsSome result ↔ Contains self.now value.now }
     {
-        let index = self.set.get_index_of(value)?;
-        Some(Handle::new(index as u32))
+        match find(
+            self.types.as_slice(),
+            self.hashes.as_slice(),
+            self.links.as_slice(),
+            value,
+        ) {
+            Ok(index) => Some(Handle::new(index as u32)),
+            Err(_) => None,
+        }
     }
 
     /// The handle of `value`, which is added with its `span` unless the arena has an equal type.
@@ -133,17 +182,27 @@ impl UniqueArena {
         ensures found { IfOk result (λ h. slice_get self.new h ≡ Some value) }
         ensures refused { OnErr result (self.new ≡ self.old) }
     {
-        let Ok((index, added)) = self.set.insert_full(value) else {
-            return Err(OutOfMemory);
+        let end = match find(
+            self.types.as_slice(),
+            self.hashes.as_slice(),
+            self.links.as_slice(),
+            &value,
+        ) {
+            Ok(index) => return Ok(Handle::new(index as u32)),
+            Err(end) => end,
         };
-        if !added {
-            return Ok(Handle::new(index as u32));
-        }
-        if self.span_info.push(span).is_err() {
-            self.set.pop();
-            return Err(OutOfMemory);
-        }
-        Ok(Handle::new(index as u32))
+        let index = self.types.len() as u32;
+        reserve(
+            &mut self.types,
+            &mut self.span_info,
+            &mut self.hashes,
+            &mut self.links,
+        )?;
+        self.types.push_reserved(value);
+        self.span_info.push_reserved(span);
+        self.hashes.push_reserved(end.hash);
+        add_node(&mut self.links, end.link, index);
+        Ok(Handle::new(index))
     }
 }
 
