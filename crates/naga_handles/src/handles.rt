@@ -49,7 +49,9 @@ use std::alloc::Global;
 /// The calls on types and global expressions, as `leaf_at`, `Layouter::update` and
 /// `ImmediateSlots::from_type`, require `GlobalReferencesOk`, which holds of a module that is accepted.
 ///
-/// The cost is linear in the module.
+/// The cost is linear in the module. Blocks may stand in blocks to any depth, and the pass calls itself for each block
+/// in a block: that takes 352 bytes of stack where it was measured, so that 23,700 blocks within each other fit into
+/// 8 MB, and 690 into 256 KB. With more the process ends.
 ///
 /// # Errors
 ///

@@ -10,6 +10,10 @@ use naga_arena::tags::{ExpressionTag, FunctionTag};
 use std::alloc::Global;
 
 /// Statements that are executed in order.
+///
+/// Blocks may stand in blocks to any depth. What goes through a whole block calls itself for each block in it:
+/// `try_for_each_reference`, and what drops or shows a block. So a block from outside is best read only to a depth that
+/// the stack bears, as `validate_module_handles` says.
 #[derive(Debug, Drop)]
 #[cycle(statement)]
 pub struct Block {

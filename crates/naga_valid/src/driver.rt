@@ -207,7 +207,7 @@ impl<T: Typing> Validator<T> {
     /// Whether a module keeps all rules, and what is known of it then. Of global variables, functions
     /// and entry points only the handles are validated, and of global expressions, constants and overrides
     /// the types, unless the flags have `CONSTANTS`. If it keeps them, hosts may rely on the leaves of
-    /// its types.
+    /// its types. `validate_module_handles` says how much stack blocks within each other take.
     ///
     /// # Errors
     ///
