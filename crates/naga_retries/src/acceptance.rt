@@ -68,13 +68,18 @@ fn is_out_of_memory(validator: &mut Validator, module: &Module) -> Result<bool, 
 }
 
 /// Validates the module twice. Of the two calls one may be out of memory, and the other then accepts the module.
-pub fn accept_again(alloc: Global, memory: &mut Memory) -> Result<(), Wrong> {
-    let contents = again(memory, || read_text(alloc, TYPES.as_bytes()))?;
+fn accept_twice(alloc: Global, memory: &mut Memory, module: &Module) -> Result<(), Wrong> {
     let flags = ValidationFlags::default();
     let mut validator = Validator::new(alloc, flags, Capabilities::default());
-    let first = is_out_of_memory(&mut validator, &contents.module)?;
-    let second = is_out_of_memory(&mut validator, &contents.module)?;
+    let first = is_out_of_memory(&mut validator, module)?;
+    let second = is_out_of_memory(&mut validator, module)?;
     check(!(first && second), "memory is refused twice\n")?;
     memory.refused = memory.refused || first || second;
     Ok(())
+}
+
+/// Validates the module of the text.
+pub fn accept_again(alloc: Global, memory: &mut Memory) -> Result<(), Wrong> {
+    let contents = again(memory, || read_text(alloc, TYPES.as_bytes()))?;
+    accept_twice(alloc, memory, &contents.module)
 }

@@ -10,14 +10,18 @@
 
 mod acceptance;
 mod arenas;
+mod blocks;
 mod infos;
+mod layouts;
 mod leaves;
 mod retry;
 mod validation;
 
 use crate::acceptance::accept_again;
 use crate::arenas::append_again;
+use crate::blocks::{fill_block, fill_list};
 use crate::infos::{add_type_infos, fill_function_info, fill_module_info, make_room};
+use crate::layouts::lay_out_again;
 use crate::leaves::find_leaves;
 use crate::retry::{Memory, Wrong};
 use crate::validation::validate_again;
@@ -30,6 +34,9 @@ fn run(alloc: Global) -> Result<Memory, Wrong> {
     validate_again(alloc, &mut memory)?;
     accept_again(alloc, &mut memory)?;
     append_again(alloc, &mut memory)?;
+    fill_block(alloc, &mut memory)?;
+    fill_list(alloc, &mut memory)?;
+    lay_out_again(alloc, &mut memory)?;
     fill_module_info(alloc, &mut memory)?;
     make_room(alloc, &mut memory)?;
     fill_function_info(alloc, &mut memory)?;
