@@ -1,4 +1,4 @@
-//! Runs from memory to memory, with a failure of each call in turn.
+//! Runs from memory to memory, with a failure of each call in turn, also with one byte a call.
 
 use super::{assert_lines, assert_same, assert_same_for};
 use naga_report::counted::Counted;
@@ -7,6 +7,7 @@ use naga_report::run::{RunFault, run, status};
 use std::alloc::Global;
 use std::io;
 use std::io::{Error, ErrorKind, Read, Write};
+use std::num::NonZeroUsize;
 use std::process::Abort;
 use std::test::Fail;
 
@@ -79,52 +80,92 @@ pub(super) fn assert_reported(rt: &impl Abort, alloc: Global, text: &str, want: 
     assert!(rt; output.as_slice() == want.as_bytes());
 }
 
-#[test]
-fn a_failure_of_any_read_is_a_fault(rt: HostRuntime) {
-    // Calls 0 to 20 read at most 4 bytes each, and call 21 returns 0 at the end.
-    let reads = TEXT.len().div_ceil(4);
-    for bad in 0..30 {
+/// Texts of each kind, with the reports on them and how runs on them end.
+const RUNS: [(&str, &str, Outcome); 3] = [
+    (TEXT, REPORT, Outcome::Accepted),
+    (
+        "type scalar float 2",
+        "refused type T0 WidthError\n",
+        Outcome::Refused,
+    ),
+    (
+        "type scalar float 4\ntype\ntype scalar uint 4\n",
+        "line 2 not readable\n",
+        Outcome::Unreadable,
+    ),
+];
+
+/// Makes sure that a run fails if any read of at most `step` bytes fails, and else ends as said.
+fn assert_all_is_read(
+    rt: &impl Abort,
+    alloc: Global,
+    wanted: (&str, &str, Outcome),
+    step: NonZeroUsize,
+) {
+    let (text, report, outcome) = wanted;
+    // The calls before this one read bytes, and this one returns 0 at the end.
+    let reads = text.len().div_ceil(step.get());
+    for bad in 0..reads.saturating_add(3) {
         let reader = Failing {
-            inner: TEXT.as_bytes(),
-            step: 4,
+            inner: text.as_bytes(),
+            step: step.get(),
             bad,
             calls: 0,
         };
-        let (ended, (failed, _), output) = run_counted(rt.alloc(), reader, Vec::new(rt.alloc()));
+        let (ended, (failed, _), output) = run_counted(alloc, reader, Vec::new(alloc));
         if bad <= reads {
-            assert_same_for(&rt, &bad, &ended, &Err(RunFault::Read));
-            assert_same(&rt, &status(&ended), &3);
-            assert_same(&rt, &failed, &1);
+            assert_same_for(rt, &bad, &ended, &Err(RunFault::Read));
+            assert_same(rt, &status(&ended), &3);
+            assert_same(rt, &failed, &1);
             assert!(rt; output.is_empty());
         } else {
-            assert_same_for(&rt, &bad, &ended, &Ok(Outcome::Accepted));
-            assert_same(&rt, &failed, &0);
+            assert_same_for(rt, &bad, &ended, &Ok(outcome));
+            assert_same(rt, &failed, &0);
+            assert!(rt; output.as_slice() == report.as_bytes());
+        }
+    }
+}
+
+/// Makes sure that a run fails if any write of at most `step` bytes or the flush fails, after it wrote all before that,
+/// and else ends as said.
+fn assert_all_is_written(
+    rt: &impl Abort,
+    alloc: Global,
+    wanted: (&str, &str, Outcome),
+    step: NonZeroUsize,
+) {
+    let (text, report, outcome) = wanted;
+    let out = report.as_bytes();
+    // The calls before this one write bytes, and this one flushes.
+    let writes = out.len().div_ceil(step.get());
+    for bad in 0..writes.saturating_add(3) {
+        let writer = Failing {
+            inner: Vec::new(alloc),
+            step: step.get(),
+            bad,
+            calls: 0,
+        };
+        let (ended, (_, failed), writer) = run_counted(alloc, text.as_bytes(), writer);
+        let len = out.len().min(bad.saturating_mul(step.get()));
+        assert!(rt; writer.inner.as_slice() == &out[..len], "{bad}");
+        if bad <= writes {
+            assert_same_for(rt, &bad, &ended, &Err(RunFault::Write));
+            assert_same(rt, &status(&ended), &3);
+            assert_same(rt, &failed, &1);
+        } else {
+            assert_same_for(rt, &bad, &ended, &Ok(outcome));
+            assert_same(rt, &failed, &0);
         }
     }
 }
 
 #[test]
-fn a_failure_of_any_write_or_of_the_flush_is_a_fault(rt: HostRuntime) {
-    // Calls 0 to 4 take 5 bytes each, and call 5 flushes.
-    let out = REPORT.as_bytes();
-    let writes = out.len().div_ceil(5);
-    for bad in 0..10 {
-        let writer = Failing {
-            inner: Vec::new(rt.alloc()),
-            step: 5,
-            bad,
-            calls: 0,
-        };
-        let (ended, (_, failed), writer) = run_counted(rt.alloc(), TEXT.as_bytes(), writer);
-        let len = out.len().min(bad.saturating_mul(5));
-        assert!(rt; writer.inner.as_slice() == &out[..len], "{bad}");
-        if bad <= writes {
-            assert_same_for(&rt, &bad, &ended, &Err(RunFault::Write));
-            assert_same(&rt, &status(&ended), &3);
-            assert_same(&rt, &failed, &1);
-        } else {
-            assert_same_for(&rt, &bad, &ended, &Ok(Outcome::Accepted));
-            assert_same(&rt, &failed, &0);
+fn a_failure_of_any_read_write_or_flush_is_a_fault(rt: HostRuntime) {
+    for wanted in RUNS {
+        for bytes in [1, 4] {
+            let step = NonZeroUsize::new(bytes).expect(&rt, "not 0");
+            assert_all_is_read(&rt, rt.alloc(), wanted, step);
+            assert_all_is_written(&rt, rt.alloc(), wanted, step);
         }
     }
 }
