@@ -266,7 +266,7 @@ impl Searched {
 
     /// Whether the composition at a place is noted.
     fn has(&self, place: Place) -> bool
-        ensures { IsTrue result → slice_get self.now.noted (note_of place) ≡ Some (Some place) }
+        ensures { IsTrue result ↔ (slice_get self.now.noted (note_of place) ≡ Some (Some place)) }
     {
         match self.noted[note_of(place)] {
             Some(noted) => noted == place,

@@ -46,7 +46,7 @@ pub returns-then-has-clause-found : goal.returns-then-has-clause-found
 returns-then-has-clause-found t c =
     let s = surroundings c.args.context in
     let last = c.source-last.result in
-    let noted = all_at (λ (note : Option Place). IfSome note (λ p. ContainsForbidden s c.args.forbidden p → ⊥)) c.args.self.now.noted _ (Some last) c.requires.noted (c.has.ensures c.if-has.true) in
+    let noted = all_at (λ (note : Option Place). IfSome note (λ p. ContainsForbidden s c.args.forbidden p → ⊥)) c.args.self.now.noted _ (Some last) c.requires.noted (c.has.ensures.0 c.if-has.true) in
     (λ u. absurd (cc u), λ h. absurd (noted (h.0, c.source-last.ensures.source.taken h.0 h.1, h.2)))
 
 pub loop-component-init : goal.loop-component-init
