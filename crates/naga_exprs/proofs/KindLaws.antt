@@ -1,46 +1,26 @@
 -- A rule that needs no kind of an operand is the same whatever the kinds are.
-use Rattle.std.proofs.Common.{◌≡◌, ℕ, ℤ, List, [], None, Some, Result}
+use Rattle.std.proofs.Common.{◌≡◌, ℕ, List, [], None, Some, Result}
 use Rattle.naga_exprs.specs.ExpressionRule.{IsRule}
 use Rattle.naga_exprs.specs.Math.{MathTyping}
 use Rattle.naga_flags.specs.declared.flags.ShaderStages.{ShaderStages}
+use Rattle.naga_info.specs.ModuleInfo.{ModuleInfoLists}
 use Rattle.naga_info.specs.Surroundings.{ExpressionSurroundings, kind_operands}
 use Rattle.naga_info.specs.declared.expression_error.ExpressionError.{ExpressionError}
 use Rattle.naga_ir.specs.declared.expression.BinaryOperator.{BinaryOperator}
 use Rattle.naga_ir.specs.declared.expression.Expression.{Expression}
 use Rattle.naga_ir.specs.declared.expression.Expression.TheVariants as form
-use Rattle.naga_operator_exprs.specs.Binary.{IsBinaryRule, RightIsForbidden, wrong_operands, forbidden_constant, accepted}
-use Rattle.naga_operator_exprs.specs.Integers.{ContainsInteger, IsOwnInteger, itself, splatted, component, initialiser, literal_value, zero_value}
-use Rattle.naga_operator_exprs.specs.declared.integers.Place.{Place}
-use Rattle.naga_operator_exprs.specs.declared.integers.Forbidden.{Forbidden}
+use Rattle.naga_operator_exprs.specs.Binary.{IsBinaryRule, accepted, forbidden_constant, wrong_operands}
 use Rattle.naga_typing.specs.declared.expression_kind.ExpressionKind.{ExpressionKind}
 
-module _ (s : ExpressionSurroundings) (k : List ExpressionKind) where
-  abbrev by : ExpressionSurroundings
-  by = record s { kinds = k }
-
-  own : (x : Expression) (n : ℤ) → IsOwnInteger s x n → IsOwnInteger by x n
-  own _ _ (literal_value value n e) = literal_value value n e
-  own _ _ (zero_value ty e) = zero_value ty e
-
-  contained : (p : Place) (n : ℤ) → ContainsInteger s p n → ContainsInteger by p n
-  contained _ _ (itself p x n e o) = itself p x n e (own x n o)
-  contained _ _ (splatted p size value n e c) = splatted p size value n e (contained _ n c)
-  contained _ _ (component p ty components c n e i h) = component p ty components c n e i (contained _ n h)
-  contained _ _ (initialiser p c d n e f h) = initialiser p c d n e f (contained _ n h)
+-- the rule of an operator on two values depends on the module, the function and the types of its expressions alone
+pub binary-alike : (s : ExpressionSurroundings) (capabilities : ℕ) (stages : ShaderStages) (infos : ModuleInfoLists) (kinds : List ExpressionKind) (op : BinaryOperator) (left right : ℕ) (rule : Result ShaderStages ExpressionError)
+    → IsBinaryRule s op left right rule → IsBinaryRule (record s { capabilities = capabilities; subgroup_stages = stages; infos = infos; kinds = kinds }) op left right rule
+binary-alike s capabilities stages infos kinds op left right _ (wrong_operands misfit) = wrong_operands misfit
+binary-alike s capabilities stages infos kinds op left right _ (forbidden_constant forbidden fits held) = forbidden_constant forbidden fits held
+binary-alike s capabilities stages infos kinds op left right _ (accepted fits none) = accepted fits none
 
 module _ (s : ExpressionSurroundings) (k : List ExpressionKind) where
-  right_forbidden : (op : BinaryOperator) (left right : ℕ) (f : Forbidden) → RightIsForbidden s op left right f → RightIsForbidden (by s k) op left right f
-  right_forbidden op left right f h = (h.0, (h.1.0, contained s k _ _ h.1.1, h.1.2))
-
-  right_not_forbidden : (op : BinaryOperator) (left right : ℕ) (f : Forbidden) → RightIsForbidden (by s k) op left right f → RightIsForbidden s op left right f
-  right_not_forbidden op left right f h = (h.0, (h.1.0, contained (by s k) s.kinds _ _ h.1.1, h.1.2))
-
-  binary : (op : BinaryOperator) (left right : ℕ) (rule : Result ShaderStages ExpressionError) → IsBinaryRule s op left right rule → IsBinaryRule (by s k) op left right rule
-  binary op left right _ (wrong_operands e) = wrong_operands e
-  binary op left right _ (forbidden_constant f e h) = forbidden_constant f e (right_forbidden op left right f h)
-  binary op left right _ (accepted e none) = accepted e (λ f h. none f (right_not_forbidden op left right f h))
-
-  pub any_kinds : (t : MathTyping) (x : Expression) (rule : Result ShaderStages ExpressionError) → kind_operands x ≡ [] → IsRule t s x rule → IsRule t (by s k) x rule
+  pub any_kinds : (t : MathTyping) (x : Expression) (rule : Result ShaderStages ExpressionError) → kind_operands x ≡ [] → IsRule t s x rule → IsRule t (record s { kinds = k }) x rule
   any_kinds t (form.Literal value) rule none h = h
   any_kinds t (form.Constant c) rule none h = h
   any_kinds t (form.Override o) rule none h = h
@@ -55,7 +35,7 @@ module _ (s : ExpressionSurroundings) (k : List ExpressionKind) where
   any_kinds t (form.LocalVariable v) rule none h = h
   any_kinds t (form.Load pointer) rule none h = h
   any_kinds t (form.Unary op expr) rule none h = h
-  any_kinds t (form.Binary op left right) rule none h = binary op left right rule h
+  any_kinds t (form.Binary op left right) rule none h = binary-alike s s.capabilities s.subgroup_stages s.infos k op left right rule h
   any_kinds t (form.Select condition accept reject) rule none h = h
   any_kinds t (form.Derivative expr) rule none h = h
   any_kinds t (form.Relational fun argument) rule none h = h

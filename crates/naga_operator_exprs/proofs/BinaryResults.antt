@@ -11,7 +11,7 @@ use Rattle.naga_info.specs.Surroundings.{ExpressionSurroundings, form_at}
 use Rattle.naga_info.specs.declared.expression_error.ExpressionError.{ExpressionError}
 use Rattle.naga_info.specs.declared.expression_error.ExpressionError.TheVariants.{InvalidBinaryOperandTypes}
 use Rattle.naga_operator_exprs.specs.Binary.{IsBinaryResult, IsBinaryRule, RightIsForbidden, accepted, forbidden_constant, forbidden_on_right, wrong_operands, operands_fit, refusal_of}
-use Rattle.naga_operator_exprs.specs.Integers.{ContainsForbidden}
+use Rattle.naga_operator_exprs.specs.Integers.{ContainsForbidden, scope_of}
 use Rattle.naga_operator_exprs.specs.declared.integers.Forbidden.{Forbidden}
 use Rattle.naga_operator_exprs.specs.declared.integers.Place.TheVariants.{InFunction}
 
@@ -50,12 +50,12 @@ module _ (s : ExpressionSurroundings) (op : BinaryOperator) (left right : ℕ) (
   accepted_by_none fits h = accepted (fit true fits) (λ forbidden held. none_held (forbidden_on_right op (form_at s left)) forbidden (found None h) held.0)
 
   -- the rule accepts where no constant on the right is forbidden
-  pub accepted_by_some : (forbidden : Forbidden) → operands_fit op x y ≡ true → forbidden_on_right op x ≡ Some forbidden → (ContainsForbidden s forbidden (InFunction right) → ⊥) → IsBinaryRule s op left right (Ok every_stage)
+  pub accepted_by_some : (forbidden : Forbidden) → operands_fit op x y ≡ true → forbidden_on_right op x ≡ Some forbidden → (ContainsForbidden (scope_of s) forbidden (InFunction right) → ⊥) → IsBinaryRule s op left right (Ok every_stage)
   accepted_by_some forbidden fits h allowed =
-      accepted (fit true fits) (λ other held. allowed (subst (λ f. ContainsForbidden s f (InFunction right)) (sym (same_Some forbidden other (sym (found (Some forbidden) h) ∙ held.0))) held.1))
+      accepted (fit true fits) (λ other held. allowed (subst (λ f. ContainsForbidden (scope_of s) f (InFunction right)) (sym (same_Some forbidden other (sym (found (Some forbidden) h) ∙ held.0))) held.1))
 
   -- if the rule accepts, the constant on the right is not forbidden
-  pub allowed_by_rule : (forbidden : Forbidden) → forbidden_on_right op x ≡ Some forbidden → IsBinaryRule s op left right (Ok every_stage) → ContainsForbidden s forbidden (InFunction right) → ⊥
+  pub allowed_by_rule : (forbidden : Forbidden) → forbidden_on_right op x ≡ Some forbidden → IsBinaryRule s op left right (Ok every_stage) → ContainsForbidden (scope_of s) forbidden (InFunction right) → ⊥
   allowed_by_rule forbidden h rule has = none_forbidden s op left right (Ok every_stage) rule refl forbidden (found (Some forbidden) h, has)
 
   module _ (result : Result ShaderStages ExpressionError) where
@@ -68,7 +68,7 @@ module _ (s : ExpressionSurroundings) (op : BinaryOperator) (left right : ℕ) (
     )
 
     -- the constant on the right is forbidden
-    pub of_forbidden : (forbidden : Forbidden) → operands_fit op x y ≡ true → forbidden_on_right op x ≡ Some forbidden → ContainsForbidden s forbidden (InFunction right)
+    pub of_forbidden : (forbidden : Forbidden) → operands_fit op x y ≡ true → forbidden_on_right op x ≡ Some forbidden → ContainsForbidden (scope_of s) forbidden (InFunction right)
         → IsRuleResult (Err (refusal_of forbidden x right)) result → IsBinaryResult s op left right result
     of_forbidden forbidden fits h has returned = (
       Err (refusal_of forbidden (form_at s left) right),
@@ -81,6 +81,6 @@ module _ (s : ExpressionSurroundings) (op : BinaryOperator) (left right : ℕ) (
     of_no_rule fits h is = (Ok every_stage, accepted_by_none fits h, inl is)
 
     -- no constant on the right is forbidden
-    pub of_allowed : (forbidden : Forbidden) → operands_fit op x y ≡ true → forbidden_on_right op x ≡ Some forbidden → (ContainsForbidden s forbidden (InFunction right) → ⊥)
+    pub of_allowed : (forbidden : Forbidden) → operands_fit op x y ≡ true → forbidden_on_right op x ≡ Some forbidden → (ContainsForbidden (scope_of s) forbidden (InFunction right) → ⊥)
         → result ≡ Ok every_stage → IsBinaryResult s op left right result
     of_allowed forbidden fits h allowed is = (Ok every_stage, accepted_by_some forbidden fits h allowed, inl is)

@@ -3,7 +3,7 @@ use Rattle.std.proofs.Common.{◌≡◌, ◌<◌, ℕ, Contains, Some, IfSome, l
 use Rattle.std.proofs.lemmas.List.Elements.{All-weaker}
 use Rattle.std.specs.List.{flat_map}
 use Rattle.naga_ir.proofs.Handles.{global_references_ok}
-use Rattle.naga_ir.specs.Handles.{Exists, GlobalReferencesOk, constant, function_counts, operand, own_operand}
+use Rattle.naga_ir.specs.Handles.{Exists, ExpressionReferencesOk, GlobalReferencesOk, HandlesAccepted, constant, function_counts, operand, own_operand}
 use Rattle.naga_ir.specs.ItemReferences.{GlobalLists, expression_references, global_lists}
 use Rattle.naga_ir.specs.References.{named_type, operands}
 use Rattle.naga_ir.specs.declared.expression.Expression.{Expression}
@@ -14,7 +14,7 @@ use Rattle.naga_ir.specs.declared.ir.Module.{Module}
 use Rattle.naga_ir.specs.declared.reference.Reference.{Reference}
 use Rattle.naga_ir.specs.declared.reference.Reference.TheVariants as to
 use Rattle.naga_info.specs.Surroundings.{AreSound, ExpressionSurroundings}
-use Rattle.naga_operator_exprs.specs.Integers.{operand_place, expression_at}
+use Rattle.naga_operator_exprs.specs.Integers.{Scope, expression_at, operand_place, scope_of}
 use Rattle.naga_operator_exprs.specs.declared.integers.Place.{Place}
 use Rattle.naga_operator_exprs.specs.declared.integers.Place.TheVariants.{InFunction, InModule}
 use Rattle.naga_operator_exprs.specs.steps.Places.{PlaceExists, rank}
@@ -33,7 +33,16 @@ named_in_module m f (to.Function i) h = tt
 named_in_module m f (to.DiagnosticFilterNode d) h = tt
 named_in_module m f (to.Emit range) h = tt
 
-module _ (s : ExpressionSurroundings) (sound : AreSound s) where
+-- the handles of a module and of a function in it are right
+pub record AreInScope (s : Scope) : Type 0 where
+  pub handles : HandlesAccepted s.«module»
+  pub in_function : ExpressionReferencesOk s.«module» s.function
+
+-- so they are where a rule is checked
+pub in_scope : (s : ExpressionSurroundings) → AreSound s → AreInScope (scope_of s)
+in_scope s sound = record { handles = sound.handles; in_function = sound.in_function }
+
+module _ (s : Scope) (sound : AreInScope s) where
   abbrev g : GlobalLists
   g = global_lists s.«module»
 

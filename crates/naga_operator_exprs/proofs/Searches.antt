@@ -2,16 +2,15 @@
 use Rattle.std.proofs.Common.{◌≡◌, ◌≤◌, ◌+◌, ap, ℕ, ℤ, Contains, List, [], ◌∷◌, Some, length, slice_get, refl, sym, subst, arith, ◌∙◌}
 use Rattle.std.proofs.lemmas.Option.{slice_get_read}
 use borrow.Author.Count.{below_more}
-use Rattle.naga_info.specs.Surroundings.{ExpressionSurroundings}
 use Rattle.naga_ir.specs.declared.expression.Expression.{Expression}
 use Rattle.naga_ir.specs.declared.expression.Expression.TheVariants as form
 use Rattle.naga_operator_exprs.proofs.Sources.{by_itself}
-use Rattle.naga_operator_exprs.specs.Integers.{ContainsForbidden, IsOwnInteger, literal_value, operand_place, zero_value}
+use Rattle.naga_operator_exprs.specs.Integers.{ContainsForbidden, IsOwnInteger, Scope, literal_value, operand_place, zero_value}
 use Rattle.naga_operator_exprs.specs.declared.integers.Forbidden.{Forbidden}
 use Rattle.naga_operator_exprs.specs.declared.integers.Place.{Place}
 use Rattle.naga_operator_exprs.specs.steps.Places.{AreComponents, HasNoSourceAt, NoneBefore}
 
-module _ (s : ExpressionSurroundings) (forbidden : Forbidden) (p : Place) (items : List ℕ) where
+module _ (s : Scope) (forbidden : Forbidden) (p : Place) (items : List ℕ) where
   -- if none is in the next component, none is in one more
   pub one_more : (i o : ℕ) → slice_get items i ≡ Some o → NoneBefore s forbidden p items i → (ContainsForbidden s forbidden (operand_place p o) → ⊥) → NoneBefore s forbidden p items (i + 1)
   one_more i o at none here k c below reads h =

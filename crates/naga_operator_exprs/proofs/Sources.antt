@@ -5,9 +5,8 @@ use Rattle.naga_ir.specs.declared.expression.Expression.{Expression}
 use Rattle.naga_ir.specs.declared.expression.Expression.TheVariants as form
 use Rattle.naga_ir.specs.declared.ir.Constant.{Constant}
 use Rattle.naga_ir.specs.declared.types.VectorSize.{VectorSize}
-use Rattle.naga_info.specs.Surroundings.{AreSound, ExpressionSurroundings}
-use Rattle.naga_operator_exprs.proofs.Places.{initialiser_before, initialiser_there, operand_before, operand_exists}
-use Rattle.naga_operator_exprs.specs.Integers.{ContainsInteger, IsOwnInteger, operand_place, component, expression_at, initialiser, itself, literal_value, splatted, zero_value}
+use Rattle.naga_operator_exprs.proofs.Places.{AreInScope, initialiser_before, initialiser_there, operand_before, operand_exists}
+use Rattle.naga_operator_exprs.specs.Integers.{ContainsInteger, IsOwnInteger, Scope, operand_place, component, expression_at, initialiser, itself, literal_value, splatted, zero_value}
 use Rattle.naga_operator_exprs.specs.declared.integers.Place.{Place}
 use Rattle.naga_operator_exprs.specs.declared.integers.Place.TheVariants.{InModule}
 use Rattle.naga_operator_exprs.specs.steps.Places.{HasNoSource, IsSource, IsSourceOrItself, PlaceExists, rank}
@@ -20,7 +19,7 @@ operands_of_composition : (ty : ℕ) (components : List ℕ) → operands (form.
 unfolding operands
 operands_of_composition ty components = refl
 
-module _ (s : ExpressionSurroundings) where
+module _ (s : Scope) where
   -- a splat has no integer by itself
   splat_owns_none : (size : VectorSize) (value : ℕ) (x : Expression) (n : ℤ) → IsOwnInteger s x n → x ≡ form.Splat size value → ⊥
   splat_owns_none size value _ n (literal_value v _ _) e = cc e
@@ -67,7 +66,7 @@ module _ (s : ExpressionSurroundings) where
   by_itself p x n (component _ ty components c _ at within h) is none others = let same : x ≡ form.Compose ty components = cc (sym is ∙ at) in absurd (others ty components c same within h)
   by_itself p x n (initialiser _ c d _ at names h) is none others = let same : x ≡ form.Constant c = cc (sym is ∙ at) in absurd (subst HasNoSource same none)
 
-  module _ (sound : AreSound s) (p : Place) (there : PlaceExists s p) where
+  module _ (sound : AreInScope s) (p : Place) (there : PlaceExists s p) where
     pub splat_source : (size : VectorSize) (value : ℕ) → expression_at s p ≡ Some (form.Splat size value) → IsSource s p (operand_place p value)
     splat_source size value at = record {
       exists = operand_exists s sound p _ value there at (operand_of_splat size value);

@@ -17,7 +17,7 @@ use Rattle.naga_info.specs.Surroundings.{ExpressionSurroundings, form_at}
 use Rattle.naga_info.specs.Words.{are_equal, consists_of, is_bool, is_number}
 use Rattle.naga_info.specs.declared.expression_error.ExpressionError.{ExpressionError}
 use Rattle.naga_info.specs.declared.expression_error.ExpressionError.TheVariants.{DivideByZero, InvalidBinaryOperandTypes, ShiftAmountTooLarge}
-use Rattle.naga_operator_exprs.specs.Integers.{ContainsForbidden}
+use Rattle.naga_operator_exprs.specs.Integers.{ContainsForbidden, scope_of}
 use Rattle.naga_operator_exprs.specs.Product.{can_multiply}
 use Rattle.naga_operator_exprs.specs.declared.integers.Forbidden.{Forbidden}
 use Rattle.naga_operator_exprs.specs.declared.integers.Forbidden.TheVariants.{AtLeast, Zero}
@@ -131,7 +131,7 @@ refusal_of Zero x right = DivideByZero
 
 -- the right operand is a constant expression that holds a number which the operator forbids
 abbrev pub RightIsForbidden : ExpressionSurroundings → BinaryOperator → ℕ → ℕ → Forbidden → Type 0
-RightIsForbidden s op left right forbidden = (forbidden_on_right op (form_at s left) ≡ Some forbidden) × ContainsForbidden s forbidden (InFunction right)
+RightIsForbidden s op left right forbidden = (forbidden_on_right op (form_at s left) ≡ Some forbidden) × ContainsForbidden (scope_of s) forbidden (InFunction right)
 
 -- the rule of an operator: the operands don't fit; or they do, and a constant on the right is forbidden; or they do, and none is
 pub data IsBinaryRule (s : ExpressionSurroundings) (op : BinaryOperator) (left right : ℕ) : Result ShaderStages ExpressionError → Type 0 where

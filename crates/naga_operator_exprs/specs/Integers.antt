@@ -5,6 +5,8 @@ use Rattle.naga_ir.specs.declared.expression.Expression.TheVariants as form
 use Rattle.naga_ir.specs.declared.expression.Literal.{Literal}
 use Rattle.naga_ir.specs.declared.expression.Literal.TheVariants as literal
 use Rattle.naga_ir.specs.declared.ir.Constant.{Constant}
+use Rattle.naga_ir.specs.declared.ir.Function.{Function}
+use Rattle.naga_ir.specs.declared.ir.Module.{Module}
 use Rattle.naga_ir.specs.declared.types.VectorSize.{VectorSize}
 use Rattle.naga_info.specs.Surroundings.{ExpressionSurroundings, form_in}
 use Rattle.naga_info.specs.Words.{consists_of}
@@ -16,8 +18,17 @@ use Rattle.naga_types.specs.TypeRule.{is_integer}
 use Rattle.naga_typing.specs.Resolutions.{inner_in}
 use Rattle.naga_typing.specs.declared.typifier.TypeResolution.TheVariants.{Handle}
 
+-- where the constant expressions of a function are: in the function, and in its module
+pub record Scope : Type 0 where
+  pub «module» : Module
+  pub function : Function
+
+-- where they are, of what the validation of an expression depends on
+abbrev pub scope_of : ExpressionSurroundings → Scope
+scope_of s = record { «module» = s.«module»; function = s.function }
+
 -- the expression at a place
-abbrev pub expression_at : ExpressionSurroundings → Place → Option Expression
+abbrev pub expression_at : Scope → Place → Option Expression
 expression_at s (place.InFunction e) = slice_get s.function.expressions e
 expression_at s (place.InModule e) = slice_get s.«module».global_expressions e
 
@@ -42,16 +53,16 @@ integer_of (literal.AbstractInt n) = None
 integer_of (literal.AbstractFloat bits) = None
 
 -- the zero of a type is an integer, or a vector of integers
-abbrev pub is_integer_zero : ExpressionSurroundings → ℕ → Boolean
+abbrev pub is_integer_zero : Scope → ℕ → Boolean
 is_integer_zero s ty = consists_of (λ scalar. is_integer scalar.kind) (form_in (inner_in s.«module».types (Handle ty)))
 
 -- a number is the integer that an expression is by itself: a literal, or the zero of an integer or of a vector of integers
-pub data IsOwnInteger (s : ExpressionSurroundings) : Expression → ℤ → Type 0 where
+pub data IsOwnInteger (s : Scope) : Expression → ℤ → Type 0 where
   literal_value : (value : Literal) (n : ℤ) → integer_of value ≡ Some n → IsOwnInteger s (form.Literal value) n
   zero_value : (ty : ℕ) → is_integer_zero s ty ≡ true → IsOwnInteger s (form.ZeroValue ty) (pos 0)
 
 -- a number is in the expression at a place: it is that integer itself, or it is in what is splatted, in a component, or in the initialiser of a constant
-pub data ContainsInteger (s : ExpressionSurroundings) : Place → ℤ → Type 0 where
+pub data ContainsInteger (s : Scope) : Place → ℤ → Type 0 where
   itself : (p : Place) (x : Expression) (n : ℤ) → expression_at s p ≡ Some x → IsOwnInteger s x n → ContainsInteger s p n
   splatted : (p : Place) (size : VectorSize) (value : ℕ) (n : ℤ) → expression_at s p ≡ Some (form.Splat size value) → ContainsInteger s (operand_place p value) n → ContainsInteger s p n
   component : (p : Place) (ty : ℕ) (components : List ℕ) (c : ℕ) (n : ℤ) → expression_at s p ≡ Some (form.Compose ty components) → Contains components c → ContainsInteger s (operand_place p c) n → ContainsInteger s p n
@@ -65,5 +76,5 @@ is_forbidden Zero (pos k) = k == 0
 is_forbidden Zero (negsuc k) = false
 
 -- a forbidden number is in the expression at a place
-abbrev pub ContainsForbidden : ExpressionSurroundings → Forbidden → Place → Type 0
+abbrev pub ContainsForbidden : Scope → Forbidden → Place → Type 0
 ContainsForbidden s forbidden p = (n : ℤ) × ContainsInteger s p n × (is_forbidden forbidden n ≡ true)

@@ -4,7 +4,7 @@ ghost use Rattle.std.specs.Prelude.{◌≡◌, ◌↔◌, ◌<◌, IfNone, IfSom
 ghost use Rattle.naga_ir.specs.References.{named_type};
 ghost use Rattle.naga_info.specs.Surroundings.{AreSound, surroundings};
 ghost use Rattle.naga_operator_exprs.specs.Integers as spec;
-ghost use Rattle.naga_operator_exprs.specs.Integers.{ContainsForbidden, expression_at};
+ghost use Rattle.naga_operator_exprs.specs.Integers.{ContainsForbidden, expression_at, scope_of};
 ghost use Rattle.naga_operator_exprs.specs.steps.Searched.{HaveNone, note_count, note_of};
 ghost use Rattle.naga_operator_exprs.specs.steps.Places.{AreComponents, HasNoSourceAt, IsSource, IsSourceOrItself, OwnForbidden, PlaceExists, is_forbidden_found};
 
@@ -46,8 +46,8 @@ impl Place {
 
 /// The expression at a place.
 fn expression_at<'a>(context: FunctionContext<'a>, place: &Place) -> &'a Expression
-    requires { PlaceExists (surroundings context) place.now }
-    ensures { expression_at (surroundings context.entry) place.now ≡ Some result.now }
+    requires { PlaceExists (scope_of (surroundings context)) place.now }
+    ensures { expression_at (scope_of (surroundings context.entry)) place.now ≡ Some result.now }
 {
     match place {
         Place::InFunction(handle) => &context.function.expressions[*handle],
@@ -59,9 +59,9 @@ fn expression_at<'a>(context: FunctionContext<'a>, place: &Place) -> &'a Express
 /// a splat from its operand, and a composition from its component if it has only one.
 fn only_source<'a>(context: FunctionContext<'a>, place: &Place) -> Option<Place>
     requires sound { AreSound (surroundings context) }
-    requires exists { PlaceExists (surroundings context) place.now }
-    ensures source { IfSome result (λ next. IsSource (surroundings context.entry) place.now next) }
-    ensures none { IfNone result (HasNoSourceAt (surroundings context.entry) place.now) }
+    requires exists { PlaceExists (scope_of (surroundings context)) place.now }
+    ensures source { IfSome result (λ next. IsSource (scope_of (surroundings context.entry)) place.now next) }
+    ensures none { IfNone result (HasNoSourceAt (scope_of (surroundings context.entry)) place.now) }
 {
     match expression_at(context, place) {
         Expression::Constant(handle) => {
@@ -110,9 +110,9 @@ fn only_source<'a>(context: FunctionContext<'a>, place: &Place) -> Option<Place>
 /// that have theirs from one other. It is a loop, since constants may be chained through a whole arena.
 fn source<'a>(context: FunctionContext<'a>, place: Place) -> Place
     requires sound { AreSound (surroundings context) }
-    requires exists { PlaceExists (surroundings context) place }
-    ensures source { IsSourceOrItself (surroundings context.entry) place result }
-    ensures last { HasNoSourceAt (surroundings context.entry) result }
+    requires exists { PlaceExists (scope_of (surroundings context)) place }
+    ensures source { IsSourceOrItself (scope_of (surroundings context.entry)) place result }
+    ensures last { HasNoSourceAt (scope_of (surroundings context.entry)) result }
 {
     let mut last = place;
     // What an expression has its integers from precedes it, so this ends.
@@ -124,8 +124,8 @@ fn source<'a>(context: FunctionContext<'a>, place: Place) -> Place
 
 /// The components of a composition; other expressions have none.
 fn components_at<'a>(context: FunctionContext<'a>, place: &Place) -> &'a [Handle<ExpressionTag>]
-    requires { PlaceExists (surroundings context) place.now }
-    ensures { AreComponents (surroundings context.entry) place.now result.now }
+    requires { PlaceExists (scope_of (surroundings context)) place.now }
+    ensures { AreComponents (scope_of (surroundings context.entry)) place.now result.now }
 {
     let Expression::Compose { components, .. } = expression_at(context, place) else {
         return &[];
@@ -176,7 +176,7 @@ fn is_forbidden_literal(forbidden: Forbidden, literal: Literal) -> bool
 /// Whether the zero of a type is an integer or a vector of integers.
 fn is_integer_zero(context: FunctionContext<'_>, ty: Handle<TypeTag>) -> bool
     requires { ty < length context.«module».now.types }
-    ensures { result ≡ spec.is_integer_zero (surroundings context.entry) ty }
+    ensures { result ≡ spec.is_integer_zero (scope_of (surroundings context.entry)) ty }
 {
     match context.module.types[ty].inner.vector_size_and_scalar() {
         Some((_, scalar)) => is_integer(scalar.kind),
@@ -191,8 +191,8 @@ fn is_forbidden_itself(
     expression: &Expression,
 ) -> bool
     requires { IfSome (named_type expression.now) (λ ty. ty < length context.«module».now.types) }
-    ensures yes { IsTrue result → OwnForbidden (surroundings context.entry) forbidden expression.now }
-    ensures no { OwnForbidden (surroundings context.entry) forbidden expression.now → IsTrue result }
+    ensures yes { IsTrue result → OwnForbidden (scope_of (surroundings context.entry)) forbidden expression.now }
+    ensures no { OwnForbidden (scope_of (surroundings context.entry)) forbidden expression.now → IsTrue result }
 {
     match expression {
         Expression::Literal(literal) => is_forbidden_literal(forbidden, *literal),
@@ -277,10 +277,10 @@ impl Searched {
     /// Whether a forbidden number is in the constant expression at a place, of whose parts some may be searched.
     fn finds(&mut self, context: FunctionContext<'_>, forbidden: Forbidden, place: Place) -> bool
         requires sound { AreSound (surroundings context) }
-        requires exists { PlaceExists (surroundings context) place }
-        requires noted { HaveNone (surroundings context) forbidden self.old.noted }
-        ensures noted { HaveNone (surroundings context.entry) forbidden self.new.noted }
-        ensures found { IsTrue result ↔ ContainsForbidden (surroundings context.entry) forbidden place }
+        requires exists { PlaceExists (scope_of (surroundings context)) place }
+        requires noted { HaveNone (scope_of (surroundings context)) forbidden self.old.noted }
+        ensures noted { HaveNone (scope_of (surroundings context.entry)) forbidden self.new.noted }
+        ensures found { IsTrue result ↔ ContainsForbidden (scope_of (surroundings context.entry)) forbidden place }
     {
         let last = source(context, place);
         let components = components_at(context, &last);
@@ -313,8 +313,8 @@ pub(crate) fn has_forbidden(
     place: Place,
 ) -> bool
     requires sound { AreSound (surroundings context) }
-    requires exists { PlaceExists (surroundings context) place }
-    ensures { IsTrue result ↔ ContainsForbidden (surroundings context.entry) forbidden place }
+    requires exists { PlaceExists (scope_of (surroundings context)) place }
+    ensures { IsTrue result ↔ ContainsForbidden (scope_of (surroundings context.entry)) forbidden place }
 {
     Searched::new().finds(context, forbidden, place)
 }

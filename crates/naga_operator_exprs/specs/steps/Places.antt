@@ -2,31 +2,30 @@
 use Rattle.std.specs.Prelude.{◌≡◌, ◌+◌, ◌<◌, ◌≤◌, ℕ, ℤ, Bool as Boolean, true, false, Contains, List, Option, Some, None, length, slice_get, ⊤}
 use Rattle.naga_ir.specs.declared.expression.Expression.{Expression}
 use Rattle.naga_ir.specs.declared.expression.Expression.TheVariants as form
-use Rattle.naga_info.specs.Surroundings.{ExpressionSurroundings}
-use Rattle.naga_operator_exprs.specs.Integers.{ContainsForbidden, ContainsInteger, IsOwnInteger, operand_place, expression_at, is_forbidden}
+use Rattle.naga_operator_exprs.specs.Integers.{ContainsForbidden, ContainsInteger, IsOwnInteger, Scope, expression_at, is_forbidden, operand_place}
 use Rattle.naga_operator_exprs.specs.declared.integers.Forbidden.{Forbidden}
 use Rattle.naga_operator_exprs.specs.declared.integers.Place.{Place}
 use Rattle.naga_operator_exprs.specs.declared.integers.Place.TheVariants.{InFunction, InModule}
 
 -- there is an expression at a place
-abbrev pub PlaceExists : ExpressionSurroundings → Place → Type 0
+abbrev pub PlaceExists : Scope → Place → Type 0
 PlaceExists s (InFunction e) = e < length s.function.expressions
 PlaceExists s (InModule e) = e < length s.«module».global_expressions
 
 -- the expressions of a function come after all global ones
-abbrev pub rank : ExpressionSurroundings → Place → ℕ
+abbrev pub rank : Scope → Place → ℕ
 rank s (InFunction e) = length s.«module».global_expressions + e
 rank s (InModule e) = e
 
 -- the expression at a place has its integers from the one at another, which comes before it
-pub record IsSource (s : ExpressionSurroundings) (p q : Place) : Type 0 where
+pub record IsSource (s : Scope) (p q : Place) : Type 0 where
   pub exists : PlaceExists s q
   pub before : rank s q < rank s p
   pub given : (n : ℤ) → ContainsInteger s q n → ContainsInteger s p n
   pub taken : (n : ℤ) → ContainsInteger s p n → ContainsInteger s q n
 
 -- the same, or it is the same place
-pub record IsSourceOrItself (s : ExpressionSurroundings) (p q : Place) : Type 0 where
+pub record IsSourceOrItself (s : Scope) (p q : Place) : Type 0 where
   pub exists : PlaceExists s q
   pub not_after : rank s q ≤ rank s p
   pub given : (n : ℤ) → ContainsInteger s q n → ContainsInteger s p n
@@ -70,11 +69,11 @@ HasNoSource (form.CooperativeLoad pointer stride) = ⊤
 HasNoSource (form.CooperativeMultiplyAdd a b c) = ⊤
 
 -- the expression at a place is neither a constant nor a splat
-abbrev pub HasNoSourceAt : ExpressionSurroundings → Place → Type 0
+abbrev pub HasNoSourceAt : Scope → Place → Type 0
 HasNoSourceAt s p = (x : Expression) → expression_at s p ≡ Some x → HasNoSource x
 
 -- these are the components of the expression at a place, if it is a composition, and else there are none
-pub record AreComponents (s : ExpressionSurroundings) (p : Place) (components : List ℕ) : Type 0 where
+pub record AreComponents (s : Scope) (p : Place) (components : List ℕ) : Type 0 where
   pub of_composition : (ty : ℕ) (given : List ℕ) → expression_at s p ≡ Some (form.Compose ty given) → components ≡ given
   pub composed : (c : ℕ) → Contains components c → (ty : ℕ) × (expression_at s p ≡ Some (form.Compose ty components))
 
@@ -84,9 +83,9 @@ is_forbidden_found forbidden (Some n) = is_forbidden forbidden n
 is_forbidden_found forbidden None = false
 
 -- the integer that an expression is by itself is forbidden
-abbrev pub OwnForbidden : ExpressionSurroundings → Forbidden → Expression → Type 0
+abbrev pub OwnForbidden : Scope → Forbidden → Expression → Type 0
 OwnForbidden s forbidden x = (n : ℤ) × IsOwnInteger s x n × (is_forbidden forbidden n ≡ true)
 
 -- no forbidden number is in the first of some components of the expression at a place
-abbrev pub NoneBefore : ExpressionSurroundings → Forbidden → Place → List ℕ → ℕ → Type 0
+abbrev pub NoneBefore : Scope → Forbidden → Place → List ℕ → ℕ → Type 0
 NoneBefore s forbidden p components i = (k c : ℕ) → k < i → slice_get components k ≡ Some c → ContainsForbidden s forbidden (operand_place p c) → ⊥

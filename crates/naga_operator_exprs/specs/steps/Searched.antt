@@ -1,8 +1,7 @@
 -- What a search for a forbidden number notes.
 use Rattle.std.specs.List.{All}
 use Rattle.std.specs.Prelude.{◌%◌, ℕ, List, Option, IfSome}
-use Rattle.naga_info.specs.Surroundings.{ExpressionSurroundings}
-use Rattle.naga_operator_exprs.specs.Integers.{ContainsForbidden}
+use Rattle.naga_operator_exprs.specs.Integers.{ContainsForbidden, Scope}
 use Rattle.naga_operator_exprs.specs.declared.integers.Forbidden.{Forbidden}
 use Rattle.naga_operator_exprs.specs.declared.integers.Place.{Place}
 use Rattle.naga_operator_exprs.specs.declared.integers.Place.TheVariants.{InFunction, InModule}
@@ -17,5 +16,5 @@ note_of (InFunction e) = e % note_count
 note_of (InModule e) = e % note_count
 
 -- no forbidden number is in the expressions at the places that are noted
-abbrev pub HaveNone : ExpressionSurroundings → Forbidden → List (Option Place) → Type 0
+abbrev pub HaveNone : Scope → Forbidden → List (Option Place) → Type 0
 HaveNone s forbidden noted = All (λ note. IfSome note (λ p. ContainsForbidden s forbidden p → ⊥)) noted

@@ -3,11 +3,11 @@ use Rattle.std.proofs.lemmas.List.Elements.{All-set}
 use Rattle.std.proofs.lemmas.Option.{slice_get_read}
 use Rattle.naga_arena.proofs.Elements.{all_at}
 use Rattle.naga_info.specs.Surroundings.{surroundings}
-use Rattle.naga_operator_exprs.proofs.Places.{type_exists}
+use Rattle.naga_operator_exprs.proofs.Places.{in_scope, type_exists}
 use Rattle.naga_operator_exprs.proofs.Searches.{none_in, one_more}
 use Rattle.naga_operator_exprs.proofs.Sources.{by_itself, component_before, component_exists}
 use Rattle.naga_operator_exprs.proofs.integers.Searched.+finds.Goals as goal
-use Rattle.naga_operator_exprs.specs.Integers.{ContainsForbidden, ContainsInteger, operand_place, component, itself}
+use Rattle.naga_operator_exprs.specs.Integers.{ContainsForbidden, ContainsInteger, component, itself, operand_place, scope_of}
 use Rattle.naga_operator_exprs.specs.declared.integers.Place.{Place}
 use Rattle.naga_operator_exprs.specs.steps.Places.{PlaceExists, rank}
 
@@ -19,7 +19,7 @@ never : {b : Bool} → b ≡ false → b ≡ true → ⊥
 never is isnt = cc (sym is ∙ isnt)
 
 pub is_forbidden_itself-requires : goal.is_forbidden_itself-requires
-is_forbidden_itself-requires t c = type_exists (surroundings c.args.context) c.requires.sound c.source-last.result c.expression_at.result.now c.expression_at.ensures
+is_forbidden_itself-requires t c = type_exists (scope_of (surroundings c.args.context)) (in_scope (surroundings c.args.context) c.requires.sound) c.source-last.result c.expression_at.result.now c.expression_at.ensures
 
 -- a list without items has none
 empty : (items : List ℕ) (o : ℕ) → length items ≡ 0 → Contains items o → ⊥
@@ -27,7 +27,7 @@ empty items o none (k, below, at) = omega (arith, none, below)
 
 pub returns-then-is_empty-clause-found : goal.returns-then-is_empty-clause-found
 returns-then-is_empty-clause-found t c =
-    let s = surroundings c.args.context in
+    let s = scope_of (surroundings c.args.context) in
     let last = c.source-last.result in
     let items = c.components_at-components.result.now in
     let x = c.expression_at.result.now in
@@ -44,7 +44,7 @@ returns-then-is_empty-clause-found t c =
 
 pub returns-then-has-clause-found : goal.returns-then-has-clause-found
 returns-then-has-clause-found t c =
-    let s = surroundings c.args.context in
+    let s = scope_of (surroundings c.args.context) in
     let last = c.source-last.result in
     let noted = all_at (λ (note : Option Place). IfSome note (λ p. ContainsForbidden s c.args.forbidden p → ⊥)) c.args.self.now.noted _ (Some last) c.requires.noted (c.has.ensures.0 c.if-has.true) in
     (λ u. absurd (cc u), λ h. absurd (noted (h.0, c.source-last.ensures.source.taken h.0 h.1, h.2)))
@@ -54,7 +54,7 @@ loop-component-init t c = (λ k o below. absurd (omega (arith, below)), c.requir
 
 pub finds-requires : goal.finds-requires
 finds-requires t c =
-    let s = surroundings c.args.context in
+    let s = scope_of (surroundings c.args.context) in
     let last = c.source-last.result in
     let items = c.components_at-components.result.now in
     let o = c.component-item.result in
@@ -62,14 +62,14 @@ finds-requires t c =
     let within : Contains items o = read items c.loop-component.component-index o below c.component-item.is in
     let composed = c.components_at-components.ensures.composed o within in
     let there = c.source-last.ensures.source.exists in
-    let before : rank s (operand_place last o) < rank s last = component_before s c.requires.sound last there composed.0 items o composed.1 within in
+    let before : rank s (operand_place last o) < rank s last = component_before s (in_scope (surroundings c.args.context) c.requires.sound) last there composed.0 items o composed.1 within in
     let not_after : rank s last ≤ rank s c.args.place = c.source-last.ensures.source.not_after in
     let under : rank s (operand_place last o) < t = omega (arith, before, not_after, c.decreases) in
-    (subst (λ q. rank s q < t) (sym c.operand_place.ensures) under, (c.requires.sound, (subst (PlaceExists s) (sym c.operand_place.ensures) (component_exists s c.requires.sound last there composed.0 items o composed.1 within), c.loop-component.invariant.1)))
+    (subst (λ q. rank s q < t) (sym c.operand_place.ensures) under, (c.requires.sound, (subst (PlaceExists s) (sym c.operand_place.ensures) (component_exists s (in_scope (surroundings c.args.context) c.requires.sound) last there composed.0 items o composed.1 within), c.loop-component.invariant.1)))
 
 pub returns-then-finds-clause-found : goal.returns-then-finds-clause-found
 returns-then-finds-clause-found t c =
-    let s = surroundings c.args.context in
+    let s = scope_of (surroundings c.args.context) in
     let last = c.source-last.result in
     let items = c.components_at-components.result.now in
     let o = c.component-item.result in
@@ -82,7 +82,7 @@ returns-then-finds-clause-found t c =
 
 pub loop-component-preserved : goal.loop-component-preserved
 loop-component-preserved t c =
-    let s = surroundings c.args.context in
+    let s = scope_of (surroundings c.args.context) in
     let items = c.components_at-components.result.now in
     let i = c.loop-component.component-index in
     let o = c.component-item.result in
@@ -94,7 +94,7 @@ loop-component-preserved t c =
 
 pub returns-clause-noted : goal.returns-clause-noted
 returns-clause-noted t c =
-    let s = surroundings c.args.context in
+    let s = scope_of (surroundings c.args.context) in
     let items = c.components_at-components.result.now in
     let some : length items ≡ 0 → ⊥ = search rules in
     let ended : length items ≤ c.loop-component.component-index = search rules in
@@ -103,7 +103,7 @@ returns-clause-noted t c =
 
 pub returns-clause-found : goal.returns-clause-found
 returns-clause-found t c =
-    let s = surroundings c.args.context in
+    let s = scope_of (surroundings c.args.context) in
     let items = c.components_at-components.result.now in
     let some : length items ≡ 0 → ⊥ = search rules in
     let ended : length items ≤ c.loop-component.component-index = search rules in
