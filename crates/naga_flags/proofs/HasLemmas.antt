@@ -22,6 +22,10 @@ decides set flags = Decides-eqb (bit_and set flags) flags
 trans : (set part flags : ℕ) → Has set part → Has part flags → Has set flags
 trans set part flags whole h = ap (bit_and set) (sym h) ∙ sym (and_assoc flags set part) ∙ ap (λ p. bit_and p flags) whole ∙ h
 
+-- a set has itself
+pub has-itself : (set : ℕ) → has set set ≡ true
+has-itself set = (decides set set).1 (and_self set)
+
 -- a set has what a set within it has
 pub has-trans : (set part flags : ℕ) → has set part ≡ true → has part flags ≡ true → has set flags ≡ true
 has-trans set part flags whole h = (decides set flags).1 (trans set part flags ((decides set part).0 whole) ((decides part flags).0 h))

@@ -1,2 +1,3 @@
 pub mod HasLemmas
+pub mod MoreWidths
 mod WorkedBits
