@@ -14,6 +14,7 @@ mod Columns
 pub mod KeptConditions
 pub mod LayoutParts
 pub mod LeafPlaces
+pub mod MoreCapabilities
 pub mod OverrideValues
 mod PartsBefore
 pub mod PowersDivide
@@ -25,5 +26,6 @@ pub mod StructFlags
 pub mod StructPlaces
 pub mod UniformLayouts
 pub mod UniformParts
+pub mod WeakerConditions
 mod WorkedFlags
 mod WorkedLeaves

@@ -1,13 +1,11 @@
 -- What is accepted if overrides must have their values is accepted if they needn't.
-use Rattle.std.proofs.Common.{◌≡◌, ℕ, true, false, List, [], ◌∷◌, Option, Some, None, Ok, ap, slice_get, take}
-use Rattle.std.specs.Option.{option_map}
-use Rattle.std.proofs.lemmas.Option.{same_Some}
+use Rattle.std.proofs.Common.{◌≡◌, ℕ, true, false, List, [], ◌∷◌, Option, Some, None, Ok}
 use Rattle.naga_flags.specs.declared.flags.Capabilities.{Capabilities}
 use Rattle.naga_ir.specs.ItemReferences.{global_lists}
 use Rattle.naga_ir.specs.declared.ir.Module.{Module}
-use Rattle.naga_ir.specs.declared.types.«Type».{«Type»}
 use Rattle.naga_ir.specs.declared.types.TypeInner.{TypeInner}
 use Rattle.naga_ir.specs.declared.types.TypeInner.TheVariants as form
+use Rattle.naga_types.proofs.WeakerConditions.{all-too}
 use Rattle.naga_types.specs.AcceptedTypes.{AreTypesAccepted, surroundings_by, types_rule}
 use Rattle.naga_types.specs.Checks.{first_error_or}
 use Rattle.naga_types.specs.TypeRule.{type_rule}
@@ -26,14 +24,9 @@ module _ (m : Module) (capabilities : Capabilities) (layouts : List TypeLayout) 
   type_unresolved infos t (form.Array base size stride) i is = first_alone _ _ _ i is
   type_unresolved infos t _ i is = is
 
-  each_unresolved : (before : List TypeInfo) (k : ℕ) (i : TypeInfo) (found : Option «Type») → option_map (types_rule (global_lists m) capabilities true layouts before k) found ≡ Some (Ok i)
-      → option_map (types_rule (global_lists m) capabilities false layouts before k) found ≡ Some (Ok i)
-  each_unresolved before k i None is = cc
-  each_unresolved before k i (Some ty) is = ap Some (type_unresolved before k ty.inner i (same_Some _ _ is))
-
   -- so all types are accepted, with the same infos
   pub unresolved : (infos : List TypeInfo) → AreTypesAccepted m capabilities true layouts infos → AreTypesAccepted m capabilities false layouts infos
   unresolved infos h = record {
     laid_out = h.laid_out;
-    each_type = record { as_many = h.each_type.as_many; follow = λ k i at. each_unresolved (take k infos) k i (slice_get m.types k) (h.each_type.follow k i at) };
+    each_type = all-too (types_rule (global_lists m) capabilities true layouts) (types_rule (global_lists m) capabilities false layouts) (λ before k ty i. type_unresolved before k ty.inner i) m.types infos h.each_type;
   }
