@@ -1,4 +1,5 @@
 pub mod KindLaws
 mod KnownOperands
+pub mod MoreCapabilities
 mod Operands
 pub mod OverrideValues

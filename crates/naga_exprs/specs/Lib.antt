@@ -12,11 +12,13 @@
 -- RayQueries.points_to_ray_query: through which pointers a ray query is read
 -- Values: the rules of literals, zero values, compositions, splats, arguments, and the results of calls and of loads for a workgroup
 -- Math.math_rule: the rule of mathematical functions, by what a typing says of their arguments
+-- MoreCapabilities.AllowsMore: when an expression is validated with more capabilities, and all else is the same
 pub mod Accesses
 pub mod ConstExpression
 pub mod ExpressionRule
 pub mod Math
 pub mod Memory
+pub mod MoreCapabilities
 pub mod RayQueries
 pub mod Values
 pub mod Vectors
