@@ -41,7 +41,7 @@ module _ {V : Type 0} (P : List V → ℕ → V → Type 0) (values : List V) wh
 
 module _ (by : Validation) (m : Module) where
   -- infos in order with no info of an entry point, and one more of a function
-  one_function : (lists : ModuleInfoLists) (info : FunctionInfo) → lists.entry_points ≡ [] → AreInfosInOrder by m lists → IsInfoOf by m lists (callable.Function (length lists.functions)) info
+  pub one_function : (lists : ModuleInfoLists) (info : FunctionInfo) → lists.entry_points ≡ [] → AreInfosInOrder by m lists → IsInfoOf by m lists (callable.Function (length lists.functions)) info
       → AreInfosInOrder by m (record lists { functions = lists.functions ++ info ∷ [] })
   one_function lists info none in_order accepted =
       let as_before : lists ≡ record lists { entry_points = [] } = ap (λ (l : List FunctionInfo). record lists { entry_points = l }) none in
@@ -52,7 +52,7 @@ module _ (by : Validation) (m : Module) where
       }
 
   -- infos in order, and one more of an entry point
-  one_entry_point : (lists : ModuleInfoLists) (info : FunctionInfo) → AreInfosInOrder by m lists → IsInfoOf by m lists (callable.EntryPoint (length lists.entry_points)) info
+  pub one_entry_point : (lists : ModuleInfoLists) (info : FunctionInfo) → AreInfosInOrder by m lists → IsInfoOf by m lists (callable.EntryPoint (length lists.entry_points)) info
       → AreInfosInOrder by m (record lists { entry_points = lists.entry_points ++ info ∷ [] })
   one_entry_point lists info in_order here = record {
     functions = in_order.functions;

@@ -6,6 +6,8 @@ mod Ids
 mod ItemsInOrder
 mod Meanings
 mod ModuleLaws
+mod MoreCapabilities
+mod MoreStages
 mod OverrideValues
 mod ReferencedItems
 mod Refusals

@@ -25,17 +25,17 @@ use Rattle.naga_valid.specs.declared.error.ValidationError.{ValidationError}
 use Rattle.naga_valid.specs.declared.error.ValidationError.TheVariants.{ConstExpression, Override}
 
 -- a result that is reported as accepted is
-accepted-if : {E : Type 0} (error : E → ValidationError) (r : Result (Unit {0}) E) → IsOk (reported error r) → r ≡ Ok tt
+pub accepted-if : {E : Type 0} (error : E → ValidationError) (r : Result (Unit {0}) E) → IsOk (reported error r) → r ≡ Ok tt
 accepted-if error (Ok u) ok = refl
 accepted-if error (Err e) ok = cc (ok)
 
 -- and the other way round
-reported-if : {E : Type 0} (error : E → ValidationError) (r : Result (Unit {0}) E) → r ≡ Ok tt → IsOk (reported error r)
+pub reported-if : {E : Type 0} (error : E → ValidationError) (r : Result (Unit {0}) E) → r ≡ Ok tt → IsOk (reported error r)
 reported-if error (Ok u) ok = refl
 reported-if error (Err e) ok = cc (ok)
 
 -- if each item that a rule accepts is accepted by another, so are all
-all-weaker : {X : Type 0} (strict lax : ℕ × X → Result (Unit {0}) ValidationError) (items : List X) → ((at : ℕ × X) → IsOk (strict at) → IsOk (lax at)) → All IsOk (results_of strict items) → All IsOk (results_of lax items)
+pub all-weaker : {X : Type 0} (strict lax : ℕ × X → Result (Unit {0}) ValidationError) (items : List X) → ((at : ℕ × X) → IsOk (strict at) → IsOk (lax at)) → All IsOk (results_of strict items) → All IsOk (results_of lax items)
 all-weaker strict lax items weaker all =
     All-map IsOk lax (enumerate_from 0 items) (All-weaker (λ at. IsOk (strict at)) (λ at. IsOk (lax at)) weaker (enumerate_from 0 items) (all-unmap IsOk strict (enumerate_from 0 items) all))
 

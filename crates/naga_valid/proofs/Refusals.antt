@@ -65,7 +65,7 @@ module _ (resolves : Resolves) (m : Module) (settings : Settings) where
       Of layouts = AllAcceptedInOrder (types_rule (global_lists m) settings.capabilities settings.resolved layouts) m.types us
 
   -- and so are all facts
-  facts_once : (us vs : Facts) → AreTypesAndExpressionsAccepted resolves m settings us → AreTypesAndExpressionsAccepted resolves m settings vs → us ≡ vs
+  pub facts_once : (us vs : Facts) → AreTypesAndExpressionsAccepted resolves m settings us → AreTypesAndExpressionsAccepted resolves m settings vs → us ≡ vs
   facts_once us vs u v = record_once (infos_once us.infos vs.infos u.types v.types) (accepted_once (resolve_in_order resolves m) m.global_expressions us.resolutions vs.resolutions u.resolutions v.resolutions)
     where
       record_once : us.infos ≡ vs.infos → us.resolutions ≡ vs.resolutions → us ≡ vs

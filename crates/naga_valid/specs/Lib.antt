@@ -6,6 +6,7 @@
 -- Functions.IsFunctionAccepted, IsFunctionRefusal, RefusesFunction: when the expressions of a function are accepted, what is known of it then, and the first that is refused
 -- Functions.AreFunctionsReadyInOrder: what a module's functions need for that
 -- AllFunctions.ValidatesFunctions, AddsInfos: what is known of all functions and entry points, each by those before it, or the first that is refused
+-- MoreCapabilities.HasMoreCapabilities, KnowsMoreStages: when a validator allows what another does, and when no fewer stages may use what is known of a module
 -- State.State, Settings, new_state: what a validator keeps from call to call, and begins with
 -- ErrorNames.constant_error_name, override_error_name, validation_error_name, function_error_name: the name of each variant of an error
 pub mod Accepted
@@ -13,6 +14,7 @@ pub mod AllFunctions
 pub mod ErrorNames
 pub mod Faults
 pub mod Functions
+pub mod MoreCapabilities
 pub mod State
 pub mod Values
 pub mod steps

@@ -9,24 +9,35 @@
 //! The leaves of a value are its scalars, vectors, matrices and atomics, at any depth of arrays and
 //! structs. Each is named by the indices of the elements and members that lead to it.
 
-ghost use Rattle.std.specs.Prelude.{◌≡◌, ◌+◌, ◌*◌, ◌≤◌, ℕ, IfSome, Some, bit_or, length, slice_get};
+ghost use Rattle.std.specs.Prelude.{◌≡◌, ◌+◌, ◌*◌, ◌≤◌, ℕ, IfSome, IsTrue, List, Ok, Some, bit_or, length, slice_get};
+ghost use Rattle.naga_exprs.specs.ExpressionRule.{IsRule};
+ghost use Rattle.naga_exprs.specs.Math.{math_typing};
+ghost use Rattle.naga_exprs.specs.MoreCapabilities.{AllowsMore};
+ghost use Rattle.naga_flags.specs.Flags.{has};
+ghost use Rattle.naga_flags.specs.declared.flags.ShaderStages.{ShaderStages};
 ghost use Rattle.naga_immediates.specs.LeafSlots.{HasNoArray, HasSlotsOfLeaves};
 ghost use Rattle.naga_immediates.specs.SlotText as text;
 ghost use Rattle.naga_immediates.specs.Slots.{IsSetOf, SharesByte, UsesSlot};
+ghost use Rattle.naga_info.specs.ModuleInfo.{ModuleInfoLists};
+ghost use Rattle.naga_info.specs.Surroundings.{surroundings};
 ghost use Rattle.naga_ir.specs.Handles.{HandlesAccepted};
 ghost use Rattle.naga_ir.specs.ItemReferences.{global_lists};
 ghost use Rattle.naga_types.specs.FlagsOfParts.{IsConstructibleByElements, IsConstructibleByMembers, MembersHaveFlags};
 ghost use Rattle.naga_types.specs.HostLayouts.{HasStorageByLeaves, HasUniformByLeaves, HaveLeafAlignments, IsForHosts};
 ghost use Rattle.naga_types.specs.HostLeaves.{IsLaidOutForHosts, resolved_for_hosts, sized_for_hosts};
 ghost use Rattle.naga_ir.specs.declared.types.TypeInner.{TypeInner};
+ghost use Rattle.naga_types.specs.declared.info.TypeInfo.{TypeInfo};
 ghost use Rattle.naga_typing.specs.Leaves.{AreSeparate, EndsInArray, inner_at, size_at_index};
 ghost use Rattle.naga_valid.specs.Accepted.{Accepts, AreValidTypes};
-ghost use Rattle.naga_valid.specs.Functions.{AreFunctionsReadyInOrder};
-ghost use Rattle.naga_valid.specs.State.{settings_of};
+ghost use Rattle.naga_valid.specs.Functions.{AreFunctionsReadyInOrder, function_surroundings};
+ghost use Rattle.naga_valid.specs.MoreCapabilities.{AcceptsFunctionsToo, HasMoreCapabilities};
+ghost use Rattle.naga_valid.specs.State.{settings_of, stages_with};
 
 use crate::driver::Validator;
 use naga_immediates::immediates::ImmediateSlots;
+use naga_info::context::FunctionContext;
 use naga_info::module_info::ModuleInfo;
+use naga_ir::expression::Expression;
 use naga_ir::handle::Handle;
 use naga_ir::ir::Module;
 use naga_ir::tags::TypeTag;
@@ -211,4 +222,74 @@ pub fn functions<T: Typing>(
     ensures handles { HandlesAccepted «module».now }
     ensures flags { length «module».now.types ≤ length mod_info.now.lists.type_flags }
     ensures in_order { AreFunctionsReadyInOrder «module».now }
+{}
+
+/// More capabilities accept no less: a module that a validator accepts is accepted by one with the same flags
+/// and typing that has all its capabilities, whatever others it has. What the calls return is the same, the
+/// `ModuleInfo` and the info of each type. So a shader that works on one device is never lost on a device with
+/// more features.
+///
+/// A new validator with more capabilities also lets no fewer stages use subgroup operations.
+///
+/// Nothing is said of a module that `validator` refuses: with more capabilities it may be accepted, or refused
+/// with another error or for another item.
+pub fn more_capabilities<T: Typing>(
+    module: &Module,
+    validator: &Validator<T>,
+    resolved: bool,
+    more: &Validator<T>,
+)
+    requires { HasMoreCapabilities validator.now more.now }
+    ensures accepted { (infos : List TypeInfo) (lists : ModuleInfoLists)
+        → Accepts (T.resolves validator.now.typing) «module».now (settings_of validator.now resolved) infos lists
+        → Accepts (T.resolves more.now.typing) «module».now (settings_of more.now resolved) infos lists }
+    ensures same { (infos more_infos : List TypeInfo) (lists more_lists : ModuleInfoLists)
+        → Accepts (T.resolves validator.now.typing) «module».now (settings_of validator.now resolved) infos lists
+        → Accepts (T.resolves more.now.typing) «module».now (settings_of more.now resolved) more_infos more_lists
+        → (more_infos ≡ infos) × (more_lists ≡ lists) }
+    ensures stages { IsTrue (has (stages_with more.now.capabilities.0) (stages_with validator.now.capabilities.0)) }
+{}
+
+/// An expression of a function that is accepted in one context is accepted in another that allows more, and
+/// no stage that may use it loses it. In `more` there are all capabilities of `less`, and no fewer stages that
+/// may use subgroup operations, or each function that is known of the module; all else is the same.
+///
+/// Of an expression that is refused in `less` nothing is said.
+pub fn more_capabilities_expression<T: Typing>(
+    typing: &T,
+    expression: &Expression,
+    less: FunctionContext<'_>,
+    more: FunctionContext<'_>,
+)
+    requires { AllowsMore (surroundings less) (surroundings more) }
+    ensures { let math = math_typing (T.accepts_types typing.now) (T.least_arguments typing.now) in
+        (allowed : ShaderStages) → IsRule math (surroundings less.entry) expression.now (Ok allowed)
+        → (stages : ShaderStages) × IsRule math (surroundings more.entry) expression.now (Ok stages)
+        × IsTrue (has stages.0 allowed.0) }
+{}
+
+/// A function whose expressions a validator accepts is accepted by one with the same flags and typing that has
+/// all its capabilities, and lets no fewer stages use subgroup operations. The types of its expressions are the
+/// same, and no stage that may use it loses it. What is known of the module may differ too, as long as no
+/// fewer stages may use each function.
+///
+/// So, too, are all functions and entry points of a module, each by what is known of those before it, as
+/// `Validator::validate_functions` validates them.
+///
+/// Of a function that `validator` refuses nothing is said.
+pub fn more_capabilities_functions<T: Typing>(
+    module: &Module,
+    validator: &Validator<T>,
+    resolved: bool,
+    more: &Validator<T>,
+)
+    requires capabilities { HasMoreCapabilities validator.now more.now }
+    requires stages { IsTrue (has more.now.subgroup_stages.0 validator.now.subgroup_stages.0) }
+    ensures { let by = function_surroundings (T.resolves validator.now.typing)
+        (math_typing (T.accepts_types validator.now.typing) (T.least_arguments validator.now.typing))
+        validator.now resolved «module».now in
+        let by_more = function_surroundings (T.resolves more.now.typing)
+        (math_typing (T.accepts_types more.now.typing) (T.least_arguments more.now.typing))
+        more.now resolved «module».now in
+        AcceptsFunctionsToo by by_more «module».now }
 {}
