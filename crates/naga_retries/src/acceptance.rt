@@ -1,11 +1,11 @@
-//! Forty types without names, in a module that is accepted.
+//! Modules that are accepted, or refused for a constant or an override, each validated twice by one validator.
 
-use crate::retry::{Memory, Wrong, again, check};
-use naga_text::text::read_text;
-use naga_valid::{Capabilities, Module, ValidationError, ValidationFlags, Validator};
+use crate::retry::{Memory, Wrong, check};
+use naga_text::text::{Contents, read_text};
+use naga_valid::{ConstantError, OverrideError, ValidationError, Validator};
 use std::alloc::Global;
 
-/// Numbers, vectors, and arrays of the first number.
+/// Forty types without names: numbers, vectors, and arrays of the first number.
 const TYPES: &str = "type scalar uint 4
 type scalar sint 4
 type scalar float 4
@@ -48,38 +48,151 @@ type array 0 30 4
 type array 0 31 4
 ";
 
-/// Validates the module, and returns whether it was refused for memory. That leaves the validator as after `reset`.
-fn is_out_of_memory(validator: &mut Validator, module: &Module) -> Result<bool, Wrong> {
-    let Err(error) = validator.validate(module) else {
+/// An array that an override sizes.
+const SIZED: &str = "type scalar uint 4
+expr zero 0
+override 0 0 -
+type array 0 o0 4
+";
+
+/// A constant whose type is such an array, so that it can't be constructed. Constants aren't validated.
+const UNCHECKED_CONSTANT: &str = "flags 47
+type scalar uint 4
+expr zero 0
+expr const 0
+override 0 1 -
+type array 0 o0 4
+const 1 0
+";
+
+/// The same, and constants are validated.
+const CONSTANT: &str = "type scalar uint 4
+expr zero 0
+expr const 0
+override 0 1 -
+type array 0 o0 4
+const 1 0
+";
+
+/// A constant, and an override with a number whose initialiser is the constant.
+const NUMBERED: &str = "type scalar sint 4
+expr lit i32 -7
+const 0 0
+expr const 0
+override 0 1 7
+";
+
+/// The same, and another override with that number.
+const NUMBERED_TWICE: &str = "type scalar sint 4
+expr lit i32 -7
+const 0 0
+expr const 0
+override 0 1 7
+override 0 - 7
+";
+
+/// What is right to say of a module.
+#[derive(Clone, Copy, PartialEq)]
+enum Verdict {
+    /// It is accepted, with so many types.
+    Accepted(usize),
+    /// The constant of this index has a type that can't be constructed.
+    NonConstructible(usize),
+    /// The override of this index has the number of one before it.
+    DuplicateId(usize),
+}
+
+/// What a refusal says, if it is one of these.
+fn verdict_of(error: &ValidationError) -> Option<Verdict> {
+    match error {
+        ValidationError::Constant {
+            handle,
+            source: ConstantError::NonConstructibleType,
+            ..
+        } => Some(Verdict::NonConstructible(handle.index())),
+        ValidationError::Override {
+            handle,
+            source: OverrideError::DuplicateID,
+            ..
+        } => Some(Verdict::DuplicateId(handle.index())),
+        _ => None,
+    }
+}
+
+/// Validates the module, and returns whether it was refused for memory. That leaves the validator as after `reset`, as
+/// each refusal does.
+fn is_out_of_memory(
+    validator: &mut Validator,
+    contents: &Contents,
+    right: Verdict,
+) -> Result<bool, Wrong> {
+    let Err(error) = validator.validate(&contents.module) else {
+        let accepted = Verdict::Accepted(validator.type_count());
         check(
-            validator.type_count() == 40,
-            "an accepted module has other types\n",
+            right == accepted,
+            "a module is accepted, or with other types\n",
         )?;
         return Ok(false);
     };
     check(
         validator.type_count() == 0,
-        "infos stay after memory was refused\n",
+        "infos stay after a module was refused\n",
     )?;
-    match error.as_inner() {
-        ValidationError::OutOfMemory => Ok(true),
-        _ => Err(Wrong("forty good types are refused\n")),
+    if let ValidationError::OutOfMemory = error.as_inner() {
+        return Ok(true);
     }
+    check(
+        verdict_of(error.as_inner()) == Some(right),
+        "a module is refused for something else\n",
+    )?;
+    Ok(false)
 }
 
-/// Validates the module twice. Of the two calls one may be out of memory, and the other then accepts the module.
-fn accept_twice(alloc: Global, memory: &mut Memory, module: &Module) -> Result<(), Wrong> {
-    let flags = ValidationFlags::default();
-    let mut validator = Validator::new(alloc, flags, Capabilities::default());
-    let first = is_out_of_memory(&mut validator, module)?;
-    let second = is_out_of_memory(&mut validator, module)?;
+/// Validates the module twice. Of the two calls one may be out of memory, and the other then says what a fresh
+/// validator says.
+fn validate_twice(
+    alloc: Global,
+    memory: &mut Memory,
+    contents: &Contents,
+    right: Verdict,
+) -> Result<(), Wrong> {
+    let mut validator = Validator::new(alloc, contents.flags, contents.capabilities);
+    let first = is_out_of_memory(&mut validator, contents, right)?;
+    let second = is_out_of_memory(&mut validator, contents, right)?;
     check(!(first && second), "memory is refused twice\n")?;
     memory.refused = memory.refused || first || second;
     Ok(())
 }
 
-/// Validates the module of the text.
+/// Reads a text, and reads it again if that is refused memory.
+fn read_again(alloc: Global, memory: &mut Memory, text: &str) -> Result<Contents, Wrong> {
+    if let Ok(contents) = read_text(alloc, text.as_bytes()) {
+        return Ok(contents);
+    }
+    memory.refused = true;
+    match read_text(alloc, text.as_bytes()) {
+        Ok(contents) => Ok(contents),
+        Err(_) => Err(Wrong("a text is refused memory twice\n")),
+    }
+}
+
+/// Validates the module of a text.
+fn validate_text(
+    alloc: Global,
+    memory: &mut Memory,
+    text: &str,
+    right: Verdict,
+) -> Result<(), Wrong> {
+    let contents = read_again(alloc, memory, text)?;
+    validate_twice(alloc, memory, &contents, right)
+}
+
+/// Validates the modules of all texts.
 pub fn accept_again(alloc: Global, memory: &mut Memory) -> Result<(), Wrong> {
-    let contents = again(memory, || read_text(alloc, TYPES.as_bytes()))?;
-    accept_twice(alloc, memory, &contents.module)
+    validate_text(alloc, memory, TYPES, Verdict::Accepted(40))?;
+    validate_text(alloc, memory, SIZED, Verdict::Accepted(2))?;
+    validate_text(alloc, memory, UNCHECKED_CONSTANT, Verdict::Accepted(2))?;
+    validate_text(alloc, memory, CONSTANT, Verdict::NonConstructible(0))?;
+    validate_text(alloc, memory, NUMBERED, Verdict::Accepted(1))?;
+    validate_text(alloc, memory, NUMBERED_TWICE, Verdict::DuplicateId(1))
 }
