@@ -1,4 +1,4 @@
-//! The tests of `naga_arena`, `naga_ir` and `naga_ir`.
+//! The tests of `naga_arena` and `naga_ir`.
 //!
 //! Each exit of a function drops what it owns, and the proof goes through each. So what builds a value here
 //! ends the run if memory is refused.
