@@ -17,6 +17,7 @@ mod laws;
 mod layouts;
 mod library;
 mod module_infos;
+mod more_capabilities;
 mod nested_blocks;
 mod packing;
 mod run;

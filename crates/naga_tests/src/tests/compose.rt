@@ -1,4 +1,4 @@
-//! A composition whose components a caller gives by their types. All other rows are in `compositions.txt` of
+//! Compositions whose components a caller gives by their types. All other rows are in `compositions.txt` of
 //! `naga_query`.
 
 use super::{all_exist, assert_references_ok, assert_same, with_text};
@@ -25,6 +25,37 @@ fn said_of(
     validate_compose(ty, to_ctx(module), components)
 }
 
+/// The error on so many components of a type that has another number of them.
+fn count(given: u32, expected: u32) -> Result<(), ComposeError> {
+    Err(ComposeError::ComponentCount { given, expected })
+}
+
+#[test]
+fn components_are_given_by_the_handles_of_their_types(rt: HostRuntime) {
+    let text =
+        "type scalar float 4\ntype scalar sint 4\ntype vector 2 float 4\ntype vector 3 float 4\n\
+        type matrix 2 3 float 4";
+    with_text(&rt, rt.alloc(), text, |module| {
+        let (pair, triple, matrix) = (Handle::new(2), Handle::new(3), Handle::new(4));
+        let pairs = [TypeResolution::Handle(pair), TypeResolution::Handle(pair)];
+        let said = said_of(&rt, module, triple, &pairs);
+        assert_same(&rt, &said, &count(4, 3));
+        let numbers = [
+            TypeResolution::Handle(Handle::new(0)),
+            TypeResolution::Handle(Handle::new(1)),
+        ];
+        let said = said_of(&rt, module, triple, &numbers);
+        assert_same(&rt, &said, &Err(ComposeError::ComponentType { index: 1 }));
+        let columns = [
+            TypeResolution::Handle(triple),
+            TypeResolution::Handle(triple),
+            TypeResolution::Handle(triple),
+        ];
+        let said = said_of(&rt, module, matrix, &columns);
+        assert_same(&rt, &said, &count(3, 2));
+    });
+}
+
 #[test]
 fn components_are_given_by_their_types(rt: HostRuntime) {
     let text = "type scalar float 4\ntype vector 3 float 4";
@@ -39,11 +70,7 @@ fn components_are_given_by_their_types(rt: HostRuntime) {
         ];
         let triple = Handle::new(1);
         assert_same(&rt, &said_of(&rt, module, triple, &components), &Ok(()));
-        let few = ComposeError::ComponentCount {
-            given: 2,
-            expected: 3,
-        };
         let said = said_of(&rt, module, triple, &components[..1]);
-        assert_same(&rt, &said, &Err(few));
+        assert_same(&rt, &said, &count(2, 3));
     });
 }

@@ -272,6 +272,18 @@ fn texts_of_refusals(rt: HostRuntime) {
     );
 }
 
+const NEVER_RETURNED: &str = "Array size expression [0] is not strictly positive
+Module is corrupted
+";
+
+#[test]
+fn texts_of_refusals_that_never_come(rt: HostRuntime) {
+    let size = ValidationError::ArraySizeError {
+        handle: Handle::new(0),
+    };
+    assert_lines(&rt, &[size, ValidationError::Corrupted], NEVER_RETURNED);
+}
+
 const CONSTANTS: &str = "Initializer must be a const-expression
 The type doesn't match the constant
 The type is not constructible
@@ -285,6 +297,7 @@ The type is not constructible
 The type is not a scalar
 Override declarations are not allowed
 Override is uninitialized
+Constant expression [0] is invalid
 ";
 
 #[test]
@@ -309,6 +322,10 @@ fn texts_of_errors_of_constants_and_overrides(rt: HostRuntime) {
             OverrideError::TypeNotScalar,
             OverrideError::NotAllowed,
             OverrideError::UninitializedOverride,
+            OverrideError::ConstExpression {
+                handle: Handle::new(0),
+                source: ConstExpressionError::NonConstOrOverride,
+            },
         ],
         OVERRIDES,
     );
