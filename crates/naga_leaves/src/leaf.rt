@@ -180,9 +180,9 @@ pub(crate) fn whole_leaf(inner: &TypeInner) -> Option<Leaf>
 /// itself is empty.
 ///
 /// It is `None` if there is no such leaf, or if the leaf would begin past the byte `u64::MAX`, which
-/// no leaf of an accepted type does unless a stride is less than the size of its elements. An array
-/// that an override sizes has as many elements as the initialiser of the override says, and none if
-/// that is not an index constant above 0.
+/// no leaf does of an accepted type of a fixed size that hosts may share and that has a uniform or a
+/// storage layout. An array that an override sizes has as many elements as the initialiser of the
+/// override says, and none if that is not an index constant above 0.
 ///
 /// The cost is linear in the length of the path, and no memory is requested.
 pub fn leaf_at(module: &Module, ty: Handle<TypeTag>, path: &[u32], length: u32) -> Option<Leaf>

@@ -1,7 +1,8 @@
 -- Types that keep their rule by the infos of the types before them.
-use Rattle.std.proofs.Common.{◌≡◌, ◌<◌, ◌≤◌, ⊎_elim, ℕ, Bool, true, List, [], ◌∷◌, ◌++◌, Some, Ok, Contains, length, slice_get, take, refl, sym, ap, subst, ◌∙◌, arith, length-append}
+use Rattle.std.proofs.Common.{◌≡◌, ◌<◌, ◌≤◌, ⊎_elim, ℕ, Bool, true, false, List, [], ◌∷◌, ◌++◌, Some, None, Ok, Contains, length, slice_get, take, refl, sym, ap, subst, ◌∙◌, arith, length-append}
+use Rattle.std.specs.Prelude.{leb}
 use Rattle.std.specs.Option.{option_map, unwrap_or}
-use Rattle.std.proofs.lemmas.Bool.{and_parts, cases_lt}
+use Rattle.std.proofs.lemmas.Bool.{and_parts, cases_lt, leb-true}
 use Rattle.std.proofs.lemmas.List.{length-take, length-take-le, take_all}
 use Rattle.std.proofs.lemmas.Option.{same_Some, slice_get_within}
 use Rattle.naga_arena.proofs.Elements.{all_at}
@@ -120,6 +121,12 @@ accepted_types m capabilities resolved layouts infos accepted =
           (subst (λ types. FollowInOrder (types_rule (global_lists m) capabilities resolved layouts) types infos) (sym all) accepted.each_type.follow);
     }
 
+-- the size in the layout of a type is the type's
+pub size_laid_out : (g : GlobalLists) (layouts : List TypeLayout) → AreLayouts g layouts → GlobalReferencesOk g → (t : ℕ) (ty : «Type») → slice_get g.types t ≡ Some ty
+    → size_in (slice_get layouts t) ≡ size_at_index g t
+size_laid_out g layouts laid_out references t ty at =
+    ap size_in (layout_by_parts g layouts laid_out references t ty at) ∙ ap (λ o. unwrap_or (option_map (size_of g) (option_map (λ (ty : «Type»). ty.inner) o)) 0) (sym at)
+
 module _ (w : CheckedTypes) where
   -- the info of a type
   abbrev pub info_of : ℕ → TypeInfo
@@ -164,7 +171,7 @@ module _ (w : CheckedTypes) where
 
     -- and so is its size
     pub size_is : size_at known t ≡ size_at_index w.lists t
-    size_is = ap size_in laid_out_at ∙ ap (λ o. unwrap_or (option_map (size_of w.lists) (option_map (λ (ty : «Type»). ty.inner) o)) 0) (sym j.at)
+    size_is = size_laid_out w.lists w.layouts w.laid_out w.references t j.ty j.at
 
     -- the types that it names come before it
     pub parts_before : (p : ℕ) → Contains (parts j.ty.inner) p → p < t
@@ -184,14 +191,29 @@ module _ (w : CheckedTypes) where
 module _ (s : Surroundings) (t base : ℕ) (size : ArraySize) (stride : ℕ) (i : TypeInfo) (is : type_rule s t (Array base size stride) ≡ Ok i) where
   -- the info of an array is that by its base
   pub array_info_is : array_info s t base size stride ≡ i
-  array_info_is = (granted_ok (first (array_checks s t base size)) _ i is).1
+  array_info_is = (granted_ok (first (array_checks false s t base size stride)) _ i is).1
+
+  array_kept : first (array_checks false s t base size stride) ≡ None
+  array_kept = (granted_ok (first (array_checks false s t base size stride)) _ i is).0
 
   -- the elements of an array have fixed sizes
   pub element_sized : has (flags_at s base) SIZED ≡ true
   element_sized =
-      let conditions = (granted_ok (first (array_checks s t base size)) _ i is).0 in
-      has-trans (flags_at s base) element_flags SIZED (unless-kept (has (flags_at s base) element_flags) _ (none_stands (array_checks s t base size) 0 _ conditions refl)) refl
+      has-trans (flags_at s base) element_flags SIZED (unless-kept (has (flags_at s base) element_flags) _ (none_stands (array_checks false s t base size stride) 0 _ array_kept refl)) refl
+
+  -- which the stride is not below
+  pub element_fits : size_at s base ≤ stride
+  element_fits = leb-true (size_at s base) stride (unless-kept (leb (size_at s base) stride) _ (none_stands (array_checks false s t base size stride) 1 _ array_kept refl))
 
   -- an array has flags that its base has and its size allows
   pub array_has : (flag : ℕ) → has i.flags.0 flag ≡ true → (has (flags_at s base) flag ≡ true) × (has (array_flags size) flag ≡ true)
   array_has flag h = and_parts (has (flags_at s base) flag) _ (sym (has-bit_and (flags_at s base) (array_flags size) flag) ∙ ap (λ (x : TypeInfo). has x.flags.0 flag) array_info_is ∙ h)
+
+module _ (w : CheckedTypes) where
+  -- the stride of an array is not below the size of its elements
+  pub stride_fits : (t base : ℕ) (size : ArraySize) (stride : ℕ) → t < length w.infos → inner_at w.lists t ≡ Some (Array base size stride) → size_at_index w.lists base ≤ stride
+  stride_fits t base size stride within form =
+      let j = w.each_accepted t within in
+      let before = base_before w t j base size stride form in
+      let own = size_is w base (w.each_accepted base (omega (arith, before, within))) in
+      subst (λ bytes. bytes ≤ stride) own (element_fits (known w t j) t base size stride (info_of w t) (rule_is w t j (Array base size stride) form))

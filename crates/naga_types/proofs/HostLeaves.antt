@@ -73,7 +73,6 @@ module _ (w : CheckedTypes) (t : ℕ) where
             (λ (ok : IsOk h.info.uniform_layout). let u = some_alignment h.info.uniform_layout ok in storage_of_uniform w t host u.0 (uniform_in ∙ u.1))
             (λ (ok : IsOk h.info.storage_layout). let a = some_alignment h.info.storage_layout ok in storage_in ∙ a.1 ∙ ap Ok (storage_alignment w t host a.0 (storage_in ∙ a.1)))
             h.has_layout;
-        strides = h.strides;
       }
 
   -- the leaves of what is shared are separate

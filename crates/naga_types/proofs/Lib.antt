@@ -22,6 +22,7 @@ pub mod SharedParts
 mod SourceLemmas
 pub mod StorageLayouts
 pub mod StorageOfUniform
+pub mod Strides
 pub mod StructFlags
 pub mod StructPlaces
 pub mod UniformLayouts

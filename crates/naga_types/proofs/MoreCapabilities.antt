@@ -16,7 +16,7 @@ use Rattle.naga_ir.specs.declared.types.Scalar.{Scalar}
 use Rattle.naga_ir.specs.declared.types.StructMember.{StructMember}
 use Rattle.naga_ir.specs.declared.types.TypeInner.{TypeInner}
 use Rattle.naga_ir.specs.declared.types.TypeInner.TheVariants as form
-use Rattle.naga_types.proofs.WeakerConditions.{AllWeaker, Weaker, all-too, each-weaker, first-weaker, granted-too, if-weaker, passed-too, require-weaker, when-weaker}
+use Rattle.naga_types.proofs.WeakerConditions.{AllWeaker, Weaker, all-too, each-weaker, first-weaker, granted-too, if-weaker, passed-too, require-weaker, same, when-weaker}
 use Rattle.naga_types.specs.AcceptedTypes.{AreTypesAccepted, surroundings_by, types_rule}
 use Rattle.naga_types.specs.Checks.{require}
 use Rattle.naga_types.specs.StructRule.{has_source, member_checks, member_error, source_checks, source_of, struct_checks}
@@ -26,10 +26,6 @@ use Rattle.naga_types.specs.declared.error.TypeError.{TypeError}
 use Rattle.naga_types.specs.declared.error.TypeError.TheVariants.{InvalidAtomicWidth, MatrixElementNotFloat, MissingCapability}
 use Rattle.naga_types.specs.declared.info.TypeInfo.{TypeInfo}
 use Rattle.naga_typing.specs.declared.layouter.TypeLayout.{TypeLayout}
-
--- a condition is as weak as itself
-same : {E : Type 0} {condition : Option E} → Weaker condition condition
-same kept = kept
 
 module _ (less more : ℕ) (contained : has more less ≡ true) where
   capability-more : (flag : ℕ) (error : TypeError) → Weaker (require (has less flag) error) (require (has more flag) error)
@@ -113,6 +109,6 @@ module _ (m : Module) (less more : Capabilities) (contained : has more.0 less.0 
   types-more infos h = record {
     laid_out = h.laid_out;
     each_type =
-        all-too (types_rule (global_lists m) less resolved layouts) (types_rule (global_lists m) more resolved layouts)
-        (λ before k ty i. type-more (surroundings_by (global_lists m) less resolved layouts before) more.0 contained k ty.inner i) m.types infos h.each_type;
+        all-too (types_rule (global_lists m) less resolved layouts) (types_rule (global_lists m) more resolved layouts) m.types
+        (λ before k ty i at. type-more (surroundings_by (global_lists m) less resolved layouts before) more.0 contained k ty.inner i) infos h.each_type;
   }

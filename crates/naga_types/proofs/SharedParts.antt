@@ -21,7 +21,7 @@ use Rattle.naga_ir.specs.declared.types.TypeInner.TheVariants.{Array, Struct}
 use Rattle.naga_types.proofs.GreatestLemmas.{at_most_greatest}
 use Rattle.naga_types.proofs.HostAlignments.{leaf-alignment}
 use Rattle.naga_types.proofs.HostInside.{IsHostType, inside}
-use Rattle.naga_types.proofs.CheckedTypes.{Judged, CheckedTypes, alignment_is, alignment_of_type, array_has, base_before, element_sized, info_of, known, known_is, member_before, rule_is, size_is}
+use Rattle.naga_types.proofs.CheckedTypes.{CheckedTypes, Judged, alignment_is, alignment_of_type, array_has, base_before, element_sized, info_of, known, known_is, member_before, rule_is, size_is, stride_fits}
 use Rattle.naga_types.proofs.LayoutParts.{contains-place}
 use Rattle.naga_types.proofs.LeafPlaces.{AllArePlaced, EndsBy, IsPlaced, map_some}
 use Rattle.naga_types.proofs.PowersDivide.{powers_divide}
@@ -38,18 +38,8 @@ use Rattle.naga_types.specs.TypeRule.{type_rule}
 use Rattle.naga_types.specs.declared.info.TypeInfo.{TypeInfo}
 use Rattle.naga_typing.proofs.TypesInside.{AllInside, all-further_inside}
 use Rattle.naga_typing.specs.Layout.{alignment_of, element_count, size_of}
-use Rattle.naga_typing.specs.Leaves.{EndsInArray, HasNoShortStride, IsInside, IsLeafAlignment, Part, array, element, elements, inner_at, is_leaf, itself, last_member, member, part_at, size_at_index}
+use Rattle.naga_typing.specs.Leaves.{EndsInArray, IsInside, IsLeafAlignment, Part, array, element, elements, inner_at, is_leaf, itself, last_member, member, part_at, size_at_index}
 use Rattle.naga_typing.specs.declared.layouter.TypeLayout.{TypeLayout}
-
--- what is inside a type that is inside another is inside that
-inside_further : (g : GlobalLists) (t p u : ℕ) → IsInside g t p → IsInside g p u → IsInside g t u
-inside_further g t p _ h itself = h
-inside_further g t p _ h (element u base size stride i at) = element u base size stride (inside_further g t p u h i) at
-inside_further g t p _ h (member u members span m i at among) = member u members span m (inside_further g t p u h i) at among
-
--- a type inside one without short strides has none
-strides_inside : (g : GlobalLists) (t p : ℕ) → IsInside g t p → HasNoShortStride g t → HasNoShortStride g p
-strides_inside g t p h none u base size stride i at = none u base size stride (inside_further g t p u h i) at
 
 -- an array of a fixed size has as many elements as its layout counts
 fixed_count : (g : GlobalLists) (n : ℕ) (size : ArraySize) → has (array_flags size) SIZED ≡ true → elements g n size ≡ element_count g size
@@ -91,11 +81,10 @@ module _ (w : CheckedTypes) (n : ℕ) where
   abbrev parts_of : TypeInner → ℕ → Option Part
   parts_of = part_at (elements w.lists n)
 
-  -- hosts may share a type, it is aligned in storage buffers, and no stride inside it is short
+  -- hosts may share a type, and it is aligned in storage buffers
   pub record IsShared (t : ℕ) : Type 0 where
     pub host : IsHostType w t
     pub layout : in_storage (info_of w t) ≡ Ok (al t)
-    pub strides : HasNoShortStride w.lists t
 
   -- the first byte after a type: by its size, or after the array that it ends in
   pub data HasLimit (t limit : ℕ) : Type 0 where
@@ -125,7 +114,6 @@ module _ (w : CheckedTypes) (n : ℕ) where
         record {
           host = host;
           layout = (storage-exactly w p host.0 host.1).is_there (all-further_inside w.lists (IsStorageAligned w.lists) t p i all_aligned);
-          strides = strides_inside w.lists t p i shared.strides;
         }
 
     -- at their leaf alignments
@@ -162,7 +150,7 @@ module _ (w : CheckedTypes) (n : ℕ) where
           subst (λ (p : Part). EndsBy HasLimit p (k * stride)) (cond_some (ltb i (elements w.lists n size)) _ part at).1 (record {
             own = size_at_index w.lists base;
             is_own = at_size base_sized refl;
-            within = next_ends i k stride (size_at_index w.lists base) behind (shared.strides t base size stride itself form);
+            within = next_ends i k stride (size_at_index w.lists base) behind (stride_fits w t base size stride shared.host.0 form);
           })
 
       within_count : (i : ℕ) (part : Part) → parts_of (Array base size stride) i ≡ Some part → i < elements w.lists n size

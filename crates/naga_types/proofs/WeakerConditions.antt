@@ -11,6 +11,10 @@ use Rattle.naga_types.specs.Checks.{first, first_error_or, ok_unless, require, w
 abbrev pub Weaker : {E : Type 0} → Option E → Option E → Type 0
 Weaker strict lax = strict ≡ None → lax ≡ None
 
+-- a condition is as weak as itself
+pub same : {E : Type 0} {condition : Option E} → Weaker condition condition
+same kept = kept
+
 -- what is required is weaker if it holds more often
 pub require-weaker : {E : Type 0} (strict lax : Bool) (error : E) → (strict ≡ true → lax ≡ true) → Weaker (require strict error) (require lax error)
 require-weaker true lax error holds none = ap (λ b. require b error) (holds refl)
@@ -60,11 +64,12 @@ granted-too (Some error) lax value result weaker granted = cc granted
 pub passed-too : {A E : Type 0} (stricts laxes : List (Option E)) (value result : A) → AllWeaker stricts laxes → first_error_or stricts value ≡ Ok result → first_error_or laxes value ≡ Ok result
 passed-too stricts laxes value result weaker = granted-too (first stricts) (first laxes) value result (first-weaker stricts laxes weaker)
 
-module _ {X V E : Type 0} (strict lax : RuleInOrder X V E) (too : (before : List V) (k : ℕ) (x : X) (v : V) → strict before k x ≡ Ok v → lax before k x ≡ Ok v) where
-  one-too : (before : List V) (k : ℕ) (v : V) (found : Option X) → option_map (strict before k) found ≡ Some (Ok v) → option_map (lax before k) found ≡ Some (Ok v)
-  one-too before k v None is = cc is
-  one-too before k v (Some x) is = ap Some (too before k x v (same_Some _ _ is))
+module _ {X V E : Type 0} (strict lax : RuleInOrder X V E) (items : List X)
+    (too : (before : List V) (k : ℕ) (x : X) (v : V) → slice_get items k ≡ Some x → strict before k x ≡ Ok v → lax before k x ≡ Ok v) where
+  one-too : (before : List V) (k : ℕ) (v : V) (found : Option X) → slice_get items k ≡ found → option_map (strict before k) found ≡ Some (Ok v) → option_map (lax before k) found ≡ Some (Ok v)
+  one-too before k v None at is = cc is
+  one-too before k v (Some x) at is = ap Some (too before k x v at (same_Some _ _ is))
 
   -- if a rule accepts each item that another accepts, with the same value, so it does all
-  pub all-too : (items : List X) (values : List V) → AllAcceptedInOrder strict items values → AllAcceptedInOrder lax items values
-  all-too items values all = record { as_many = all.as_many; follow = λ k v at. one-too (take k values) k v (slice_get items k) (all.follow k v at) }
+  pub all-too : (values : List V) → AllAcceptedInOrder strict items values → AllAcceptedInOrder lax items values
+  all-too values all = record { as_many = all.as_many; follow = λ k v at. one-too (take k values) k v (slice_get items k) refl (all.follow k v at) }

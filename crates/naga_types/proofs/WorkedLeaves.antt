@@ -1,5 +1,5 @@
 -- Leaves of small types, and types whose leaves share bytes.
-use Rattle.std.proofs.Common.{◌≡◌, ◌≤◌, ◌+◌, ◌%◌, ⊎_elim, ℕ, [], ◌∷◌, Some, None, refl, arith}
+use Rattle.std.proofs.Common.{◌≡◌, ◌≤◌, ◌+◌, ◌%◌, ⊎_elim, ℕ, false, [], ◌∷◌, Some, None, Err, refl, arith}
 use Rattle.naga_ir.specs.ItemReferences.{GlobalLists}
 use Rattle.naga_ir.specs.declared.types.«Type».{«Type»}
 use Rattle.naga_ir.specs.declared.types.ArraySize.TheVariants.{Dynamic}
@@ -8,7 +8,11 @@ use Rattle.naga_ir.specs.declared.types.StructMember.{StructMember}
 use Rattle.naga_ir.specs.declared.types.TypeInner.{TypeInner}
 use Rattle.naga_ir.specs.declared.types.TypeInner.TheVariants.{Array, Scalar, Struct, Vector}
 use Rattle.naga_ir.specs.declared.types.VectorSize.TheVariants.{Quad}
+use Rattle.naga_types.specs.FormFlags.{scalar_flags}
 use Rattle.naga_types.specs.HostLeaves.{AlignsLeaves}
+use Rattle.naga_types.specs.Surroundings.{Surroundings, shared}
+use Rattle.naga_types.specs.TypeRule.{type_rule}
+use Rattle.naga_types.specs.declared.error.TypeError.TheVariants.{InvalidArrayStride}
 use Rattle.naga_typing.specs.Leaves.{AreSeparate, EndsInArray, ShareNoByte, array, elements, leaf_at}
 
 -- a type without a name
@@ -79,7 +83,21 @@ pub no-stride : (limit : ℕ) → ¬ (AreSeparate lists 2 4 limit)
 unfolding leaf_at
 no-stride limit h = shared_bytes 4 (h.disjoint (0 ∷ []) (1 ∷ []) _ _ (other_index 0 1 (λ e. omega (arith, e))) refl refl)
 
--- and neither on two members at 0
+-- what the rule of an array of numbers depends on
+abbrev by_number : Surroundings
+by_number = record {
+  capabilities = 0;
+  resolved = false;
+  lists = lists;
+  layouts = record { size = 4; alignment = 4 } ∷ [];
+  infos = shared (scalar_flags Float) 4 ∷ [];
+}
+
+-- and the type is refused, since a stride of 4 is the least
+pub no-stride-is-refused : type_rule by_number 4 (Array 0 Dynamic 0) ≡ Err (InvalidArrayStride 0 4)
+no-stride-is-refused = refl
+
+-- hosts can't rely on two members at 0 either
 pub members-at-0 : (n limit : ℕ) → ¬ (AreSeparate lists n 5 limit)
 unfolding leaf_at
 members-at-0 n limit h = shared_bytes 4 (h.disjoint (0 ∷ []) (1 ∷ []) _ _ (other_index 0 1 (λ e. omega (arith, e))) refl refl)

@@ -7,7 +7,7 @@ use Rattle.naga_ir.specs.ItemReferences.{GlobalLists, global_lists}
 use Rattle.naga_ir.specs.declared.ir.Module.{Module}
 use Rattle.naga_ir.specs.declared.types.«Type».{«Type»}
 use Rattle.naga_types.specs.Surroundings.{Surroundings, form_at}
-use Rattle.naga_types.specs.TypeRule.{type_rule}
+use Rattle.naga_types.specs.TypeRule.{TypeRule, type_rule}
 use Rattle.naga_types.specs.declared.error.TypeError.{TypeError}
 use Rattle.naga_types.specs.declared.info.TypeContext.{TypeContext}
 use Rattle.naga_types.specs.declared.info.TypeInfo.{TypeInfo}
@@ -29,14 +29,22 @@ pub record IsLaidOut (m : Module) (layouts : List TypeLayout) : Type 0 where
 abbrev pub surroundings_by : GlobalLists → Capabilities → Bool → List TypeLayout → List TypeInfo → Surroundings
 surroundings_by g capabilities resolved layouts infos = record { capabilities = capabilities.0; resolved = resolved; lists = g; layouts = layouts; infos = infos }
 
+-- `rule` of all types, each by the infos of those before it
+abbrev pub types_by : TypeRule → GlobalLists → Capabilities → Bool → List TypeLayout → RuleInOrder «Type» TypeInfo TypeError
+types_by rule g capabilities resolved layouts infos t ty = rule (surroundings_by g capabilities resolved layouts infos) t ty.inner
+
 -- the rule of all types, each by the infos of those before it
 abbrev pub types_rule : GlobalLists → Capabilities → Bool → List TypeLayout → RuleInOrder «Type» TypeInfo TypeError
-types_rule g capabilities resolved layouts infos t ty = type_rule (surroundings_by g capabilities resolved layouts infos) t ty.inner
+types_rule = types_by type_rule
+
+-- a module is laid out so, and each of its types keeps `rule`, which gives these infos
+pub record AreTypesAcceptedBy (rule : TypeRule) (m : Module) (capabilities : Capabilities) (resolved : Bool) (layouts : List TypeLayout) (infos : List TypeInfo) : Type 0 where
+  pub laid_out : IsLaidOut m layouts
+  pub each_type : AllAcceptedInOrder (types_by rule (global_lists m) capabilities resolved layouts) m.types infos
 
 -- a module is laid out so, and each of its types keeps its rule, which gives these infos
-pub record AreTypesAccepted (m : Module) (capabilities : Capabilities) (resolved : Bool) (layouts : List TypeLayout) (infos : List TypeInfo) : Type 0 where
-  pub laid_out : IsLaidOut m layouts
-  pub each_type : AllAcceptedInOrder (types_rule (global_lists m) capabilities resolved layouts) m.types infos
+abbrev pub AreTypesAccepted : Module → Capabilities → Bool → List TypeLayout → List TypeInfo → Type 0
+AreTypesAccepted = AreTypesAcceptedBy type_rule
 
 -- the types before one are accepted, and these are their infos
 abbrev pub AreAcceptedBefore : TypeContext → GlobalCtx → ℕ → Type 0

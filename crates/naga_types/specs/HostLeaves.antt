@@ -5,15 +5,14 @@ use Rattle.naga_flags.specs.Flags.{has}
 use Rattle.naga_ir.specs.ItemReferences.{GlobalLists}
 use Rattle.naga_types.specs.HostLayouts.{data_for_hosts}
 use Rattle.naga_types.specs.declared.info.TypeInfo.{TypeInfo}
-use Rattle.naga_typing.specs.Leaves.{AreSeparate, EndsInArray, HasNoShortStride, LeafBytes, elements, leaf_at, size_at_index}
+use Rattle.naga_typing.specs.Leaves.{AreSeparate, EndsInArray, LeafBytes, elements, leaf_at, size_at_index}
 
--- a type has these flags and a layout in one of the address spaces, and no stride inside it is short
+-- a type has these flags and a layout in one of the address spaces
 pub record IsLaidOutForHosts (g : GlobalLists) (infos : List TypeInfo) (t flags : ℕ) : Type 0 where
   pub info : TypeInfo
   pub info_is : slice_get infos t ≡ Some info
   pub has_flags : has info.flags.0 flags ≡ true
   pub has_layout : IsOk info.uniform_layout ⊎ IsOk info.storage_layout
-  pub strides : HasNoShortStride g t
 
 -- what data of a fixed size is marked with if hosts may share it
 abbrev pub sized_for_hosts : ℕ

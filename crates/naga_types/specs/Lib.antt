@@ -1,5 +1,5 @@
 -- To read first:
--- TypeRule.type_rule: the info of a type, or the first error of its variant
+-- TypeRule.type_rule: the info of a type, or the first error of its variant; type_rule_with: the same where arrays may have any stride or not
 -- Surroundings.Surroundings: what the rule of a type depends on, besides the type
 -- Checks.first_error_or: a value, unless one of a list of conditions is broken
 -- FormFlags: what types of each variant may be used for at most

@@ -1,5 +1,5 @@
 -- The rule of one type, by its variant.
-use Rattle.std.specs.Prelude.{◌==◌, ◌&&◌, ◌||◌, not, max, ℕ, ◌%◌, Bool as Boolean, true, false, List, [], ◌∷◌, Option, Some, None, Result, Ok, Err, bit_and, is_some, if◌then◌else◌}
+use Rattle.std.specs.Prelude.{◌==◌, ◌&&◌, ◌||◌, not, leb, max, ℕ, ◌%◌, Bool as Boolean, true, false, List, [], ◌∷◌, Option, Some, None, Result, Ok, Err, bit_and, is_some, if◌then◌else◌}
 use Rattle.naga_flags.specs.Bits.{COOPERATIVE_MATRIX, CREATION_RESOLVED, CUBE_ARRAY_TEXTURES, DATA, RAY_HIT_VERTEX_POSITION, RAY_QUERY, RAY_TRACING_PIPELINE, SHADER_FLOAT32_ATOMIC, SHADER_INT64_ATOMIC_ALL_OPS, SHADER_INT64_ATOMIC_MIN_MAX, SIZED, TEXTURE_EXTERNAL}
 use Rattle.naga_flags.specs.Flags.{has}
 use Rattle.naga_flags.specs.Width.{immediates_of, is_good_width, width_16, width_32, width_64, width_error}
@@ -23,10 +23,10 @@ use Rattle.naga_types.specs.FormFlags.{array_flags, atomic_flags, binding_array_
 use Rattle.naga_types.specs.Checks.{ok_unless, first_error_or, when, require}
 use Rattle.naga_types.specs.Layouts.{Layout, min_uniform}
 use Rattle.naga_types.specs.StructRule.{struct_rule}
-use Rattle.naga_types.specs.Surroundings.{Surroundings, flags_at, form_at, info_at, shared}
+use Rattle.naga_types.specs.Surroundings.{Surroundings, flags_at, form_at, info_at, shared, size_at}
 use Rattle.naga_types.specs.declared.error.Disalignment.TheVariants.{ArrayStride}
 use Rattle.naga_types.specs.declared.error.TypeError.{TypeError}
-use Rattle.naga_types.specs.declared.error.TypeError.TheVariants.{MissingCapability, InvalidAtomicWidth, InvalidPointerBase, InvalidPointerToUnsized, InvalidData, InvalidArrayBaseType, MatrixElementNotFloat, UnsupportedImageType, BindingArrayBaseTypeNotStruct, BindingArrayBaseExternalTextures, WidthError, InvalidArraySize}
+use Rattle.naga_types.specs.declared.error.TypeError.TheVariants.{MissingCapability, InvalidAtomicWidth, InvalidPointerBase, InvalidPointerToUnsized, InvalidData, InvalidArrayBaseType, InvalidArrayStride, MatrixElementNotFloat, UnsupportedImageType, BindingArrayBaseTypeNotStruct, BindingArrayBaseExternalTextures, WidthError, InvalidArraySize}
 use Rattle.naga_types.specs.declared.info.TypeInfo.{TypeInfo}
 
 -- a space is `Storage`
@@ -105,10 +105,11 @@ abbrev pub array_layout : ℕ → ℕ → ℕ → Layout → Layout
 array_layout handle least stride (Err e) = Err e
 array_layout handle least stride (Ok base) = ok_unless (require (stride % max base least == 0) (handle, ArrayStride stride (max base least))) (max base least)
 
--- the conditions of an array: elements of a fixed size that is known when a module is created, and a count if overrides must have their values
-abbrev pub array_checks : Surroundings → ℕ → ℕ → ArraySize → List (Option TypeError)
-array_checks s handle base size =
+-- the conditions of an array: elements of a fixed size that is known when a module is created, a stride that is not below this size, which `any_stride` leaves out, and a count if overrides must have their values
+abbrev pub array_checks : Boolean → Surroundings → ℕ → ℕ → ArraySize → ℕ → List (Option TypeError)
+array_checks any_stride s handle base size stride =
     require (has (flags_at s base) element_flags) (InvalidArrayBaseType base) ∷
+    when (not any_stride) (require (leb (size_at s base) stride) (InvalidArrayStride stride (size_at s base))) ∷
     when s.resolved (require (has_count s.lists size) (InvalidArraySize handle)) ∷
     []
 
@@ -220,23 +221,31 @@ binding_array_checks s base =
     require (has (flags_at s base) CREATION_RESOLVED) (InvalidData base) ∷
     []
 
--- the info of the type of index `t`, which is `inner`, or the first error
-abbrev pub type_rule : Surroundings → ℕ → TypeInner → Result TypeInfo TypeError
-type_rule s t (form.Scalar scalar) =
+-- what gives the info of a type by its index, or the first error
+abbrev pub TypeRule : Type 0
+TypeRule = Surroundings → ℕ → TypeInner → Result TypeInfo TypeError
+
+-- the info of the type of index `t`, which is `inner`, or the first error, where arrays may have any stride or not
+abbrev pub type_rule_with : Boolean → TypeRule
+type_rule_with any_stride s t (form.Scalar scalar) =
     ok_unless (scalar_error s.capabilities scalar) (of_scalars (scalar_flags scalar.kind) (alignment_at s.layouts t) scalar)
-type_rule s t (form.Vector size scalar) =
+type_rule_with any_stride s t (form.Vector size scalar) =
     ok_unless (scalar_error s.capabilities scalar) (of_scalars (scalar_flags scalar.kind) (alignment_at s.layouts t) scalar)
-type_rule s t (form.Matrix columns rows scalar) =
+type_rule_with any_stride s t (form.Matrix columns rows scalar) =
     first_error_or (require (is_float scalar.kind) MatrixElementNotFloat ∷ scalar_error s.capabilities scalar ∷ []) (of_scalars unshared_flags (alignment_at s.layouts t) scalar)
-type_rule s t (form.CooperativeMatrix columns rows scalar role) =
+type_rule_with any_stride s t (form.CooperativeMatrix columns rows scalar role) =
     first_error_or (cooperative_checks s.capabilities scalar) (shared unshared_flags (alignment_at s.layouts t))
-type_rule s t (form.Atomic scalar) = ok_unless (atomic_error s.capabilities scalar) (shared atomic_flags (alignment_at s.layouts t))
-type_rule s t (form.Pointer base space) = first_error_or (pointer_checks (flags_at s base) base space) (shared (pointer_flags space) 1)
-type_rule s t (form.ValuePointer size scalar space) = ok_unless (scalar_error s.capabilities scalar) (shared (pointer_flags space) 1)
-type_rule s t (form.Array base size stride) = first_error_or (array_checks s t base size) (array_info s t base size stride)
-type_rule s t (form.Struct members span) = struct_rule s t members span
-type_rule s t (form.Image dim arrayed class) = first_error_or (image_checks s.capabilities dim arrayed class) (shared opaque_flags 1)
-type_rule s t (form.Sampler comparison) = Ok (shared opaque_flags 1)
-type_rule s t (form.AccelerationStructure vertex_return) = first_error_or (acceleration_checks s.capabilities vertex_return) (shared opaque_flags 1)
-type_rule s t (form.RayQuery vertex_return) = first_error_or (ray_query_checks s.capabilities vertex_return) (shared ray_query_flags 1)
-type_rule s t (form.BindingArray base size) = first_error_or (binding_array_checks s base) (shared (bit_and (flags_at s base) (binding_array_flags size)) 1)
+type_rule_with any_stride s t (form.Atomic scalar) = ok_unless (atomic_error s.capabilities scalar) (shared atomic_flags (alignment_at s.layouts t))
+type_rule_with any_stride s t (form.Pointer base space) = first_error_or (pointer_checks (flags_at s base) base space) (shared (pointer_flags space) 1)
+type_rule_with any_stride s t (form.ValuePointer size scalar space) = ok_unless (scalar_error s.capabilities scalar) (shared (pointer_flags space) 1)
+type_rule_with any_stride s t (form.Array base size stride) = first_error_or (array_checks any_stride s t base size stride) (array_info s t base size stride)
+type_rule_with any_stride s t (form.Struct members span) = struct_rule s t members span
+type_rule_with any_stride s t (form.Image dim arrayed class) = first_error_or (image_checks s.capabilities dim arrayed class) (shared opaque_flags 1)
+type_rule_with any_stride s t (form.Sampler comparison) = Ok (shared opaque_flags 1)
+type_rule_with any_stride s t (form.AccelerationStructure vertex_return) = first_error_or (acceleration_checks s.capabilities vertex_return) (shared opaque_flags 1)
+type_rule_with any_stride s t (form.RayQuery vertex_return) = first_error_or (ray_query_checks s.capabilities vertex_return) (shared ray_query_flags 1)
+type_rule_with any_stride s t (form.BindingArray base size) = first_error_or (binding_array_checks s base) (shared (bit_and (flags_at s base) (binding_array_flags size)) 1)
+
+-- the rule of a type: strides are not below the size of elements
+abbrev pub type_rule : TypeRule
+type_rule = type_rule_with false

@@ -1,6 +1,6 @@
 //! The rules of arrays and of binding arrays (WGSL "Array Types").
 
-ghost use Rattle.std.specs.Prelude.{◌≡◌, ◌<◌, ◌≤◌, IfSome, bit_and, length};
+ghost use Rattle.std.specs.Prelude.{◌≡◌, ◌<◌, ◌≤◌, IfSome, bit_and, false, length};
 ghost use Rattle.naga_ir.specs.Handles.{GlobalReferencesOk};
 ghost use Rattle.naga_ir.specs.Parts.{pending};
 ghost use Rattle.naga_types.specs.Checks.{first_error_or};
@@ -97,7 +97,8 @@ pub(crate) fn validate_array<'a>(
     requires before { base < handle }
     requires there { IfSome (pending size.now) (λ o. o < length gctx.overrides.now) }
     requires references { GlobalReferencesOk (lists_of gctx) }
-    ensures { result ≡ first_error_or (rule.array_checks (surroundings ctx.entry gctx.entry) handle base size.now)
+    ensures { result ≡ first_error_or
+        (rule.array_checks false (surroundings ctx.entry gctx.entry) handle base size.now stride)
         (rule.array_info (surroundings ctx.entry gctx.entry) handle base size.now stride) }
 {
     let elements = TypeFlags::DATA
@@ -107,11 +108,19 @@ pub(crate) fn validate_array<'a>(
     if !info.flags.contains(elements) {
         return Err(TypeError::InvalidArrayBaseType(base));
     }
+    let layout = ctx.layouter[base];
+    // With a shorter stride, elements would share bytes.
+    if stride < layout.size {
+        return Err(TypeError::InvalidArrayStride {
+            stride,
+            expected: layout.size,
+        });
+    }
     let has_count = has_count(*size, gctx);
     if ctx.overrides_resolved && !has_count {
         return Err(TypeError::InvalidArraySize(handle));
     }
-    let alignment = ctx.layouter[base].alignment;
+    let alignment = layout.alignment;
     let in_uniform = alignment.max(Alignment::MIN_UNIFORM);
     // Flags are cut by those of the base: an array is only used as its elements may be.
     Ok(TypeInfo {

@@ -207,7 +207,7 @@ pub enum TypeError {
         arrayed: bool,
         class: ImageClass,
     },
-    /// Never returned so far.
+    /// An array has a stride below the size of its elements. Both are in bytes, and the size is what was expected.
     #[error("Array stride {stride} does not match the expected {expected}")]
     InvalidArrayStride {
         stride: u32,
