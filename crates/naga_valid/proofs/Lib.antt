@@ -13,4 +13,5 @@ mod ReferencedItems
 mod Refusals
 mod RuleResults
 mod SlotLaws
+mod Strides
 mod WorkedSettings

@@ -13,7 +13,8 @@ use Rattle.naga_ir.specs.Handles.{HandlesAccepted}
 use Rattle.naga_ir.specs.ItemReferences.{global_lists}
 use Rattle.naga_ir.specs.declared.ir.Module.{Module}
 use Rattle.naga_ir.specs.declared.types.«Type».{«Type»}
-use Rattle.naga_types.specs.AcceptedTypes.{AreTypesAccepted, IsLaidOut, types_rule}
+use Rattle.naga_types.specs.AcceptedTypes.{AreTypesAcceptedBy, IsLaidOut, types_rule}
+use Rattle.naga_types.specs.TypeRule.{TypeRule, type_rule}
 use Rattle.naga_types.specs.declared.error.TypeError.{TypeError}
 use Rattle.naga_types.specs.declared.error.TypeError.TheVariants.{InvalidData}
 use Rattle.naga_types.specs.declared.info.TypeInfo.{TypeInfo}
@@ -31,15 +32,23 @@ use Rattle.naga_valid.specs.declared.error.ValidationError.TheVariants.{InvalidH
 abbrev pub lists_of : Facts → ModuleInfoLists
 lists_of facts = record { type_flags = map (λ (i : TypeInfo). i.flags) facts.infos; functions = []; entry_points = []; const_expression_types = facts.resolutions }
 
--- the types of a module are accepted, and these are their infos
-pub record AreValidTypes (m : Module) (settings : Settings) (infos : List TypeInfo) : Type 0 where
+-- the types of a module are accepted by `rule`, and these are their infos
+pub record AreValidTypesBy (rule : TypeRule) (m : Module) (settings : Settings) (infos : List TypeInfo) : Type 0 where
   pub layouts : List TypeLayout
-  pub accepted : AreTypesAccepted m settings.capabilities settings.resolved layouts infos
+  pub accepted : AreTypesAcceptedBy rule m settings.capabilities settings.resolved layouts infos
+
+-- the types of a module are accepted by `rule`, and its global expressions have types: these are the `facts`
+pub record AreTypesAndExpressionsAcceptedBy (rule : TypeRule) (resolves : Resolves) (m : Module) (settings : Settings) (facts : Facts) : Type 0 where
+  pub types : AreValidTypesBy rule m settings facts.infos
+  pub resolutions : AreResolved resolves m facts.resolutions
+
+-- the types of a module are accepted, and these are their infos
+abbrev pub AreValidTypes : Module → Settings → List TypeInfo → Type 0
+AreValidTypes = AreValidTypesBy type_rule
 
 -- the types of a module are accepted, and its global expressions have types: these are the `facts`
-pub record AreTypesAndExpressionsAccepted (resolves : Resolves) (m : Module) (settings : Settings) (facts : Facts) : Type 0 where
-  pub types : AreValidTypes m settings facts.infos
-  pub resolutions : AreResolved resolves m facts.resolutions
+abbrev pub AreTypesAndExpressionsAccepted : Resolves → Module → Settings → Facts → Type 0
+AreTypesAndExpressionsAccepted = AreTypesAndExpressionsAcceptedBy type_rule
 
 -- all values of a module keep their rules
 pub record AreValuesAccepted (m : Module) (settings : Settings) (facts : Facts) : Type 0 where
@@ -51,21 +60,29 @@ pub record AreValuesAccepted (m : Module) (settings : Settings) (facts : Facts) 
 abbrev pub checks_values : Settings → Bool
 checks_values settings = has settings.flags.0 CONSTANTS
 
--- a module is accepted, and these are the facts: they are known, and its values keep their rules if they are validated
-pub record IsAccepted (resolves : Resolves) (m : Module) (settings : Settings) (facts : Facts) : Type 0 where
-  pub known : AreTypesAndExpressionsAccepted resolves m settings facts
+-- a module is accepted, where `rule` is that of a type, and these are the facts: they are known, and its values keep their rules if they are validated
+pub record IsAcceptedBy (rule : TypeRule) (resolves : Resolves) (m : Module) (settings : Settings) (facts : Facts) : Type 0 where
+  pub known : AreTypesAndExpressionsAcceptedBy rule resolves m settings facts
   pub values : IsTrue (checks_values settings) → AreValuesAccepted m settings facts
+
+-- a module is accepted, and these are the facts
+abbrev pub IsAccepted : Resolves → Module → Settings → Facts → Type 0
+IsAccepted = IsAcceptedBy type_rule
 
 -- a module keeps all rules
 abbrev pub IsValid : Resolves → Module → Settings → Type 0
 IsValid resolves m settings = (facts : Facts) × IsAccepted resolves m settings facts
 
--- a module is accepted with facts of which these are the infos and what its users learn
-pub record Accepts (resolves : Resolves) (m : Module) (settings : Settings) (infos : List TypeInfo) (lists : ModuleInfoLists) : Type 0 where
+-- a module is accepted, where `rule` is that of a type, with facts of which these are the infos and what its users learn
+pub record AcceptsBy (rule : TypeRule) (resolves : Resolves) (m : Module) (settings : Settings) (infos : List TypeInfo) (lists : ModuleInfoLists) : Type 0 where
   pub facts : Facts
-  pub accepted : IsAccepted resolves m settings facts
+  pub accepted : IsAcceptedBy rule resolves m settings facts
   pub infos_are : infos ≡ facts.infos
   pub lists_are : lists ≡ lists_of facts
+
+-- a module is accepted with facts of which these are the infos and what its users learn
+abbrev pub Accepts : Resolves → Module → Settings → List TypeInfo → ModuleInfoLists → Type 0
+Accepts = AcceptsBy type_rule
 
 -- the type of this index has this name, or none and the name is empty
 abbrev pub IsNameOf : List «Type» → ℕ → List ℕ → Type 0

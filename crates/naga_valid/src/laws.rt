@@ -9,7 +9,7 @@
 //! The leaves of a value are its scalars, vectors, matrices and atomics, at any depth of arrays and
 //! structs. Each is named by the indices of the elements and members that lead to it.
 
-ghost use Rattle.std.specs.Prelude.{◌≡◌, ◌+◌, ◌*◌, ◌≤◌, ℕ, IfSome, IsTrue, List, Ok, Some, bit_or, length, slice_get};
+ghost use Rattle.std.specs.Prelude.{◌≡◌, ◌↔◌, ◌+◌, ◌*◌, ◌≤◌, ℕ, IfSome, IsTrue, List, Ok, Some, bit_or, length, slice_get, true};
 ghost use Rattle.naga_exprs.specs.ExpressionRule.{IsRule};
 ghost use Rattle.naga_exprs.specs.Math.{math_typing};
 ghost use Rattle.naga_exprs.specs.MoreCapabilities.{AllowsMore};
@@ -27,8 +27,9 @@ ghost use Rattle.naga_types.specs.HostLayouts.{HasStorageByLeaves, HasUniformByL
 ghost use Rattle.naga_types.specs.HostLeaves.{IsLaidOutForHosts, resolved_for_hosts, sized_for_hosts};
 ghost use Rattle.naga_ir.specs.declared.types.TypeInner.{TypeInner};
 ghost use Rattle.naga_types.specs.declared.info.TypeInfo.{TypeInfo};
-ghost use Rattle.naga_typing.specs.Leaves.{AreSeparate, EndsInArray, inner_at, size_at_index};
-ghost use Rattle.naga_valid.specs.Accepted.{Accepts, AreValidTypes};
+ghost use Rattle.naga_types.specs.TypeRule.{type_rule_with};
+ghost use Rattle.naga_typing.specs.Leaves.{AreSeparate, EndsInArray, HasNoShortStride, inner_at, size_at_index};
+ghost use Rattle.naga_valid.specs.Accepted.{Accepts, AcceptsBy, AreValidTypes};
 ghost use Rattle.naga_valid.specs.Functions.{AreFunctionsReadyInOrder, function_surroundings};
 ghost use Rattle.naga_valid.specs.MoreCapabilities.{AcceptsFunctionsToo, HasMoreCapabilities};
 ghost use Rattle.naga_valid.specs.State.{settings_of, stages_with};
@@ -48,9 +49,8 @@ use naga_typing::typing::Typing;
 /// size, leaf by leaf.
 ///
 /// It holds of types with the flags `DATA`, `SIZED` and `HOST_SHAREABLE` that have a uniform or a
-/// storage layout, if no array inside has a stride below the size of its elements, which is not a rule of
-/// modules so far. Nothing is promised if both layouts are errors. An array whose length is an
-/// override that gives no count has no leaves. `length` is only the length of runtime-sized arrays.
+/// storage layout. Nothing is promised if both layouts are errors. An array whose length is an override
+/// that gives no count has no leaves. `length` is only the length of runtime-sized arrays.
 pub fn leaves<T: Typing>(
     module: &Module,
     validator: &Validator<T>,
@@ -69,9 +69,8 @@ pub fn leaves<T: Typing>(
 /// `length` times its stride. So a host can fill as many bytes, leaf by leaf.
 ///
 /// It holds of types with the flags `DATA`, `CREATION_RESOLVED` and `HOST_SHAREABLE` that have a
-/// uniform or a storage layout, if no array inside has a stride below the size of its elements, which
-/// is not a rule of modules so far. Nothing is promised if both layouts are errors, nor that this number
-/// of bytes fits into 32 bits.
+/// uniform or a storage layout. Nothing is promised if both layouts are errors, nor that this number of
+/// bytes fits into 32 bits.
 pub fn leaves_at_length<T: Typing>(
     module: &Module,
     validator: &Validator<T>,
@@ -83,6 +82,19 @@ pub fn leaves_at_length<T: Typing>(
     ensures { IsLaidOutForHosts (global_lists «module».now) validator.now.infos ty resolved_for_hosts
         → (first stride : ℕ) → EndsInArray (global_lists «module».now) ty first stride
         → AreSeparate (global_lists «module».now) length ty (first + length * stride) }
+{}
+
+/// What the rule on strides keeps out, and that alone: a module is accepted exactly if it would be accepted where
+/// an array may have any stride, and no array in it has a stride below the size of its elements. What is known of
+/// it is the same.
+///
+/// So of a module from elsewhere, whose arrays have room for their elements, nothing is refused by this rule.
+pub fn strides<T: Typing>(module: &Module, validator: &Validator<T>, resolved: bool)
+    ensures { (infos : List TypeInfo) (lists : ModuleInfoLists)
+        → Accepts (T.resolves validator.now.typing) «module».now (settings_of validator.now resolved) infos lists
+        ↔ (AcceptsBy (type_rule_with true) (T.resolves validator.now.typing) «module».now
+        (settings_of validator.now resolved) infos lists
+        × ((t : ℕ) → HasNoShortStride (global_lists «module».now) t)) }
 {}
 
 /// When a type can stand in storage buffers, by its leaves. The leaf alignment of a type is the
