@@ -1,36 +1,47 @@
 //! What a caller of the validator knows by the laws of accepted modules: each law is called, so that what it
 //! requires can be met, and the caller promises what follows.
 
-ghost use Rattle.std.specs.Prelude.{◌≡◌, ◌+◌, ◌^◌, ◌<◌, false, IfOk, IfSome, IsTrue, OnOk, length, slice_get};
+ghost use Rattle.std.specs.Prelude.{◌≡◌, ◌+◌, ◌^◌, ◌<◌, ℕ, false, IfOk, IfSome, IsTrue, OnOk, length, slice_get};
 ghost use Rattle.naga_immediates.specs.LeafSlots.{HasNoArray, HasSlotsOfLeaves};
 ghost use Rattle.naga_immediates.specs.Slots.{IsSetOf, SharesByte};
 ghost use Rattle.naga_ir.specs.ItemReferences.{global_lists};
 ghost use Rattle.naga_types.specs.FlagsOfParts.{IsConstructibleByElements, IsConstructibleByMembers};
 ghost use Rattle.naga_types.specs.HostLayouts.{HasStorageByLeaves, HasUniformByLeaves, IsForHosts};
 ghost use Rattle.naga_types.specs.HostLeaves.{IsLaidOutForHosts, sized_for_hosts};
-ghost use Rattle.naga_typing.specs.Leaves.{AreSeparate, size_at_index};
-ghost use Rattle.naga_valid.specs.Accepted.{AreValidTypes};
+ghost use Rattle.naga_typing.specs.Leaves.{AreSeparate, HasNoShortStride, size_at_index};
+ghost use Rattle.naga_valid.specs.Accepted.{Accepts, AreValidTypes};
 ghost use Rattle.naga_valid.specs.Functions.{AreFunctionsReadyInOrder};
 ghost use Rattle.naga_valid.specs.State.{settings_of};
 
 use super::valid::{validator_under, with_text};
 use super::{assert_same, last_type};
 use naga_valid::{
-    Capabilities, Handle, ImmediateSlots, Module, TypeTag, ValidationError, Validator, WithSpan,
-    laws, to_ctx,
+    Capabilities, Handle, ImmediateSlots, Module, ModuleInfo, TypeTag, Typing, ValidationError,
+    Validator, WithSpan, laws, to_ctx,
 };
 use std::alloc::{AllocError, Global};
 use std::process::Abort;
 use std::test::Fail;
 
-/// Validates a module, and calls each law of modules. If the module is accepted, the leaves of a type are
-/// separate, its layouts follow from its leaves, and its flags from the flags of its members or elements.
+/// No array of an accepted module has a stride below the size of its elements.
+fn strides_fit<T: Typing>(module: &Module, validator: &Validator<T>, info: &ModuleInfo)
+    requires { Accepts (T.resolves validator.now.typing) «module».now (settings_of validator.now false)
+        validator.now.infos info.now.lists }
+    ensures { (t : ℕ) → HasNoShortStride (global_lists «module».now) t }
+{
+    laws::strides(module, validator, false);
+}
+
+/// Validates a module, and calls each law of modules. If the module is accepted, no stride is short, the leaves
+/// of a type are separate, its layouts follow from its leaves, and its flags from the flags of its members or
+/// elements.
 fn validate_with_laws(
     validator: &mut Validator,
     module: &Module,
     ty: Handle<TypeTag>,
 ) -> Result<(), WithSpan<ValidationError>>
     ensures types { OnOk result (AreValidTypes «module».now (settings_of validator.new false) validator.new.infos) }
+    ensures strides { OnOk result ((t : ℕ) → HasNoShortStride (global_lists «module».now) t) }
     ensures leaves { OnOk result (IsLaidOutForHosts (global_lists «module».now) validator.new.infos ty sized_for_hosts
         → AreSeparate (global_lists «module».now) 0 ty (size_at_index (global_lists «module».now) ty)) }
     ensures storage { OnOk result (IfSome (slice_get validator.new.infos ty) (λ info. IsForHosts info
@@ -44,6 +55,7 @@ fn validate_with_laws(
     ensures functions { OnOk result (AreFunctionsReadyInOrder «module».now) }
 {
     let info = validator.validate(module)?;
+    strides_fit(module, validator, &info);
     laws::leaves(module, validator, false, ty, 0);
     laws::leaves_at_length(module, validator, false, ty, 0);
     laws::storage_ok(module, validator, false, ty);
