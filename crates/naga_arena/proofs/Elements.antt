@@ -15,7 +15,7 @@ all-of P xs f = All-weaker (Contains xs) P f xs (All-contains_itself xs)
 pub all-left : {X : Type 0} (P : X → Type 0) (xs ys : List X) → All P (xs ++ ys) → All P xs
 all-left P xs ys all = all-of P xs (λ x h. All-contains P (xs ++ ys) x all (Contains-append_left xs ys x h))
 
--- and of all of the second
+-- what holds of all items of two lists holds of all of the second
 pub all-right : {X : Type 0} (P : X → Type 0) (xs ys : List X) → All P (xs ++ ys) → All P ys
 all-right P xs ys all = all-of P ys (λ x h. All-contains P (xs ++ ys) x all (Contains-append_right xs ys x h))
 

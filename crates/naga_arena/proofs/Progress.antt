@@ -68,7 +68,7 @@ module _ {X A E : Type 0} (items : List X) (results : List (Result A E)) where
       let s = next done left n x more p e in
       ap (λ l. slice_get l n) s.whole ∙ ap (slice_get (s.front ++ x ∷ s.rest)) (s.number ∙ sym s.place) ∙ slice_get-seam s.front s.rest x
 
-  -- its index is the number of values so far
+  -- the index of the next item is the number of values so far
   pub number : (done : List A) (left : List (ℕ × X)) (n : ℕ) (x : X) (more : List (ℕ × X)) → Progress done left → left ≡ (n, x) ∷ more → n ≡ length done
   number done left n x more p e = (next done left n x more p e).number
 

@@ -9,16 +9,16 @@ RuleInOrder X V E = List V → ℕ → X → Result V E
 abbrev pub given_at : {X V E : Type 0} → RuleInOrder X V E → List X → List V → ℕ → Option (Result V E)
 given_at rule items before place = option_map (rule before place) (slice_get items place)
 
--- each of these values is what the rule gives for the item at its index, by the values before it
+-- each of `values` is what `rule` gives for the item of `items` at its index, by the values before it
 abbrev pub FollowInOrder : {X V E : Type 0} → RuleInOrder X V E → List X → List V → Type 0
 FollowInOrder {X} {V} rule items values = (k : ℕ) (v : V) → slice_get values k ≡ Some v → given_at rule items (take k values) k ≡ Some (Ok v)
 
--- every item is accepted, and these are the values
+-- `rule` accepts each of `items`, by the values before it, and gives `values`
 pub record AllAcceptedInOrder {X V E : Type 0} (rule : RuleInOrder X V E) (items : List X) (values : List V) : Type 0 where
   pub as_many : length values ≡ length items
   pub follow : FollowInOrder rule items values
 
--- the items before this index are accepted, and by their values the item here is refused with this error
+-- `rule` accepts the items before `place`, and by their values refuses the item at `place` with `error`
 pub record IsFirstErrorInOrder {X V E : Type 0} (rule : RuleInOrder X V E) (items : List X) (place : ℕ) (error : E) : Type 0 where
   pub before : List V
   pub as_many : length before ≡ place

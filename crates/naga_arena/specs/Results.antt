@@ -5,7 +5,7 @@ use Rattle.std.specs.Prelude.{◌≡◌, ◌⊎◌, ℕ, List, Some, Result, Err
 abbrev pub IsResultOf : {A E : Type 0} → (Result A E → Type 0) → E → Result A E → Result A E → Type 0
 IsResultOf NeedsMemory refused rule result = (result ≡ rule) ⊎ ((result ≡ Err refused) × NeedsMemory rule)
 
--- the item at this index is refused with this error, and all before it are accepted
+-- the item at `place` is refused with `error`, and all before it are accepted
 pub record IsFirstError {A E : Type 0} (results : List (Result A E)) (place : ℕ) (error : E) : Type 0 where
   pub refused : slice_get results place ≡ Some (Err error)
   pub accepted_before : All IsOk (take place results)

@@ -102,6 +102,6 @@ subgroup_operations =
     (codes "QUAD_FRAGMENT_COMPUTE", QUAD_FRAGMENT_COMPUTE) ∷
     []
 
--- whether a set has all flags of another
+-- whether `set` has all of `flags`
 abbrev pub has : ℕ → ℕ → Bool
 has set flags = bit_and set flags == flags

@@ -23,7 +23,7 @@ width_32 = 4
 abbrev pub width_64 : ℕ
 width_64 = 8
 
--- whether a scalar has a width that these capabilities allow
+-- whether `capabilities` allow the width of the scalar `s`
 abbrev pub is_good_width : ℕ → Scalar → Boolean
 is_good_width capabilities s = elim s.kind [
   | Bool ↦ s.width == bool_width
@@ -34,7 +34,7 @@ is_good_width capabilities s = elim s.kind [
   | AbstractFloat ↦ false
 ]
 
--- the error for a scalar whose width they do not allow
+-- the error for the scalar `s` if the capabilities do not allow its width
 abbrev pub width_error : Scalar → WidthError
 width_error s = elim s.kind [
   | Bool ↦ Invalid s.kind s.width
@@ -54,10 +54,10 @@ width_error s = elim s.kind [
   | AbstractFloat ↦ Abstract
 ]
 
--- immediates may hold every scalar except those of 16 bits
+-- whether immediates may hold the scalar `s`: they may hold every scalar except the scalars of 16 bits
 abbrev pub immediates_of : Scalar → Result (Unit {0}) ImmediateError
 immediates_of s = if s.width == width_16 then Err (InvalidScalar s) else Ok tt
 
--- a scalar has an allowed width, or is refused
+-- whether immediates may hold the scalar `s` if `capabilities` allow its width, and else the error
 abbrev pub width_rule : ℕ → Scalar → Result (Result (Unit {0}) ImmediateError) WidthError
 width_rule capabilities s = if is_good_width capabilities s then Ok (immediates_of s) else Err (width_error s)

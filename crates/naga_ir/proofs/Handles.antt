@@ -40,7 +40,7 @@ variable_types m f all k d within =
     All-contains (Exists (function_counts m f)) (flat_map local_variable_references f.local_variables) (to.Type_ v.ty) all
     (within_all local_variable_references f.local_variables k v (to.Type_ v.ty) (slice_get-get_or f.local_variables k d within) (0, omega arith, refl))
 
--- and so are the handles of each of its functions and entry points
+-- if the handles of a module are right, so are the handles of each of its functions and entry points
 pub function_references_ok : (m : Module) (f : Function) → Contains (all_functions m) f → HandlesAccepted m → FunctionReferencesOk m f
 function_references_ok m f among h =
     let In = Exists (function_counts m f) in

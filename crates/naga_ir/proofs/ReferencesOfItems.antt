@@ -35,7 +35,7 @@ type_in x t e =
     (Contains-append_left types (option_to_list (named_item x)) (to.Type_ t)
     (subst (λ (o : Option ℕ). Contains (map to.Type_ (option_to_list o)) (to.Type_ t)) (sym e) (only (to.Type_ t))))
 
--- and to the item that it names
+-- an expression refers to the item that it names
 pub item_in : (x : Expression) (r : Reference) → named_item x ≡ Some r → Contains (expression_references x) r
 item_in x r e =
     let types : List Reference = map to.Type_ (option_to_list (named_type x)) in
@@ -74,7 +74,7 @@ module _ (g : GlobalLists) (ok : GlobalReferencesOk g) where
   of_expression e x r at h =
       is_there r (Contains-append_right of_types _ r (Contains-append_right of_constants _ r (Contains-append_right of_overrides of_expressions r (within_all expression_references g.expressions e x r at h))))
 
-  -- and so with all that global expressions refer to
+  -- all that global expressions refer to exists
   pub all_of_expressions : All (ExistsGlobally g) (flat_map expression_references g.expressions)
   all_of_expressions k d within =
       is_there _ (Contains-append_right of_types _ _ (Contains-append_right of_constants _ _ (Contains-append_right of_overrides of_expressions _ (All-contains_itself of_expressions k d within))))

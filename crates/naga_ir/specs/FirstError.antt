@@ -1,11 +1,11 @@
 -- The result of checking items in order, up to the first that is refused.
 use Rattle.std.specs.Prelude.{◌≡◌, List, ◌∷◌, ◌++◌, Result, Ok, Err, All, OnOk, IfErr}
 
--- every item is accepted
+-- `checks` accepts each of `items`
 abbrev pub AcceptsAll : {A E : Type 0} → (A → Result (Unit {0}) E → Type 0) → List A → Type 0
 AcceptsAll checks items = All (λ item. checks item (Ok tt)) items
 
--- an item is refused with this error, and all before it are accepted
+-- `checks` refuses one of `items` with `error`, and accepts all before it
 pub record IsFirstErrorOf {A E : Type 0} (checks : A → Result (Unit {0}) E → Type 0) (items : List A) (error : E) : Type 0 where
   pub before : List A
   pub item : A
@@ -14,7 +14,7 @@ pub record IsFirstErrorOf {A E : Type 0} (checks : A → Result (Unit {0}) E →
   pub accepted_before : AcceptsAll checks before
   pub refused : checks item (Err error)
 
--- all items are accepted, or `error` is the error of the first that is refused
+-- `checks` accepts each of `items`, or `result` is the error of the first that it refuses
 pub record ChecksEach {A E : Type 0} (checks : A → Result (Unit {0}) E → Type 0) (items : List A) (result : Result (Unit {0}) E) : Type 0 where
   pub accepted : OnOk result (AcceptsAll checks items)
   pub refused : IfErr result (IsFirstErrorOf checks items)

@@ -60,7 +60,7 @@ Exists n (to.Function f) = f < n.functions
 Exists n (to.DiagnosticFilterNode d) = d < n.diagnostic_filters
 Exists n (to.Emit range) = IsGoodRange n.expressions range
 
--- a type is a struct with a member of this index
+-- the type of index `place.0` is a struct with a member of index `place.1`
 abbrev pub MemberExists : List «Type» → ℕ × ℕ → Type 0
 MemberExists types place =
     (t : «Type») × (members : List StructMember) × (span : ℕ) × (slice_get types place.0 ≡ Some t) × (t.inner ≡ Struct members span) × (place.1 < length members)
@@ -86,7 +86,8 @@ pub data OrderedReference (g : GlobalLists) : Reference → Reference → Type 0
 pub data OrderedOperands (xs : List Expression) : Reference → Reference → Type 0 where
   own_operand : (e o : ℕ) (x : Expression) → slice_get xs e ≡ Some x → Contains (operands x) o → OrderedOperands xs (to.Expression e) (to.Expression o)
 
--- all pairs of a module: those two, each function with each that it calls or whose result it names, and each filter with its parent
+-- all pairs of a module: `OrderedReference`, `OrderedOperands` of each function, each function with each that it calls
+-- or whose result it names, and each filter with its parent
 pub data OrderedInModule (m : Module) : Reference → Reference → Type 0 where
   among_globals : (s t : Reference) → OrderedReference (global_lists m) s t → OrderedInModule m s t
   in_function : (f : Function) (s t : Reference) → Contains (all_functions m) f → OrderedOperands f.expressions s t → OrderedInModule m s t
@@ -105,7 +106,7 @@ place_of (to.Function f) = f
 place_of (to.DiagnosticFilterNode d) = d
 place_of (to.Emit range) = range.start
 
--- of each pair the second precedes the first
+-- in each of `Pairs` the second reference precedes the first
 abbrev pub ReferencesPrecede : (Reference → Reference → Type 0) → Type 0
 ReferencesPrecede Pairs = (s t : Reference) → Pairs s t → place_of t < place_of s
 
@@ -124,7 +125,7 @@ abbrev pub sized_by : List Override → Option «Type» → Option ℕ
 sized_by overrides None = None
 sized_by overrides (Some x) = initialiser_at overrides (size_override x.inner)
 
--- the size initialiser of the type of an index
+-- the initialiser of the override that sizes the type of index `t`, if one does
 unfoldable pub size_initialiser : GlobalLists → ℕ → Option ℕ
 size_initialiser g t = sized_by g.overrides (slice_get g.types t)
 

@@ -27,11 +27,11 @@ use Rattle.naga_ir.specs.declared.reference.Reference.TheVariants as to
 abbrev pub type_references : TypeInner → List Reference
 type_references inner = map to.Type_ (parts inner) ++ map to.Override (option_to_list (size_override inner))
 
--- an expression refers to its operands, and also to the type and the item that it names
+-- besides its operands an expression refers to the type and the item that it names
 abbrev pub named_references : Expression → List Reference
 named_references x = map to.Type_ (option_to_list (named_type x)) ++ option_to_list (named_item x)
 
--- an expression refers to its operands, and to those
+-- an expression refers to its operands, and to the type and the item that it names
 abbrev pub expression_references : Expression → List Reference
 expression_references x = map to.Expression (operands x) ++ named_references x
 
@@ -47,7 +47,7 @@ override_references o = to.Type_ o.ty ∷ map to.Expression (option_to_list o.in
 abbrev pub global_variable_references : GlobalVariable → List Reference
 global_variable_references v = to.Type_ v.ty ∷ map to.Expression (option_to_list v.init)
 
--- a variable of a function does so too
+-- a variable of a function refers to its type, and to its initialiser if it has one
 abbrev pub local_variable_references : LocalVariable → List Reference
 local_variable_references v = to.Type_ v.ty ∷ map to.Expression (option_to_list v.init)
 
@@ -57,13 +57,13 @@ signature_references f =
     map (λ (a : FunctionArgument). to.Type_ a.ty) f.arguments
     ++ map (λ (r : FunctionResult). to.Type_ r.ty) (option_to_list f.result)
 
--- its variables refer to their types and initialisers, and its names to the expressions that they name
+-- the variables of a function refer to their types and initialisers, and its names to the expressions that they name
 abbrev pub local_references : Function → List Reference
 local_references f =
     flat_map local_variable_references f.local_variables
     ++ map (λ (n : ℕ × List ℕ). to.Expression n.0) f.named_expressions
 
--- its body refers to what its statements refer to, and to its filter
+-- the body of a function refers to what its statements refer to, and to its filter
 abbrev pub body_references : Function → List Reference
 body_references f = block_references f.body ++ map to.DiagnosticFilterNode (option_to_list f.diagnostic_filter_leaf)
 
@@ -112,7 +112,7 @@ pub record GlobalLists : Type 0 where
   pub overrides : List Override
   pub expressions : List Expression
 
--- the references of a module
+-- the lists of a module that its types and global expressions refer to
 abbrev pub global_lists : Module → GlobalLists
 global_lists m = record { types = m.types; constants = m.constants; overrides = m.overrides; expressions = m.global_expressions }
 

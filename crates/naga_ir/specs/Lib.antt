@@ -9,11 +9,11 @@
 -- Handles.EverythingExists: no reference of a module is dangling
 -- Handles.OrderedInModule, ReferencesPrecede: which references have to go back, and that they do
 -- Handles.SizesResolveFirst: no expression that sizes a type names that type or a later one, and none before it does
--- Handles.HandlesAccepted: these three
--- Handles.GlobalReferencesOk: the same of types and global expressions
--- Handles.ExpressionReferencesOk: the same of the arguments and expressions of a function
--- Handles.FunctionReferencesOk: and of its variables
--- Ranks.rank_of_type, rank_of_expression: the index of each in the order of visits
+-- Handles.HandlesAccepted: EverythingExists, ReferencesPrecede and SizesResolveFirst of a module
+-- Handles.GlobalReferencesOk: references among types, constants, overrides and global expressions exist and go back
+-- Handles.ExpressionReferencesOk: the references of a function's arguments and expressions are right
+-- Handles.FunctionReferencesOk: besides these, the types of a function's variables exist
+-- Ranks.rank_of_type, rank_of_expression: the index of a type or a global expression in the order of visits
 pub mod Distinct
 pub mod FirstError
 pub mod Handles

@@ -15,7 +15,7 @@ unfoldable pub top_before : GlobalLists → ℕ → ℕ
 top_before g zero = 0
 top_before g (suc t) = max (top_before g t) (reach (size_initialiser g t))
 
--- the least number below n that passes, or n
+-- the least number below n of which `p` holds, or n if there is none
 unfoldable pub least : (ℕ → Bool) → ℕ → ℕ
 least p zero = 0
 least p (suc n) = if p 0 then 0 else suc (least (λ t. p (suc t)) n)

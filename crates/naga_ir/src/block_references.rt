@@ -26,7 +26,7 @@ impl Block {
     ///
     /// # Errors
     ///
-    /// That of `check` on the first reference that it refuses.
+    /// The error of `check` on the first reference that it refuses.
     #[cycle(blocks)]
     pub fn try_for_each_reference<E, F: Fn(Reference) -> Result<(), E>>(
         &self,

@@ -344,13 +344,13 @@ pub enum Expression {
     /// What a ray has hit.
     RayQueryGetIntersection {
         query: Handle<ExpressionTag>,
-        /// Whether it is the committed hit, and no candidate.
+        /// Whether it is the committed hit, and not a candidate.
         committed: bool,
     },
     /// The corners of what a ray has hit.
     RayQueryVertexPositions {
         query: Handle<ExpressionTag>,
-        /// Whether it is the committed hit, and no candidate.
+        /// Whether it is the committed hit, and not a candidate.
         committed: bool,
     },
     /// The result of a ballot of the subgroup.

@@ -207,7 +207,7 @@ impl DocComments {
     }
 }
 
-/// A shader module. `triangle.rt`, among the tests, builds one by hand.
+/// A shader module. docs/LIBRARY.md shows how one is built.
 ///
 /// Nothing is known of a module that was built by hand or read from outside: a validator decides
 /// whether it keeps the rules.

@@ -12,8 +12,8 @@ ghost use Rattle.naga_ir.specs.steps.TypePaths.{first_hash, second_hash, next_bi
 use crate::types::Type;
 use std::hash::{DefaultHasher, FoldHasher, Hash, Hasher};
 
-/// The depth of the last link that the first hash of a type chooses: by then 24 of its bits are used, so that of
-/// up to a million types, unless they were chosen to collide, few have a path that goes on.
+/// The depth of the last link that the first hash of a type chooses. By then 24 of its bits are used: unless types
+/// were chosen to collide, few of up to a million have a path that goes on.
 const LAST_BY_FIRST_HASH: usize = 11;
 
 /// Where the path of a type ends that is not there: at a link that leads nowhere yet.

@@ -11,7 +11,7 @@ use naga_arena::tags::{OverrideTag, TypeTag};
 use naga_arena::text::Text;
 use std::num::NonZeroU32;
 
-/// The width of a Boolean scalar, in bytes (naga).
+/// The width of a bool, in bytes (naga).
 pub const BOOL_WIDTH: u8 = 1;
 
 /// The width of an abstract scalar, in bytes (naga).
@@ -26,7 +26,7 @@ pub enum ScalarKind {
     Uint,
     /// Floating-point numbers.
     Float,
-    /// Boolean values.
+    /// Bools.
     Bool,
     /// WGSL's abstract integers, which only constant expressions have.
     AbstractInt,
@@ -60,7 +60,7 @@ pub struct Scalar {
 }
 
 impl Scalar {
-    /// Boolean values.
+    /// Bools.
     pub const BOOL: Scalar = Scalar {
         kind: ScalarKind::Bool,
         width: BOOL_WIDTH,

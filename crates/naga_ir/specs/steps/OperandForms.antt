@@ -8,7 +8,7 @@ abbrev pub listed : Expression → List ℕ
 listed (Compose ty components) = components
 listed _ = []
 
--- an expression reads an image or queries one
+-- the expression samples, loads or queries an image
 abbrev pub ReadsImage : Expression → Type 0
 ReadsImage (ImageSample image sampler gather coordinate array_index offset level depth_ref clamp_to_edge) = Unit {0}
 ReadsImage (ImageLoad image coordinate array_index sample level) = Unit {0}

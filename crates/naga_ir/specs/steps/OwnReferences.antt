@@ -23,7 +23,8 @@ IsListed (one.SubgroupCollectiveOperation op argument result) = Unit {0}
 IsListed (one.CooperativeStore target pointer stride) = Unit {0}
 IsListed _ = ⊥
 
--- this is all that the statement `s` refers to, the blocks in it aside, unless its variant may refer to more
+-- the second argument holds all that the statement `s` refers to, the blocks in it aside, or is `More`, for a variant
+-- that few statements have
 abbrev pub IsOwn : Statement → OwnReferences → Type 0
 IsOwn s Nothing = references_of s ≡ []
 IsOwn s (Emitted range) = references_of s ≡ to.Emit range ∷ []

@@ -23,7 +23,7 @@ last_by_first_hash = 11
 abbrev pub next_bits : «Type» → ℕ → ℕ → ℕ
 next_bits ty depth bits = if depth == last_by_first_hash then second_hash ty else bits / 4
 
--- so many steps along the path of type ty lead from a node at a depth, with these bits left, to node k
+-- `steps` steps along the path of type ty lead from `node` at `depth`, with `bits` left of the path, to node k
 abbrev pub Leads : List ℕ → «Type» → (depth bits node steps k : ℕ) → Type 0
 Leads links ty depth bits node zero k = node ≡ k
 Leads links ty depth bits node (suc steps) k =
@@ -38,12 +38,12 @@ IsReached links ty k = (steps : ℕ) × Leads links ty 0 (first_hash ty) 0 steps
 abbrev pub AllReached : List ℕ → List «Type» → Type 0
 AllReached links types = (k : ℕ) (ty : «Type») → slice_get types k ≡ Some ty → IsReached links ty k
 
--- these are four links of each of n nodes, which lead to later nodes
+-- `links` are four links of each of n nodes, which lead to later nodes
 abbrev pub LinksGoOn : List ℕ → ℕ → Type 0
 LinksGoOn links n =
     (length links ≡ 4 * n) × ((i next : ℕ) → slice_get links i ≡ Some next → 0 < next → (next < n) × (i < 4 * next))
 
--- the hashes are the first ones of the types, in their order
+-- `hashes` are the first hashes of `types`, in their order
 abbrev pub AreFirstHashes : List ℕ → List «Type» → Type 0
 AreFirstHashes hashes types =
     (length hashes ≡ length types)
@@ -53,7 +53,7 @@ AreFirstHashes hashes types =
 abbrev pub KeepsLinks : List ℕ → List ℕ → Type 0
 KeepsLinks links more = (i next : ℕ) → slice_get links i ≡ Some next → 0 < next → slice_get more i ≡ Some next
 
--- these links, and those of one more node, which lead nowhere
+-- `links`, and the links of one more node, which lead nowhere
 abbrev pub with_node : List ℕ → List ℕ
 with_node links = links ++ 0 ∷ 0 ∷ 0 ∷ 0 ∷ []
 
