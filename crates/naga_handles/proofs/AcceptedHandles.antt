@@ -147,7 +147,7 @@ module _ (m : Module) (h : HandlesAccepted m) where
   plain-exists n r (in_entry_point p _ among stands) =
       in_all p.function r (Contains-append_right m.functions (map (λ (q : EntryPoint). q.function) m.entry_points) p.function (contains-map (λ (q : EntryPoint). q.function) m.entry_points p among)) stands
 
-  -- so nothing is wrong with types and global expressions
+  -- nothing is wrong with types and global expressions
   walk-fault-breaks : (e : InvalidHandleError) → IsOrderFault m e → ⊥
   walk-fault-breaks e (not_back s t pair le) = let lt : place_of t < place_of s = h.back s t (among_globals s t pair) in omega (arith, lt, le)
   walk-fault-breaks e (not_gated t n k u is le names past) = let lt : u < t = h.gates t n k u is le names in omega (arith, lt, past)

@@ -95,7 +95,7 @@ checks-called {g = g} {f = f} {ys = ys} {r = r} n subjects references xs e means
     (λ x t a. subst (λ y. ChecksEach IsResult (checks n subjects (references y)) t) a.shows (means a.shown t a.says.met))
     (checks-along (FnReturnsAt g f) ys xs r e h)
 
--- and if it checks one reference
+-- checking items by a closure that checks one reference is checking the reference of each
 pub checks-called-one : {A F : Type 0} {g : Shared F (Bor A × Unit {0}) (Result (Unit {0}) InvalidHandleError)} {f : F} {ys : List A} {r : Result (Unit {0}) InvalidHandleError}
     (n : Counts) (subjects : Subjects) (reference : A → Reference) (xs : List A) → ys ≡ xs
     → ((y : Bor A) (t : Result (Unit {0}) InvalidHandleError) → g.post f (y, tt) t → IsResult (check n subjects (reference y.now)) t)

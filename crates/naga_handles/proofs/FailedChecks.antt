@@ -240,7 +240,7 @@ all-refused m =
 pub items-refused : (m : Module) (e : InvalidHandleError) → ChecksEach IsResult (module_checks m) (Err e) → IsHandleFault m e
 items-refused m e h = error-from-checks (IsHandleFault m) h (λ l error among a. All-contains (Refused m) (module_checks m) l (all-refused m) among error a)
 
--- and so is one that refuses a comment on an entry point
+-- an error that refuses a comment on an entry point is a fault of the module
 pub entry_points-refused : (m : Module) (e : InvalidHandleError)
     → ChecksEach (IsEntryPointResult m) (map (λ (c : ℕ × List (List ℕ)). c.0) m.doc_comments.entry_points) (Err e) → IsHandleFault m e
 entry_points-refused m e h =
@@ -261,7 +261,7 @@ member-refused m c among fault (inl (past, e)) =
 member-refused m c among fault (inr (x, at, lacks, inl e)) = inr (e, inr (c.0.0, faults.display_name x, missing_member c.0.0 c.0.1 c.1 x among at lacks))
 member-refused m c among fault (inr (x, at, lacks, inr e)) = inl (subst (IsFault m) (sym e) (missing_member c.0.0 c.0.1 c.1 x among at lacks))
 
--- so a refusal of these comments is one of the module
+-- a refusal of the comments on members is a refusal of the module
 pub members-refused : (m : Module) (r : Result (Unit {0}) ValidationFault)
     → ChecksEach (IsMemberResult m) (map (λ (c : (ℕ × ℕ) × List (List ℕ)). c.0) m.doc_comments.struct_members) r → IfErr r (IsHandleRefusal m)
 members-refused m r h =

@@ -11,7 +11,7 @@ pub all-flat : {X Y : Type 0} (P : Y → Type 0) (f : X → List Y) (xs : List X
 all-flat P f [] all = All-nil P
 all-flat P f (x ∷ xs) all = All-append P (f x) (flat_map f xs) (All-contains (λ y. All P (f y)) (x ∷ xs) x all (0, omega arith, refl)) (all-flat P f xs (All-tail (λ y. All P (f y)) x xs all))
 
--- and what one of them gives
+-- what holds of all that the items of a list give holds of all that one of them gives
 pub all-unflat : {X Y : Type 0} (P : Y → Type 0) (f : X → List Y) (xs : List X) (k : ℕ) (x : X) → slice_get xs k ≡ Some x → All P (flat_map f xs) → All P (f x)
 all-unflat P f xs k x at all = all-of P (f x) (λ y h. All-contains P (flat_map f xs) y all (within_all f xs k x y at h))
 
@@ -20,7 +20,7 @@ pub all-places : {X : Type 0} (P : X → Type 0) (xs : List X) → ((k : ℕ) (x
 all-places P [] f = All-nil P
 all-places P (x ∷ xs) f = All-cons P x xs (f 0 x refl) (all-places P xs (λ k y at. f (suc k) y at))
 
--- the same for indices from a number on
+-- what holds of each item, with its index from `n` on, holds of all
 from-places : {X : Type 0} (P : ℕ × X → Type 0) (n : ℕ) (xs : List X) → ((k : ℕ) (x : X) → slice_get xs k ≡ Some x → P (n + k, x)) → All P (enumerate_from n xs)
 from-places P n [] f = All-nil P
 from-places P n (x ∷ xs) f =

@@ -131,7 +131,7 @@ module _ (m : Module) (e : ℕ) (x : Expression) (at : slice_get m.global_expres
       let same : r ≡ to.Constant c = same_Some r (to.Constant c) (sym named ∙ ap named_item is ∙ constant_named c) in
       subst (Exists (module_counts m)) same there
 
-  -- and so is the override
+  -- the override that it names exists if the item does
   pub override_there : (r : Reference) → named_item x ≡ Some r → Exists (module_counts m) r → (o : ℕ) → x ≡ form.Override o → o < length m.overrides
   override_there r named there o is =
       let same : r ≡ to.Override o = same_Some r (to.Override o) (sym named ∙ ap named_item is ∙ override_named o) in

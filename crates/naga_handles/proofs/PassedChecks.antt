@@ -130,13 +130,13 @@ module _ (n : Counts) (caller : Option ℕ) (f : Function) (in_module : IsThere 
     back = operands_back;
   }
 
--- the one around a filter comes before it
+-- the filter around another comes before it
 before-filter : (n : Counts) (d p : ℕ) (o : Option ℕ) → o ≡ Some p → All Passes (checks n (of_filter d) (map to.DiagnosticFilterNode (option_to_list o))) → p < d
 before-filter n d p o e all =
     All-contains Passes (checks n (of_filter d) (map to.DiagnosticFilterNode (option_to_list (Some p)))) (check n (of_filter d) (to.DiagnosticFilterNode p))
     (subst (λ (q : Option ℕ). All Passes (checks n (of_filter d) (map to.DiagnosticFilterNode (option_to_list q)))) e all) (0, omega arith, refl)
 
--- and exists
+-- the filter around another exists
 filter-there : (n : Counts) (o : Option ℕ) → ((p : ℕ) → o ≡ Some p → p < n.diagnostic_filters) → All (Exists n) (map to.DiagnosticFilterNode (option_to_list o))
 filter-there n None f = All-nil (Exists n)
 filter-there n (Some p) f = All-cons (Exists n) (to.DiagnosticFilterNode p) [] (f p refl) (All-nil (Exists n))

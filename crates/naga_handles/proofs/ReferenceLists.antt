@@ -16,10 +16,10 @@ pub all_of_option : {A : Type 0} (P : A → Type 0) (o : Option A) → ((a : A) 
 all_of_option P None h = All-nil P
 all_of_option P (Some a) h = All-cons P a [] (h a refl) (All-nil P)
 
--- so it does of what that refers to
+-- what holds of a reference to an item, if there is one, holds of all references of an option
 pub all_named : (P : Reference → Type 0) (to_kind : ℕ → Reference) (o : Option ℕ) → ((a : ℕ) → o ≡ Some a → P (to_kind a)) → All P (map to_kind (option_to_list o))
 all_named P to_kind o h = All-map P to_kind (option_to_list o) (all_of_option (λ a. P (to_kind a)) o h)
 
--- and of what all items of a list refer to
+-- what holds of a reference to each item of a list holds of all references of the list
 pub all_in : (P : Reference → Type 0) (to_kind : ℕ → Reference) (xs : List ℕ) → ((a : ℕ) → Contains xs a → P (to_kind a)) → All P (map to_kind xs)
 all_in P to_kind xs h = All-map P to_kind xs (λ k d within. h _ (All-contains_itself xs k d within))

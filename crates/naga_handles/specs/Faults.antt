@@ -64,7 +64,7 @@ pub data IsOrderFault (m : Module) : InvalidHandleError → Type 0 where
 abbrev pub plain_references : Function → List Reference
 plain_references f = references_with named_references f
 
--- a reference is to no function
+-- the reference is not to a function
 abbrev pub IsNoFunction : Reference → Type 0
 IsNoFunction (to.Function f) = ⊥
 IsNoFunction (to.Type_ t) = Unit {0}
@@ -108,11 +108,11 @@ text_of_unnamed (AccelerationStructure vertex_return) = codes "Unknown"
 text_of_unnamed (RayQuery vertex_return) = codes "Unknown"
 text_of_unnamed (BindingArray base n) = codes "Unknown"
 
--- the name of a type as such an error says it
+-- the name of a type in the error on a comment that documents a member which the type doesn't have
 abbrev pub display_name : «Type» → List ℕ
 display_name t = unwrap_or t.name (text_of_unnamed t.inner)
 
--- what may be wrong with a module
+-- what may be wrong with the handles of a module
 pub data IsFault (m : Module) : ValidationFault → Type 0 where
   invalid : (e : InvalidHandleError) → IsHandleFault m e → IsFault m (Invalid e)
   missing_member : (t k : ℕ) (lines : List (List ℕ)) (x : «Type») → Contains m.doc_comments.struct_members ((t, k), lines) → slice_get m.types t ≡ Some x

@@ -49,7 +49,7 @@ pub record IsOrder (g : GlobalLists) (order : List Item) : Type 0 where
   pub expressions : (e : ℕ) → e < length g.expressions → slice_get order (rank_of_expression g e) ≡ Some (item.Expression e)
   pub long : length order ≡ length g.types + length g.expressions
 
--- a fault of types and global expressions
+-- the fault is one of types and global expressions
 abbrev pub NamesOrderFault : Module → ValidationFault → Type 0
 NamesOrderFault m (Invalid e) = IsOrderFault m e
 NamesOrderFault m (MissingMember t name) = ⊥

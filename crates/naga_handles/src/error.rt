@@ -70,7 +70,7 @@ impl From<BadRangeError> for InvalidHandleError {
     }
 }
 
-/// An item that depends on one of its own kind which doesn't precede it.
+/// An item that depends on another item of its kind, which doesn't precede it.
 #[derive(Clone, Debug, PartialEq, Drop, Error)]
 #[error("[{subject}] of kind \"{subject_kind}\" depends on [{depends_on}] of kind {depends_on_kind}, which has not been processed yet")]
 pub struct FwdDepError {
@@ -78,9 +78,9 @@ pub struct FwdDepError {
     subject: usize,
     /// The name of its kind.
     subject_kind: StaticText,
-    /// The index of what it depends on.
+    /// The index of the item that it depends on.
     depends_on: usize,
-    /// The name of the kind of that.
+    /// The name of the kind of the item that it depends on.
     depends_on_kind: StaticText,
 }
 
@@ -116,14 +116,14 @@ impl FwdDepError {
         self.subject_kind.as_str()
     }
 
-    /// The index of what it depends on.
+    /// The index of the item that it depends on.
     pub fn depends_on(&self) -> usize
         ensures { result ≡ self.now.depends_on }
     {
         self.depends_on
     }
 
-    /// The name of the kind of that.
+    /// The name of the kind of the item that it depends on.
     pub fn depends_on_kind(&self) -> &'static str
         ensures { result.now ≡ self.now.depends_on_kind }
     {

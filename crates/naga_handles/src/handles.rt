@@ -200,7 +200,8 @@ fn refuse_expression(
     validate_expression_handles(scope, handle, expression)
 }
 
-/// Whether the handles of an expression are right. Of the first check only this is kept, and not an error.
+/// Whether the handles of an expression are right. The error of the first check isn't kept: for the one expression that
+/// is refused, `refuse_expression` makes it again, out of line.
 #[inline(always)]
 fn validate_next_expression(
     scope: &Scope,
@@ -283,6 +284,7 @@ fn validate_body(scope: &Scope, function: &Function) -> Result<(), InvalidHandle
 fn validate_function_handles(scope: &Scope, function: &Function) -> Result<(), InvalidHandleError>
     ensures { ChecksEach IsResult (function_checks scope.now.counts scope.now.caller function.now) result }
 {
+    // The order is naga's, and decides which of several faults is reported.
     validate_signature(scope, function)?;
     validate_locals(scope, function)?;
     validate_expressions(scope, function)?;
@@ -341,7 +343,7 @@ fn validate_entry_point_handles(
 {
     let scope = Scope::of_function(module, None, &entry_point.function);
     validate_function_handles(&scope, &entry_point.function)?;
-    // The expressions that are left are global, so those of the function are out of scope.
+    // The expressions that are left are global, so the expressions of the function are out of scope.
     validate_stage(&Scope::of_module(module), entry_point)
 }
 
@@ -462,6 +464,7 @@ fn validate_items(module: &Module) -> Result<(), InvalidHandleError>
     ensures { ChecksEach IsResult (module_checks «module».now) result }
 {
     let scope = Scope::of_module(module);
+    // The order of these groups is naga's, and decides which of several faults is reported.
     validate_valued(&scope, module)?;
     validate_code(module)?;
     validate_special_types(&scope, &module.special_types)?;

@@ -141,7 +141,7 @@ pub(crate) struct Walker {
     reader: Reader,
     /// How many global expressions were visited: those before the first whose references aren't right.
     visited: usize,
-    /// Why the references of that expression aren't right.
+    /// Why the references of the first expression that wasn't visited aren't right.
     kept: Option<InvalidHandleError>,
     /// The greatest type that the visited expressions name.
     greatest: Option<Handle<TypeTag>>,

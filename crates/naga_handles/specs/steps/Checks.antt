@@ -15,12 +15,12 @@ abbrev pub Precedes : Counts → Option Reference → Reference → Type 0
 Precedes n None r = Exists n r
 Precedes n (Some s) r = place_of r < place_of s
 
--- the error if it doesn't
+-- the error if the reference `r` doesn't precede its subject, or doesn't exist if it has none
 abbrev pub fault_of : Option Reference → Reference → InvalidHandleError
 fault_of None r = missing r
 fault_of (Some s) r = forward s r
 
--- a reference precedes its subject, or exists if it has none; else the error says so
+-- `result` is `Ok` if the reference `r` precedes its subject, or exists if it has none, and else the error
 abbrev pub IsCheckResult : Counts → Subjects → Reference → Result (Unit {0}) InvalidHandleError → Type 0
 IsCheckResult n subjects r result = MatchResult result (λ _. Precedes n (subjects r) r) (λ e. (Precedes n (subjects r) r → ⊥) × (e ≡ fault_of (subjects r) r))
 

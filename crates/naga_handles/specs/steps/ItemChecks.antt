@@ -29,15 +29,15 @@ pub record Check : Type 0 where
   pub subject : Option Reference
   pub target : Reference
 
--- the reference precedes its subject, or exists if it has none
+-- the reference that `l` checks precedes its subject, or exists if it has none
 abbrev pub Passes : Check → Type 0
 Passes l = Precedes l.there l.subject l.target
 
--- the result of the check
+-- `result` is the result of the check `l`
 abbrev pub IsResult : Check → Result (Unit {0}) InvalidHandleError → Type 0
 IsResult l result = IsCheckResult l.there (λ r. l.subject) l.target result
 
--- the same for an operand of the expression of an index, which it has to precede
+-- `result` is the result of checking that the operand of index `o` precedes the expression of index `e`
 abbrev pub IsOperandResult : ℕ → ℕ → Result (Unit {0}) InvalidHandleError → Type 0
 IsOperandResult e o result = MatchResult result (λ _. o < e) (λ error. (o < e → ⊥) × (error ≡ forward (to.Expression e) (to.Expression o)))
 
@@ -98,7 +98,8 @@ documented_references d =
     ++ (map (λ (c : ℕ × List (List ℕ)). to.Constant c.0) d.constants
     ++ map (λ (c : ℕ × List (List ℕ)). to.GlobalVariable c.0) d.global_variables))
 
--- all of them, with the checks of special types and of what comments document
+-- the checks of a module, in their order: what constants, overrides and variables refer to, entry points and functions,
+-- special types, filters, and what comments document
 abbrev pub module_checks : Module → List Check
 module_checks m =
     let plain = checks (module_counts m) (of_function None) in
@@ -108,12 +109,12 @@ module_checks m =
     ++ (all_filter_checks m
     ++ plain (documented_references m.doc_comments))))
 
--- the result of checking the index of an entry point
+-- `result` is the result of checking that `place` is the index of an entry point
 abbrev pub IsEntryPointResult : Module → ℕ → Result (Unit {0}) InvalidHandleError → Type 0
 IsEntryPointResult m place result =
     MatchResult result (λ _. place < length m.entry_points) (λ e. (place < length m.entry_points → ⊥) × (e ≡ BadHandle (record { kind = codes "EntryPoint"; index = place })))
 
--- a type is a struct with a member of this index
+-- the type `x` is a struct with a member of index `index`
 abbrev pub HasMember : «Type» → ℕ → Type 0
 HasMember x index = (members : List StructMember) × (span : ℕ) × (x.inner ≡ Struct members span) × (index < length members)
 
@@ -123,6 +124,6 @@ NoMember m place fault =
     ((length m.types ≤ place.0) × (fault ≡ Invalid (missing (to.Type_ place.0))))
     ⊎ ((x : «Type») × (slice_get m.types place.0 ≡ Some x) × (MemberExists m.types place → ⊥) × ((fault ≡ OutOfMemory) ⊎ (fault ≡ MissingMember place.0 (display_name x))))
 
--- the result of checking a member
+-- `result` is the result of checking that the type of index `place.0` has a member of index `place.1`
 abbrev pub IsMemberResult : Module → ℕ × ℕ → Result (Unit {0}) ValidationFault → Type 0
 IsMemberResult m place result = MatchResult result (λ _. MemberExists m.types place) (NoMember m place)

@@ -23,11 +23,11 @@ use Rattle.naga_handles.specs.declared.order.Item.{Item}
 use Rattle.naga_handles.specs.declared.order.Item.TheVariants as item
 use Rattle.naga_handles.specs.declared.walk.Walker.{Walker}
 
--- all these indices are less than this one
+-- each of `others` is less than `place`
 unfoldable pub AllBefore : ℕ → List ℕ → Type 0
 AllBefore place others = (p : ℕ) → Contains others p → p < place
 
--- one of these indices isn't less than this one, and the error says so
+-- one of `others` isn't less than `place`, and `error` names both
 abbrev pub NamesLate : (ℕ → Reference) → ℕ → List ℕ → InvalidHandleError → Type 0
 NamesLate at place others error = (p : ℕ) × Contains others p × (place ≤ p) × (error ≡ forward (at place) (at p))
 
@@ -58,7 +58,7 @@ pub record ExpressionOk (m : Module) (e : ℕ) (x : Expression) : Type 0 where
   pub operands_before : AllBefore e (operands x)
   pub item : ItemOk m e x
 
--- this is the greatest type that the expressions before c name, if they name any
+-- `greatest` is the greatest type that the expressions before c name, if they name any
 pub record IsGreatest (g : GlobalLists) (c : ℕ) (greatest : Option ℕ) : Type 0 where
   pub covers : (e u : ℕ) → e < c → NamesType g e u → u < reach greatest
   pub named : (u : ℕ) → greatest ≡ Some u → (e : ℕ) × (e < c) × NamesType g e u
@@ -103,6 +103,6 @@ pub record Placed (g : GlobalLists) (order : List Item) (t c : ℕ) : Type 0 whe
 abbrev pub PlacesUpTo : List Item → List Item → ℕ → ℕ → Type 0
 PlacesUpTo old new from to = (g : GlobalLists) (t : ℕ) → Placed g old t from → ((e : ℕ) → from ≤ e → e < to → gate g e ≡ t) → Placed g new t to
 
--- memory was refused, or the fault is one of a type or global expression
+-- `fault` is that memory was refused, or a fault of a type or global expression
 abbrev pub IsNoOrder : Module → ValidationFault → Type 0
 IsNoOrder m fault = (fault ≡ OutOfMemory) ⊎ NamesOrderFault m fault
