@@ -38,7 +38,7 @@ module _ (m : Module) (x : Expression) (earlier : List TypeResolution) (can : Ca
   pub constant_exists : (c : ℕ) → x ≡ expression.Constant c → c < length m.constants
   constant_exists c e = All-contains InSight (expression_references x) (to.Constant c) can.references (item_in x (to.Constant c) (constant_named c e))
 
-  -- and so does the override
+  -- the override that the expression names exists
   pub override_exists : (o : ℕ) → x ≡ expression.Override o → o < length m.overrides
   override_exists o e = All-contains InSight (expression_references x) (to.Override o) can.references (item_in x (to.Override o) (override_named o e))
 
@@ -46,7 +46,7 @@ module _ (m : Module) (x : Expression) (earlier : List TypeResolution) (can : Ca
   unfolding named_item
   variable_named v e = ap named_item e
 
-  -- and so does the global variable
+  -- the global variable that the expression names exists
   pub global_variable_exists : (v : ℕ) → x ≡ expression.GlobalVariable v → v < length m.global_variables
   global_variable_exists v e = All-contains InSight (expression_references x) (to.GlobalVariable v) can.references (item_in x (to.GlobalVariable v) (variable_named v e))
 
@@ -54,7 +54,7 @@ module _ (m : Module) (x : Expression) (earlier : List TypeResolution) (can : Ca
   unfolding named_item
   function_named f e = ap named_item e
 
-  -- and so does the function
+  -- the function whose result the expression is exists
   pub function_exists : (f : ℕ) → x ≡ expression.CallResult f → f < length m.functions
   function_exists f e = All-contains InSight (expression_references x) (to.Function f) can.references (item_in x (to.Function f) (function_named f e))
 
@@ -133,7 +133,7 @@ global_expression_in_sight m handles n x at =
     in_sight m (length m.global_expressions) n 0 x (of_one P m.global_expressions n x all at)
     (λ o names. handles.back _ _ (among_globals _ _ (operand n o x at names)))
 
--- and so with an expression of a function
+-- everything that an expression of a function refers to exists, each operand among the expressions before it
 pub function_expression_in_sight : (m : Module) (f : Function) → ExpressionReferencesOk m f → (n : ℕ) (x : Expression) → slice_get f.expressions n ≡ Some x
     → All (Exists (counts_in_sight m n (length f.local_variables))) (expression_references x)
 function_expression_in_sight m f ok n x at =

@@ -40,7 +40,7 @@ sized_by_array : (base : ℕ) (size : ArraySize) (stride : ℕ) → size_overrid
 unfolding size_override
 sized_by_array base size stride = refl
 
--- and so does the one that sizes an array
+-- the override that sizes an array exists
 pub array_override_exists : (g : GlobalLists) (inner : TypeInner) (base : ℕ) (size : ArraySize) (stride : ℕ) → ReferencesExist g inner → inner ≡ Array base size stride → IfSome (pending size) (λ o. o < length g.overrides)
 array_override_exists g inner base size stride there e =
     subst (λ o. IfSome o (λ o. o < length g.overrides)) (ap size_override e ∙ sized_by_array base size stride) (size_override_exists g inner there)
@@ -49,7 +49,7 @@ sized_by_binding_array : (base : ℕ) (size : ArraySize) → size_override (Bind
 unfolding size_override
 sized_by_binding_array base size = refl
 
--- and the one that sizes an array or a binding array
+-- the override that sizes an array or a binding array exists
 pub sizing_override_exists : (g : GlobalLists) (inner : TypeInner) (size : ArraySize) (o : ℕ) → ReferencesExist g inner
     → ((base : ℕ) × (stride : ℕ) × (inner ≡ Array base size stride)) ⊎ ((base : ℕ) × (inner ≡ BindingArray base size)) → size ≡ Pending o → o < length g.overrides
 sizing_override_exists g inner size o there form e =

@@ -33,15 +33,15 @@ module _ (m : Module) (items : List Expression) where
 
   -- of the expressions that are left, the next
   module _ (earlier : List TypeResolution) (left : List (ℕ × Expression)) (n : ℕ) (x : Expression) (more : List (ℕ × Expression)) (r : Typed earlier left) (e : left ≡ (n, x) ∷ more) where
-    -- its index is the number of the expressions so far
+    -- the index of the next expression is the number of the expressions so far
     pub next_place : n ≡ length earlier
     next_place = next_index accepts_all items (length earlier) left n x more r.iterating e
 
-    -- it is the one of that index
+    -- the next expression is the one whose index is the number of the expressions so far
     pub next_there : slice_get items (length earlier) ≡ Some x
     next_there = ap (slice_get items) (sym next_place) ∙ next_item accepts_all items (length earlier) left n x more r.iterating e
 
-    -- and its type is one more
+    -- with the type of the next expression one more expression has a type
     pub one_typed : (found : TypeResolution) (now : List TypeResolution) → ResolutionExists (global_lists m) found → IsProperResolution found → now ≡ earlier ++ found ∷ [] → Typed now more
     one_typed found now exists proper same = subst (λ l. Typed l more) (sym same) (record {
       iterating = subst (λ k. Iterating accepts_all items k more) (sym (length-append earlier (found ∷ []))) (one_more accepts_all items (length earlier) left n x more r.iterating e refl);
@@ -52,7 +52,7 @@ module _ (m : Module) (items : List Expression) where
     })
 
 module _ (m : Module) where
-  -- the same of the global expressions
+  -- `Typed` of the global expressions of a module
   abbrev pub Resolved : List TypeResolution → List (ℕ × Expression) → Type 0
   Resolved earlier left = Typed m m.global_expressions earlier left
 
@@ -71,7 +71,7 @@ module _ (m : Module) where
     pub there : slice_get m.global_expressions n ≡ Some x
     there = ap (slice_get m.global_expressions) index ∙ next_there m m.global_expressions earlier left n x more r e
 
-    -- it can be resolved
+    -- the next global expression can be resolved
     pub can_resolve_next : CanResolve m x earlier
     can_resolve_next = record {
       handles = handles;
@@ -81,7 +81,7 @@ module _ (m : Module) where
       earlier_proper = r.proper;
     }
 
-    -- and its type is one more
+    -- with the type of the next global expression one more has a type
     pub one_resolved : (resolves : Resolves) → IsLawful resolves → (found : TypeResolution) (now : List TypeResolution) → resolves m x earlier ≡ Ok found → now ≡ earlier ++ found ∷ [] → Resolved now more
     one_resolved resolves laws found now is same =
         one_typed m m.global_expressions earlier left n x more r e found now (laws.exist m x earlier found can_resolve_next is) (laws.proper m x earlier found can_resolve_next is) same

@@ -65,7 +65,7 @@ module _ (g : GlobalLists) (elements_of : Elements) (t : ℕ) (inner : TypeInner
       → leaf_at g elements_of t (i ∷ path) ≡ Some (moved part.first own)
   leaf-from_part i path part own is_part is_own = leaf-in_part i path ∙ ap (leaf_of_part g elements_of path) is_part ∙ ap (option_map (moved part.first)) is_own
 
-  -- and there are no others
+  -- each leaf of the whole is a leaf of a part
   pub leaf-by_part : (i : ℕ) (path : List ℕ) (leaf : LeafBytes) → leaf_at g elements_of t (i ∷ path) ≡ Some leaf → LeafOfPart g elements_of inner i path leaf
   leaf-by_part i path leaf h = by_part (part_at elements_of inner i) refl (sym (leaf-in_part i path) ∙ h)
     where
@@ -90,11 +90,11 @@ leaf-form g elements_of t path leaf h = by (inner_at g t) refl
 pub leaf-whole : (g : GlobalLists) (inner : TypeInner) → is_leaf inner ≡ true → whole_leaf g inner ≡ Some (all_of g inner)
 leaf-whole g inner e = ap (λ b. if b then Some (all_of g inner) else None) e
 
--- and any other is none
+-- a type that is not a leaf has no leaf of all its bytes
 pub leaf-not_whole : (g : GlobalLists) (inner : TypeInner) → is_leaf inner ≡ false → whole_leaf g inner ≡ None
 leaf-not_whole g inner e = ap (λ b. if b then Some (all_of g inner) else None) e
 
--- so a leaf that a type is has all its bytes
+-- a leaf that a type is has all bytes of the type
 pub leaf-is_whole : (g : GlobalLists) (inner : TypeInner) (leaf : LeafBytes) → whole_leaf g inner ≡ Some leaf → (is_leaf inner ≡ true) × (leaf ≡ all_of g inner)
 leaf-is_whole g inner leaf h = by (is_leaf inner) refl
   where
@@ -112,7 +112,7 @@ leaf-no_part elements_of _ i e = refl
 pub array-has_part : (elements_of : Elements) (base : ℕ) (size : ArraySize) (stride i : ℕ) → i < elements_of size → part_at elements_of (Array base size stride) i ≡ Some (element_part base stride i)
 array-has_part elements_of base size stride i within = ap (λ b. if b then Some (element_part base stride i) else None) (lt-ltb i (elements_of size) within)
 
--- and no other part
+-- an array has no other part
 pub array-part : (elements_of : Elements) (base : ℕ) (size : ArraySize) (stride i : ℕ) (part : Part) → part_at elements_of (Array base size stride) i ≡ Some part
     → (i < elements_of size) × (part ≡ element_part base stride i)
 array-part elements_of base size stride i part h = by (ltb i (elements_of size)) refl h
@@ -136,7 +136,7 @@ struct-part elements_of members span i part h = by (slice_get members i) refl h
         impossible : None ≡ Some part → ⊥
         impossible e = cc e
 
--- and each member is one
+-- each member of a struct is a part
 pub struct-has_part : (elements_of : Elements) (members : List StructMember) (span i : ℕ) (m : StructMember) → slice_get members i ≡ Some m → part_at elements_of (Struct members span) i ≡ Some (member_part m)
 struct-has_part elements_of members span i m at = ap (option_map member_part) at
 

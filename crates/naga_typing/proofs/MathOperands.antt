@@ -6,7 +6,7 @@ use Rattle.naga_ir.specs.declared.expression.Expression.{Expression}
 use Rattle.naga_ir.specs.declared.expression.Expression.TheVariants as form
 use Rattle.naga_ir.specs.declared.expression.MathFunction.{MathFunction}
 
--- it holds of the first argument, and of each further one that is given
+-- `P` holds of the first argument, and of each further one that is given
 pub record OfArguments (P : ℕ → Type 0) (arg : ℕ) (arg1 arg2 arg3 : Option ℕ) : Type 0 where
   pub first : P arg
   pub second : IfSome arg1 P
@@ -17,7 +17,7 @@ if_given : (P : ℕ → Type 0) (o : Option ℕ) → All P (option_to_list o) �
 if_given P None all = tt
 if_given P (Some e) all = all 0 e (omega arith)
 
--- so it does if it holds of all operands
+-- `P` holds of the arguments if it holds of all operands
 pub of_arguments : (P : ℕ → Type 0) (x : Expression) (fun : MathFunction) (arg : ℕ) (arg1 arg2 arg3 : Option ℕ) → All P (operands x) → x ≡ form.Math fun arg arg1 arg2 arg3 → OfArguments P arg arg1 arg2 arg3
 unfolding operands
 of_arguments P x fun arg arg1 arg2 arg3 all e =

@@ -8,7 +8,7 @@ use Rattle.naga_ir.specs.declared.types.TypeInner.TheVariants.{Array, Struct}
 use Rattle.naga_typing.specs.Leaves.{IsInside, inner_at, is_leaf, itself, element, member}
 
 module _ (g : GlobalLists) where
-  -- it holds of all types inside a type
+  -- `P` holds of all types inside the type of index `t`
   abbrev pub AllInside : (ℕ → Type 0) → ℕ → Type 0
   AllInside P t = (u : ℕ) → IsInside g t u → P u
 

@@ -42,7 +42,7 @@ vector = Vector Quad (record { kind = Float; width = 4 })
 abbrev member : ℕ → ℕ → StructMember
 member ty offset = record { name = None; ty = ty; binding = None; offset = offset }
 
--- as many elements, and one more
+-- the size of an array of `n + 1` elements
 abbrev one_and : ℕ → ArraySize
 one_and n = Constant (record { value = suc n; ok = zero-lt-suc n })
 
@@ -66,16 +66,16 @@ HasNoOther g n t leaves = (path : List ℕ) (leaf : LeafBytes) → leaf_at g (el
 abbrev padded : GlobalLists
 padded = of_types (number ∷ vector ∷ Struct (member 0 0 ∷ member 1 16 ∷ []) 32 ∷ [])
 
--- its leaves
+-- the leaves of the number and the vector
 abbrev padded_leaves : Leaves
 padded_leaves = (0 ∷ [], bytes 0 4 4) ∷ (1 ∷ [], bytes 16 16 16) ∷ []
 
--- it has these leaves
+-- the number and the vector have these leaves
 pub padded-leaves : (n : ℕ) → HasLeaves padded n 2 padded_leaves
 unfolding leaf_at
 padded-leaves n = refl
 
--- and no other
+-- the number and the vector have no other leaf
 pub padded-no_other : (n : ℕ) → HasNoOther padded n 2 padded_leaves
 unfolding leaf_at
 padded-no_other n [] leaf h = cc h
@@ -85,7 +85,7 @@ padded-no_other n (zero ∷ j ∷ path) leaf h = cc h
 padded-no_other n (suc zero ∷ j ∷ path) leaf h = cc h
 padded-no_other n (suc (suc i) ∷ path) leaf h = cc h
 
--- it has no short stride, since it has no array inside
+-- the number and the vector have no short stride, since no array is inside
 pub padded-has_no_short_stride : HasNoShortStride padded 2
 padded-has_no_short_stride zero base size stride inside is = cc is
 padded-has_no_short_stride (suc zero) base size stride inside is = cc is
@@ -96,16 +96,16 @@ padded-has_no_short_stride (suc (suc (suc u))) base size stride inside is = cc i
 abbrev open_ended : GlobalLists
 open_ended = of_types (number ∷ vector ∷ Array 1 Dynamic 16 ∷ Struct (member 0 0 ∷ member 2 16 ∷ []) 32 ∷ [])
 
--- its leaves if there are three
+-- the leaves of the number and the vectors, if there are three
 abbrev open_leaves : Leaves
 open_leaves = (0 ∷ [], bytes 0 4 4) ∷ (1 ∷ 0 ∷ [], bytes 16 16 16) ∷ (1 ∷ 1 ∷ [], bytes 32 16 16) ∷ (1 ∷ 2 ∷ [], bytes 48 16 16) ∷ []
 
--- it has these leaves
+-- the number and three vectors have these leaves
 pub open-leaves : HasLeaves open_ended 3 3 open_leaves
 unfolding leaf_at
 open-leaves = refl
 
--- and no other
+-- the number and three vectors have no other leaf
 pub open-no_other : HasNoOther open_ended 3 3 open_leaves
 unfolding leaf_at
 open-no_other [] leaf h = cc h
@@ -156,7 +156,7 @@ pub sized-leaves : (n : ℕ) → HasLeaves sized_by n 1 sized_leaves
 unfolding leaf_at
 sized-leaves n = refl
 
--- and no other
+-- the array that an override sizes has no other leaf
 pub sized-no_other : (n : ℕ) → HasNoOther sized_by n 1 sized_leaves
 unfolding leaf_at
 sized-no_other n [] leaf h = cc h
@@ -168,17 +168,17 @@ sized-no_other n (suc zero ∷ j ∷ path) leaf h = cc h
 sized-no_other n (suc (suc zero) ∷ j ∷ path) leaf h = cc h
 sized-no_other n (suc (suc (suc i)) ∷ path) leaf h = no-leaf leaf (sym (leaf-past_end sized_by (elements sized_by n) 1 0 (Pending 0) 16 (suc (suc (suc i))) path refl (omega arith)) ∙ h)
 
--- the same if the override has no initialiser
+-- numbers, as many as an override without an initialiser says
 abbrev unsized : GlobalLists
 unsized = record sized_by { overrides = record { name = None; id = None; ty = 0; init = None } ∷ [] }
 
--- there is no leaf
+-- an array whose override has no initialiser has no leaf
 pub unsized-no_leaves : (n : ℕ) → HasNoOther unsized n 1 []
 unfolding leaf_at
 unsized-no_leaves n [] leaf h = cc h
 unsized-no_leaves n (i ∷ path) leaf h = no-leaf leaf (sym (leaf-past_end unsized (elements unsized n) 1 0 (Pending 0) 16 i path refl (omega arith)) ∙ h)
 
--- as its leaves see it, its alignment is the alignment of the one element that it would have
+-- the leaf alignment of the array is the alignment of the one element that it would have
 pub unsized-alignment : IsLeafAlignment unsized 1 4
 unsized-alignment = alignment-of_array unsized 1 0 (Pending 0) 16 4 refl (alignment-of_leaf unsized 0 number refl refl)
 
@@ -191,7 +191,7 @@ pub crowded-leaves : (n : ℕ) → HasLeaves crowded n 1 ((0 ∷ [], bytes 0 4 4
 unfolding leaf_at
 crowded-leaves n = refl
 
--- its stride is short
+-- the stride of the two numbers in one place is short
 pub crowded-has_a_short_stride : HasNoShortStride crowded 1 → ⊥
 crowded-has_a_short_stride none = omega (arith, none 1 0 (one_and 1) 0 itself refl)
 
@@ -208,7 +208,7 @@ matrices-leaves n = refl
 abbrev nested : GlobalLists
 nested = of_types (number ∷ vector ∷ Struct (member 0 0 ∷ member 0 4 ∷ []) 8 ∷ Struct (member 1 0 ∷ member 2 16 ∷ member 2 24 ∷ []) 32 ∷ [])
 
--- its leaves
+-- the leaves of the struct that is twice in another
 abbrev nested_leaves : Leaves
 nested_leaves =
     (0 ∷ [], bytes 0 16 16) ∷ (1 ∷ 0 ∷ [], bytes 16 4 4) ∷ (1 ∷ 1 ∷ [], bytes 20 4 4) ∷ (2 ∷ 0 ∷ [], bytes 24 4 4) ∷ (2 ∷ 1 ∷ [], bytes 28 4 4) ∷ []
@@ -222,7 +222,7 @@ nested-leaves n = refl
 abbrev rows : GlobalLists
 rows = of_types (number ∷ Array 0 (one_and 2) 4 ∷ Array 1 (one_and 1) 16 ∷ [])
 
--- its leaves, row by row
+-- the leaves of two arrays of three numbers, row by row
 abbrev row_leaves : Leaves
 row_leaves =
     (0 ∷ 0 ∷ [], bytes 0 4 4) ∷ (0 ∷ 1 ∷ [], bytes 4 4 4) ∷ (0 ∷ 2 ∷ [], bytes 8 4 4)

@@ -67,7 +67,8 @@ abbrev pub member_pointer : AddressSpace → Option StructMember → ResolveResu
 member_pointer space None = Err IncompatibleOperands
 member_pointer space (Some m) = Ok (Value (Pointer m.ty space))
 
--- a pointer to such a part of what a pointer in a space points to: to the member of a constant index, a vector's scalar, a matrix's column, or the base of an array or of a binding array
+-- a pointer to a part, at a constant index or at one that is computed, of what a pointer in a space points to: to the
+-- member of a constant index, a vector's scalar, a matrix's column, or the base of an array or of a binding array
 abbrev pub part_pointer : Option ℕ → AddressSpace → TypeInner → ResolveResult
 part_pointer index space (Struct members span) = member_pointer space (option_and_then (slice_get members) index)
 part_pointer index space (Vector size scalar) = Ok (Value (ValuePointer None scalar space))
@@ -185,7 +186,7 @@ abbrev pub sample_of : Option SwizzleComponent → ImageClass → ResolveResult
 sample_of None class = texel_of class
 sample_of (Some component) class = gathered_of class
 
--- such a sample of an image
+-- a texel of an image, or what is gathered if a component is given; other types don't fit
 abbrev pub sample_in : Option SwizzleComponent → TypeInner → ResolveResult
 sample_in gather inner = of_image (image_parts inner) (λ dim class. sample_of gather class)
 

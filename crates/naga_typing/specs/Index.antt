@@ -53,7 +53,7 @@ resolved_length g (size.Constant n) = Ok (Known n.value)
 resolved_length g (size.Pending o) = length_of_count (override_count g o)
 resolved_length g size.Dynamic = Ok Dynamic
 
--- the length of arrays by their sizes: one of these two
+-- the length of arrays by their sizes: `pending_length`, or `resolved_length` by some lists
 abbrev pub LengthOfArray : Type 0
 LengthOfArray = ArraySize → Result IndexableLength IndexableLengthError
 

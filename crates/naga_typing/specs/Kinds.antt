@@ -65,11 +65,11 @@ kind_of kinds (expression.SubgroupOperationResult ty) = Runtime
 kind_of kinds (expression.CooperativeLoad pointer stride) = Runtime
 kind_of kinds (expression.CooperativeMultiplyAdd a b c) = Runtime
 
--- this as a rule in order, which refuses no expression
+-- `kind_of` as a rule in order, which refuses no expression
 abbrev pub kind_in_order : RuleInOrder Expression ExpressionKind ⊥
 kind_in_order before e x = Ok (kind_of before x)
 
--- these are the kinds of expressions, each by the kinds of those before it
+-- `kinds` are the kinds of the expressions `xs`, each by the kinds of those before it
 abbrev pub AreKinds : List Expression → List ExpressionKind → Type 0
 AreKinds xs kinds = AllAcceptedInOrder kind_in_order xs kinds
 

@@ -91,13 +91,14 @@ leaf_at g elements_of t (i ∷ path) =
 abbrev pub ShareNoByte : LeafBytes → LeafBytes → Type 0
 ShareNoByte a b = (end_of a ≤ b.first) ⊎ (end_of b ≤ a.first)
 
--- the leaves of a type, if a runtime-sized array has `n` elements, are aligned, end by a byte, and share none
+-- the leaves of the type of index `t`, if a runtime-sized array has `n` elements, are aligned, end by byte `limit`, and
+-- share no byte
 pub record AreSeparate (g : GlobalLists) (n t limit : ℕ) : Type 0 where
   pub aligned : (path : List ℕ) (leaf : LeafBytes) → leaf_at g (elements g n) t path ≡ Some leaf → leaf.first % leaf.alignment ≡ 0
   pub contained : (path : List ℕ) (leaf : LeafBytes) → leaf_at g (elements g n) t path ≡ Some leaf → end_of leaf ≤ limit
   pub disjoint : (path path′ : List ℕ) (leaf leaf′ : LeafBytes) → path ≢ path′ → leaf_at g (elements g n) t path ≡ Some leaf → leaf_at g (elements g n) t path′ ≡ Some leaf′ → ShareNoByte leaf leaf′
 
--- a type stands inside another: the other itself, or at any depth an element or a member of it
+-- a type is inside the type of index `t`: it is that type itself, or at any depth an element or a member of it
 pub data IsInside (g : GlobalLists) (t : ℕ) : ℕ → Type 0 where
   itself : IsInside g t t
   element : (u base : ℕ) (size : ArraySize) (stride : ℕ) → IsInside g t u → inner_at g u ≡ Some (Array base size stride) → IsInside g t base
@@ -107,20 +108,21 @@ pub data IsInside (g : GlobalLists) (t : ℕ) : ℕ → Type 0 where
 abbrev pub size_at_index : GlobalLists → ℕ → ℕ
 size_at_index g t = unwrap_or (option_map (size_of g) (inner_at g t)) 0
 
--- no array inside a type has a stride below the size of its elements
+-- no array inside the type of index `t` has a stride below the size of its elements
 abbrev pub HasNoShortStride : GlobalLists → ℕ → Type 0
 HasNoShortStride g t = (u base : ℕ) (size : ArraySize) (stride : ℕ) → IsInside g t u → inner_at g u ≡ Some (Array base size stride) → size_at_index g base ≤ stride
 
--- a type is a runtime-sized array of this stride, or a struct that ends in one, which begins at this byte
+-- the type of index `t` is a runtime-sized array, or a struct that ends in one: the array begins at the first number,
+-- and its stride is the second one
 pub data EndsInArray (g : GlobalLists) (t : ℕ) : ℕ → ℕ → Type 0 where
   array : (base stride : ℕ) → inner_at g t ≡ Some (Array base Dynamic stride) → EndsInArray g t 0 stride
   last_member : (front : List StructMember) (m : StructMember) (span base stride : ℕ) → inner_at g t ≡ Some (Struct (front ++ m ∷ []) span) → inner_at g m.ty ≡ Some (Array base Dynamic stride) → EndsInArray g t m.offset stride
 
--- every array counts as one of one element
+-- every array has one element
 abbrev pub one_each : Elements
 one_each size = 1
 
--- the alignment of a type as its leaves see it: the greatest of those that it has if every array is read with one element
+-- `alignment` is the greatest alignment of a leaf of the type of index `t`, if every array has one element
 pub record IsLeafAlignment (g : GlobalLists) (t alignment : ℕ) : Type 0 where
   pub path : List ℕ
   pub leaf : LeafBytes

@@ -39,7 +39,7 @@ matrix_parts (AccelerationStructure vertex_return) = None
 matrix_parts (RayQuery vertex_return) = None
 matrix_parts (BindingArray base size) = None
 
--- the scalar or vector of these
+-- the scalar, or the vector of it if there is a size
 abbrev pub of_components : Option VectorSize × ScalarType → TypeInner
 of_components (None, scalar) = Scalar scalar
 of_components (Some size, scalar) = Vector size scalar
@@ -56,7 +56,7 @@ f32_scalar = record { kind = Float; width = 4 }
 abbrev pub any_size : Option VectorSize → Boolean
 any_size size = true
 
--- the three components of a vector
+-- the size of a vector of three components
 abbrev pub is_three : Option VectorSize → Boolean
 is_three (Some Tri) = true
 is_three (Some Bi) = false
@@ -87,7 +87,7 @@ scalar_of_first first inner = option_map_or (λ scalar. same (Scalar scalar) inn
 abbrev pub same_or_scalar : TypeInner → TypeInner → Boolean
 same_or_scalar first inner = same first inner || scalar_of_first first inner
 
--- a type is this one, whatever the first is
+-- `inner` is `wanted`, whatever `first` is
 abbrev pub exactly : TypeInner → TypeInner → TypeInner → Boolean
 exactly wanted first inner = same wanted inner
 
@@ -204,7 +204,7 @@ signature math.Unpack2x16float = record (unary (same (Scalar u32_scalar))) { res
 abbrev pub each_ok : List (TypeInner → TypeInner → Boolean) → TypeInner → List TypeInner → Boolean
 each_ok rules first further = list_all (λ pair. pair.0 first pair.1) (zip rules further)
 
--- so it is, and there are at most as many arguments as rules
+-- each further argument is as its rule says, by the first, and there are at most as many of them as `rules`
 abbrev pub takes_each : List (TypeInner → TypeInner → Boolean) → TypeInner → List TypeInner → Boolean
 takes_each rules first further = leb (length further) (length rules) && each_ok rules first further
 
@@ -213,7 +213,7 @@ abbrev pub takes : Signature → List TypeInner → Boolean
 takes s [] = true
 takes s (first ∷ further) = s.first first && takes_each s.further first further
 
--- the same of a function by its name
+-- the function `fun` takes arguments of these types, which may be the first of several
 abbrev pub accepts : MathFunction → List TypeInner → Boolean
 accepts fun types = takes (signature fun) types
 

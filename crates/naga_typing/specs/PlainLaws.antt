@@ -46,7 +46,7 @@ IsLawfulResult g (Err IncompatibleOperands) = ⊤
 IsLawfulResult g (Err NotResolvable) = ⊤
 IsLawfulResult g (Err OutOfMemory) = ⊥
 
--- a type keeps them as the result
+-- the type `inner` as a result keeps the laws
 abbrev IsLawfulForm : GlobalLists → TypeInner → Type 0
 IsLawfulForm g inner = IsLawfulResult g (Ok (Value inner))
 
@@ -239,7 +239,7 @@ module _ (m : Module) (x : Expression) (earlier : List TypeResolution) (can : Ca
   pub lawful_named : (t : ℕ) → named_type x ≡ Some t → IsLawfulResult g (Ok (Handle t))
   lawful_named t e = (All-contains (Exists (counts_in_sight m (length earlier) can.local_variables)) (expression_references x) (to.Type_ t) can.references (type_in x t e), tt)
 
--- so does each result of `PlainTyping`
+-- each result of `PlainTyping` keeps the laws
 pub lawful : (m : Module) (x : Expression) (earlier : List TypeResolution) → CanResolve m x earlier → IsLawfulResult (global_lists m) (plain_resolves m x earlier)
 unfolding plain_resolves named_type
 lawful m (form.Literal value) earlier can = of_scalar (global_lists m) _

@@ -148,7 +148,7 @@ bools_of (BindingArray base size) = Err IncompatibleOperands
 abbrev pub cast_scalar : ScalarKind → Option ℕ → ScalarType → ScalarType
 cast_scalar kind convert scalar = record { kind = kind; width = unwrap_or convert scalar.width }
 
--- a scalar, vector or matrix converted so
+-- a scalar, vector or matrix converted to `kind`, and to the width `convert` if one is given
 abbrev pub cast_of : ScalarKind → Option ℕ → TypeInner → ResolveResult
 cast_of kind convert (Scalar scalar) = Ok (Value (Scalar (cast_scalar kind convert scalar)))
 cast_of kind convert (Vector size scalar) = Ok (Value (Vector size (cast_scalar kind convert scalar)))

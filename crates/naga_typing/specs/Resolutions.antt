@@ -92,7 +92,7 @@ abbrev pub pointer_to_found : ℕ → AddressSpace → Option TypeInner → Type
 pointer_to_found base space None = form.Pointer base space
 pointer_to_found base space (Some x) = pointer_to base space x
 
--- a type as it is compared: pointers as above, and other types as they are
+-- a type as it is compared: pointers as `pointer_to_found` says, and other types as they are
 abbrev pub canonical : List «Type» → TypeInner → TypeInner
 canonical types (form.Pointer base space) = pointer_to_found base space (inner_in types (Handle base))
 canonical types (form.Scalar scalar) = form.Scalar scalar
@@ -109,14 +109,15 @@ canonical types (form.AccelerationStructure vertex_return) = form.AccelerationSt
 canonical types (form.RayQuery vertex_return) = form.RayQuery vertex_return
 canonical types (form.BindingArray base size) = form.BindingArray base size
 
--- two resolutions are the same handle
+-- `lhs` and `rhs` are the same handle
 abbrev pub AreOneHandle : TypeResolution → TypeResolution → Type 0
 AreOneHandle lhs rhs = (t : ℕ) × (lhs ≡ Handle t) × (rhs ≡ Handle t)
 
--- two types are the same: structs if they have the same handle, other types if they are equal as they are compared
+-- `x` and `y`, the types of `lhs` and `rhs`, are the same: structs if they have the same handle, other types if they
+-- are equal as they are compared
 abbrev pub AreSameInners : List «Type» → TypeResolution → TypeResolution → TypeInner → TypeInner → Type 0
 AreSameInners types lhs rhs x y = (IsStruct x × IsStruct y × AreOneHandle lhs rhs) ⊎ (IsNoStruct x × IsNoStruct y × (canonical types x ≡ canonical types y))
 
--- two resolutions are of the same type
+-- `lhs` and `rhs` are of the same type
 abbrev pub AreSameTypes : List «Type» → TypeResolution → TypeResolution → Type 0
 AreSameTypes types lhs rhs = (x : TypeInner) × (y : TypeInner) × (inner_in types lhs ≡ Some x) × (inner_in types rhs ≡ Some y) × AreSameInners types lhs rhs x y

@@ -44,15 +44,16 @@ IsPushResult rule old new result = UnlessOutOfMemory (λ e. e ≡ OutOfMemory) r
 abbrev pub Resolves : Type 0
 Resolves = Module → Expression → List TypeResolution → Result TypeResolution ResolveError
 
--- this as a rule in order
+-- `resolves` as a rule in order
 abbrev pub resolve_in_order : Resolves → Module → RuleInOrder Expression TypeResolution ResolveError
 resolve_in_order resolves m before e x = resolves m x before
 
--- each global expression of a module has its type, by the types of those before it
+-- `resolutions` are the types of the global expressions of `m`, each by the types of those before it
 abbrev pub AreResolved : Resolves → Module → List TypeResolution → Type 0
 AreResolved resolves m resolutions = AllAcceptedInOrder (resolve_in_order resolves m) m.global_expressions resolutions
 
--- the laws of typings: an expression with a declared type has that type, a literal its scalar type and a splat of a scalar the vector type; everything that a type refers to exists, and the type is proper; and out of memory is never meant
+-- the laws of typings: an expression with a declared type has that type, a literal its scalar type and a splat of a
+-- scalar the vector type; everything that a type refers to exists, and the type is proper; no error is `OutOfMemory`
 pub record IsLawful (resolves : Resolves) : Type 0 where
   pub literals : (m : Module) (value : Value) (earlier : List TypeResolution) → resolves m (form.Literal value) earlier ≡ Ok (resolution.Value (Scalar (literal_scalar value)))
   pub constants : (m : Module) (c : ℕ) (d : Constant) (earlier : List TypeResolution) → slice_get m.constants c ≡ Some d → resolves m (form.Constant c) earlier ≡ Ok (resolution.Handle d.ty)

@@ -27,12 +27,12 @@ use std::alloc::Global;
 
 /// A typing that supports all variants whose types follow from a module and from their operands.
 ///
-/// Where operands alone decide, it resolves what `PlainTyping` does, except that a scalar times a
+/// Where the operands decide the type, it resolves what `PlainTyping` does, except that a scalar times a
 /// cooperative matrix has the type of the matrix, and that a matrix which is converted keeps its kind and
 /// changes only its width. It also supports
 ///
-/// - variables of the module, which are pointers to their types, or of those types themselves in the
-///   address space `Handle`;
+/// - variables of the module, whose types are pointers to the declared types, or in the address space
+///   `Handle` the declared types themselves;
 /// - parts of what pointers point to, which are pointers in the same address space, and elements of
 ///   binding arrays;
 /// - loads, of an atomic as its scalar;
@@ -46,8 +46,7 @@ use std::alloc::Global;
 /// number without meaning here; results of ray queries in a module without the special type; and
 /// results of functions without one. `resolve` takes no memory, and `push_type` only for the list.
 ///
-/// It goes as naga's typifier (`proc/typifier.rs`) does. Mathematical functions are those of
-/// `PlainTyping`.
+/// It follows naga's typifier (`proc/typifier.rs`). It has the mathematical functions of `PlainTyping`.
 #[derive(Clone, Copy, Debug, PartialEq, Eq)]
 pub struct FullTyping;
 

@@ -32,7 +32,7 @@ pub const MAX_TYPE_SIZE: u32 = 2_147_483_647;
 /// The size and the alignment of the values of a type: naga's `TypeLayout`.
 #[derive(Clone, Copy, Debug, PartialEq, Eq)]
 pub struct TypeLayout {
-    /// In bytes.
+    /// The size of a value, in bytes.
     pub size: u32,
     /// The address of a value is a multiple of this many bytes.
     pub alignment: Alignment,

@@ -59,11 +59,11 @@ enum FurtherArgument {
 /// Which type the result has: naga's `ConclusionRule`.
 #[derive(Clone, Copy)]
 enum ConclusionRule {
-    /// That of the first argument.
+    /// The type of the first argument.
     ArgumentType,
-    /// That of its scalar.
+    /// The type of the scalar of the first argument.
     ScalarOfArgument,
-    /// That of the matrix whose columns are its rows.
+    /// The type of a matrix whose columns are the rows of the first argument.
     Transposed,
     /// A vector of two `F32`.
     TwoF32,
@@ -283,7 +283,7 @@ impl ConclusionRule {
     }
 }
 
-/// Whether each further argument of a function is as it takes it, and there are no more than it takes.
+/// Whether `rules` allow the type of each further argument, and there are at most as many arguments as rules.
 fn takes_each(rules: &[FurtherArgument], first: &TypeInner, further: &[&TypeInner]) -> bool
     ensures { result ≡ spec.takes_each (map takes_further rules.now) first.now (map (λ t. t.now) further.now) }
 {

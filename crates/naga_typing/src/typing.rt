@@ -49,7 +49,7 @@ pub trait Typing: Drop {
     ///
     /// # Errors
     ///
-    /// Those of `resolve`, and `OutOfMemory` if memory was refused for the list. They change nothing.
+    /// The errors of `resolve`, and `OutOfMemory` if memory was refused for the list. They leave the list as it was.
     fn push_type(
         &self,
         alloc: Global,

@@ -6,6 +6,6 @@ use Rattle.naga_typing.proofs.index.pointed_form.Given as goal
 abbrev pub invariant-loop-inner : goal.invariant-loop-inner
 invariant-loop-inner l = Following (lists_of l.gctx) l.fn.inner l.inner
 
--- and each leads further back
+-- each pointer leads further back
 abbrev pub decreases-loop-inner : goal.decreases-loop-inner
 decreases-loop-inner l = pointers_left l.inner
