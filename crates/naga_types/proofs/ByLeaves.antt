@@ -45,7 +45,7 @@ module _ (g : GlobalLists) where
         impossible : is_leaf inner ≡ false → ⊥
         impossible e = cc (e, one)
 
-    -- and no struct is an array
+    -- a struct is not an array
     pub struct-no_array : {P : Type 0} (members : List StructMember) (span base : ℕ) (size : ArraySize) (stride : ℕ) → inner_at g t ≡ Some (Struct members span) → inner_at g t ≡ Some (Array base size stride) → P
     struct-no_array members span base size stride at is = absurd (impossible at is)
       where
@@ -56,7 +56,7 @@ module _ (g : GlobalLists) where
     pub same-members : (members ms : List StructMember) (span n : ℕ) → inner_at g t ≡ Some (Struct members span) → inner_at g t ≡ Some (Struct ms n) → members ≡ ms
     same-members members ms span n p q = cc (p, q)
 
-    -- and no other span
+    -- a struct has no other span
     pub same-span : (members ms : List StructMember) (span n : ℕ) → inner_at g t ≡ Some (Struct members span) → inner_at g t ≡ Some (Struct ms n) → span ≡ n
     same-span members ms span n p q = cc (p, q)
 
@@ -64,7 +64,7 @@ module _ (g : GlobalLists) where
     pub same-base : (base b : ℕ) (size s : ArraySize) (stride d : ℕ) → inner_at g t ≡ Some (Array base size stride) → inner_at g t ≡ Some (Array b s d) → base ≡ b
     same-base base b size s stride d p q = cc (p, q)
 
-    -- and no other stride
+    -- an array has no other stride
     pub same-stride : (base b : ℕ) (size s : ArraySize) (stride d : ℕ) → inner_at g t ≡ Some (Array base size stride) → inner_at g t ≡ Some (Array b s d) → stride ≡ d
     same-stride base b size s stride d p q = cc (p, q)
 

@@ -153,7 +153,7 @@ module _ (w : CheckedTypes) where
     pub own_form : inner_at w.lists t ≡ Some j.ty.inner
     own_form = ap (option_map (λ (ty : «Type»). ty.inner)) j.at
 
-    -- and no other is
+    -- no other `TypeInner` is the type's
     pub form_is : (inner : TypeInner) → inner_at w.lists t ≡ Some inner → j.ty.inner ≡ inner
     form_is inner form = same_Some j.ty.inner inner (sym own_form ∙ form)
 
@@ -165,11 +165,11 @@ module _ (w : CheckedTypes) where
     laid_out_at : slice_get w.layouts t ≡ Some (layout_of w.lists w.layouts j.ty)
     laid_out_at = layout_by_parts w.lists w.layouts w.laid_out w.references t j.ty j.at
 
-    -- so its alignment is too
+    -- the alignment of a type is the alignment of its `TypeInner`
     pub alignment_is : (inner : TypeInner) → inner_at w.lists t ≡ Some inner → alignment_of_type t ≡ alignment_of w.layouts inner
     alignment_is inner form = ap alignment_in laid_out_at ∙ ap (alignment_of w.layouts) (form_is inner form)
 
-    -- and so is its size
+    -- the size of a type is the size of its `TypeInner`
     pub size_is : size_at known t ≡ size_at_index w.lists t
     size_is = size_laid_out w.lists w.layouts w.laid_out w.references t j.ty j.at
 
@@ -177,12 +177,12 @@ module _ (w : CheckedTypes) where
     pub parts_before : (p : ℕ) → Contains (parts j.ty.inner) p → p < t
     parts_before p names = parts_come_before w.lists w.references t j.ty p j.at names
 
-    -- so does the base of an array
+    -- the base of an array comes before it
     pub base_before : (base : ℕ) (size : ArraySize) (stride : ℕ) → inner_at w.lists t ≡ Some (Array base size stride) → base < t
     base_before base size stride form =
         base_is (λ p. p < t) j.ty.inner base size stride parts_before (form_is (Array base size stride) form)
 
-    -- and so does the type of each member of a struct
+    -- the type of each member of a struct comes before it
     pub member_before : (members : List StructMember) (span k : ℕ) (m : StructMember) → inner_at w.lists t ≡ Some (Struct members span) → slice_get members k ≡ Some m → m.ty < t
     member_before members span k m form there =
         all_at (λ (m : StructMember). m.ty < t) members k m

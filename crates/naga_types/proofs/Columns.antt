@@ -72,7 +72,7 @@ pub record Seen {A : Type 0} (infos : Infos) (column : WithRoom A) : Type 0 wher
   pub long : length column.items ≡ length infos.infos
   pub room : infos.room ≤ column.room
 
--- the same of each column
+-- what infos say of all their columns: each is as long, and has at least their room
 pub record ColumnsSeen (infos : Infos) (flags : WithRoom TypeFlags) (uniform storage : WithRoom (Result ℕ (ℕ × Disalignment))) (immediates : WithRoom (Result (Unit {0}) ImmediateError)) : Type 0 where
   pub flags_seen : Seen infos flags
   pub uniform_seen : Seen infos uniform

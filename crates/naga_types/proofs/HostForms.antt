@@ -56,7 +56,7 @@ pointers_lack space = by (is_argument_space space)
     by true = refl
     by false = refl
 
--- and neither are binding arrays
+-- binding arrays are not data
 binding_arrays_lack : (size : ArraySize) → has (binding_array_flags size) data_for_hosts ≡ false
 binding_arrays_lack (Constant n) = refl
 binding_arrays_lack (Pending o) = refl

@@ -39,7 +39,7 @@ constant-only (Constant n) h = (n, refl)
 constant-only (Pending o) h = absurd (true≢false (sym h))
 constant-only Dynamic h = absurd (true≢false (sym h))
 
--- and each of these may be
+-- each array of a constant size may be constructible
 constant-may : (size : ArraySize) → IsConstantSize size → has (array_flags size) CONSTRUCTIBLE ≡ true
 constant-may size constant = ap (λ (x : ArraySize). has (array_flags x) CONSTRUCTIBLE) constant.1
 
@@ -64,11 +64,11 @@ module _ (m : Module) (capabilities : Capabilities) (resolved : Bool) (layouts :
   pub host-alignments_inside : IsForHosts info → HaveLeafAlignments g t
   host-alignments_inside for_hosts = leaf-alignments_inside w t (within, for_hosts_too for_hosts)
 
-  -- it has a storage layout exactly if its leaves are aligned so
+  -- data that hosts may share has a storage layout exactly if its leaves are aligned as `HasStorageByLeaves` says
   pub host-storage : IsForHosts info → HasStorageByLeaves g t info
   host-storage for_hosts = subst (HasStorageByLeaves g t) same (storage-by_leaves w t within (for_hosts_too for_hosts))
 
-  -- and a uniform layout exactly if they are laid out so
+  -- data that hosts may share has a uniform layout exactly if its leaves are laid out as `HasUniformByLeaves` says
   pub host-uniform : IsForHosts info → HasUniformByLeaves g infos t info
   host-uniform for_hosts = subst (HasUniformByLeaves g infos t) same (uniform-by_leaves w t within (for_hosts_too for_hosts))
 
@@ -102,7 +102,7 @@ module _ (m : Module) (capabilities : Capabilities) (resolved : Bool) (layouts :
     each_member : IsConstructible info → All (λ (p : StructMember). IsConstructibleAt infos p.ty) members
     each_member h = all-of (λ (p : StructMember). IsConstructibleAt infos p.ty) members (λ p in_list. struct-flags members span p CONSTRUCTIBLE is in_list refl h)
 
-    -- and a struct of such members is constructible
+    -- a struct of constructible members is constructible
     whole_struct : All (λ (p : StructMember). IsConstructibleAt infos p.ty) members → IsConstructible info
     whole_struct h =
         let given : struct_info known_here t members span ≡ info_of w t = granted-value _ (struct_info known_here t members span) (info_of w t) (rule_is w t judged_here (Struct members span) is) in
@@ -127,13 +127,13 @@ module _ (m : Module) (capabilities : Capabilities) (resolved : Bool) (layouts :
         let given : array_info known_here t base size stride ≡ info_of w t = array_info_is known_here t base size stride (info_of w t) (rule_is w t judged_here (Array base size stride) is) in
         sym (ap (λ (x : TypeInfo). has x.flags.0 CONSTRUCTIBLE) (given ∙ same)) ∙ has-bit_and (flags_at known_here base) (array_flags size) CONSTRUCTIBLE
 
-    -- so it has a constant size and constructible elements
+    -- a constructible array has a constant size and constructible elements
     both_parts : IsConstructible info → IsConstantSize size × IsConstructibleAt infos base
     both_parts h =
         let both = and_parts (has (flags_at known_here base) CONSTRUCTIBLE) (has (array_flags size) CONSTRUCTIBLE) (sym array_is ∙ h) in
         (constant-only size both.1, sym base_is ∙ both.0)
 
-    -- and an array with both is constructible
+    -- an array with a constant size and constructible elements is constructible
     whole_array : IsConstantSize size × IsConstructibleAt infos base → IsConstructible info
     whole_array h = array_is ∙ and_from (has (flags_at known_here base) CONSTRUCTIBLE) (has (array_flags size) CONSTRUCTIBLE) (base_is ∙ h.1) (constant-may size h.0)
 

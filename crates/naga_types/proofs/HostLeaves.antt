@@ -60,7 +60,7 @@ module _ (w : CheckedTypes) (t : ℕ) where
   is_host flags hosts h =
       (slice_get_within w.infos t h.info h.info_is, ap (λ o. has (info_in o).flags.0 data_for_hosts) h.info_is ∙ has-trans h.info.flags.0 flags data_for_hosts h.has_flags hosts)
 
-  -- and is shared with them
+  -- what is laid out for hosts is shared with them
   shared : (n flags : ℕ) → has flags data_for_hosts ≡ true → IsLaidOutForHosts w.lists w.infos t flags → Shared n t
   shared n flags hosts h =
       let host = is_host flags hosts h in
@@ -91,7 +91,7 @@ module _ (w : CheckedTypes) (t : ℕ) where
       let divides = leaves_aligned w.lists (elements w.lists n) (Shared n) (Limit n) (alignment_at w.layouts) (all_placed w n) path t leaf (shared n data_for_hosts refl h) at in
       mod-eq-zero_of_dvd leaf.alignment (dvd_trans leaf.alignment divides.0 multiple)
 
-  -- so do its layouts
+  -- the layouts of what is laid out for hosts align its leaves
   layouts_align : (h : IsLaidOutForHosts w.lists w.infos t data_for_hosts) → IfOk h.info.uniform_layout (AlignsLeaves w.lists t) × IfOk h.info.storage_layout (AlignsLeaves w.lists t)
   layouts_align h =
       let host = is_host data_for_hosts refl h in (
@@ -104,7 +104,7 @@ module _ (w : CheckedTypes) (t : ℕ) where
   sized_info : (h : IsLaidOutForHosts w.lists w.infos t sized_for_hosts) → has (info_in (slice_get w.infos t)).flags.0 SIZED ≡ true
   sized_info h = ap (λ (o : Option TypeInfo). has (info_in o).flags.0 SIZED) h.info_is ∙ has-trans h.info.flags.0 sized_for_hosts SIZED h.has_flags refl
 
-  -- so are the leaves of each type that keeps its rule
+  -- the leaves of each type that keeps its rule are separate
   pub leaves_of_checked : LeavesAreSeparate w.lists w.infos t
   leaves_of_checked = record {
     layouts = layouts_align;
@@ -140,7 +140,7 @@ leaves_of_result ctx g t (Ok info) references laid_out first_error_or exists sai
     let is : rule ≡ Ok info = ⊎_elim (λ (e : Ok info ≡ rule). sym e) (λ (h : (Ok info ≡ Err OutOfMemory) × NeedsMemory rule). cc (h.0)) returned in
     leaves_of_next (lists_of g) ctx.capabilities ctx.overrides_resolved ctx.layouter.now ctx.infos.now.infos t found.0 info references laid_out first_error_or before found.1 is
 
--- and so are the leaves of each type of a module whose types are accepted
+-- the leaves of each type of a module whose types are accepted are separate
 pub leaves_of_accepted : (m : Module) (capabilities : Capabilities) (resolved : Bool) (layouts : List TypeLayout) (infos : List TypeInfo) → AreTypesAccepted m capabilities resolved layouts infos
     → AllLeavesAreSeparate (global_lists m) infos
 leaves_of_accepted m capabilities resolved layouts infos accepted = leaves_of_checked (accepted_types m capabilities resolved layouts infos accepted)

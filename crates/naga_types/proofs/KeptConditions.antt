@@ -12,7 +12,7 @@ pub granted-value : {A E : Type 0} (o : Option E) (a b : A) → ok_unless o a �
 granted-value None a b h = cc h
 granted-value (Some e) a b h = cc h
 
--- and no condition is broken
+-- what is granted breaks no condition
 pub granted-none : {A E : Type 0} (o : Option E) (a b : A) → ok_unless o a ≡ Ok b → o ≡ None
 granted-none None a b h = refl
 granted-none (Some e) a b h = cc h
@@ -101,7 +101,7 @@ module _ {X E : Type 0} (f : ℕ × X → Option E) where
   pub first-none : (xs : List X) → NoneAt xs → first (map f (enumerate_from 0 xs)) ≡ None
   first-none xs none = first_none 0 xs (from_start xs none)
 
-  -- and only then
+  -- no item has a value if the first value among those of all items is none
   pub none-first : (xs : List X) → first (map f (enumerate_from 0 xs)) ≡ None → NoneAt xs
   none-first xs h = by_place xs (none_first 0 xs h)
 
@@ -109,6 +109,6 @@ module _ {X E : Type 0} (f : ℕ × X → Option E) where
   pub last-none : (xs : List X) → NoneAt xs → last (map f (enumerate_from 0 xs)) ≡ None
   last-none xs none = last_none 0 xs (from_start xs none)
 
-  -- and only then
+  -- no item has a value if the last value among those of all items is none
   pub none-last : (xs : List X) → last (map f (enumerate_from 0 xs)) ≡ None → NoneAt xs
   none-last xs h = by_place xs (none_last 0 xs h)

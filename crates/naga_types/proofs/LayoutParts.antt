@@ -37,7 +37,7 @@ module _ (handle least stride : ℕ) where
       let kept = granted_ok (require (stride % max b least == 0) _) (max b least) a h in
       record { base = b; base_is = refl; is = kept.1; aligned = eqb-true (stride % max b least) 0 (unless-kept (stride % max b least == 0) _ kept.0) }
 
-  -- and one with such a base and stride has this
+  -- an array has the alignment `max b least` if its base has the alignment `b` and its stride is a multiple of it
   pub array-layout_is : (l : Layout) (b : ℕ) → l ≡ Ok b → stride % max b least ≡ 0 → array_layout handle least stride l ≡ Ok (max b least)
   array-layout_is l b is multiple =
       ap (array_layout handle least stride) is
@@ -63,7 +63,7 @@ module _ (s : Surroundings) (layout : TypeInfo → Layout) (t : ℕ) where
       let multiple = at_multiple k m.offset (layout (info_at s m.ty)) both.1 in
       record { shareable = unless-kept (has (flags_at s m.ty) HOST_SHAREABLE) _ both.0; alignment = multiple.0; is_alignment = multiple.1; aligned = multiple.2 }
 
-  -- and none fails if they are
+  -- no member fails if all are aligned
   pub none_fails_if_aligned : (members : List StructMember) → ((k : ℕ) (m : StructMember) → slice_get members k ≡ Some m → MemberIsAligned s layout m) → first (member_layout_errors s layout t members) ≡ None
   none_fails_if_aligned members each = first-none (member_layout_error s layout t) members (λ k m at.
       let one = each k m at in
@@ -82,11 +82,11 @@ module _ (s : Surroundings) (t : ℕ) (members : List StructMember) (span : ℕ)
   abbrev pub IsWhole : Type 0
   IsWhole = span % alignment_at s.layouts t ≡ 0
 
-  -- it is so if there is no error of the span
+  -- the span is a multiple of the alignment if there is no error of the span
   pub span-whole : span_error s t span ≡ None → IsWhole
   span-whole none = eqb-true (span % alignment_at s.layouts t) 0 (unless-kept (span % alignment_at s.layouts t == 0) (t, StructSpan span (alignment_at s.layouts t)) none)
 
-  -- and if it is so there is none
+  -- there is no error of the span if it is a multiple of the alignment
   pub span-kept : IsWhole → span_error s t span ≡ None
   span-kept whole = ap (λ b. require b (t, StructSpan span (alignment_at s.layouts t))) (eq-eqb (span % alignment_at s.layouts t) 0 whole)
 
@@ -98,7 +98,7 @@ module _ (s : Surroundings) (t : ℕ) (members : List StructMember) (span : ℕ)
       let both = neither (span_error s t span) (option_or members_fail None) (granted-none failure (greatest_alignment s in_storage members) a h) in
       (span-whole both.0, (neither members_fail None both.1).0, granted-value failure (greatest_alignment s in_storage members) a h)
 
-  -- and when there is one
+  -- when a struct has a storage layout, and which
   pub storage-layout_is : IsWhole → first (member_layout_errors s in_storage t members) ≡ None → storage_layout_of s t members span ≡ Ok (greatest_alignment s in_storage members)
   storage-layout_is whole none =
       ap (λ o. ok_unless (first (o ∷ first (member_layout_errors s in_storage t members) ∷ [])) (greatest_alignment s in_storage members)) (span-kept whole)

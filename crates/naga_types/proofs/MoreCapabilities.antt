@@ -104,7 +104,7 @@ module _ (s : Surroundings) (more : ℕ) (contained : has more s.capabilities �
   type-more t (form.BindingArray base size) i is = is
 
 module _ (m : Module) (less more : Capabilities) (contained : has more.0 less.0 ≡ true) (resolved : Bool) (layouts : List TypeLayout) where
-  -- so all types are accepted, with the same infos
+  -- all types are accepted by more capabilities, with the same infos
   pub types-more : (infos : List TypeInfo) → AreTypesAccepted m less resolved layouts infos → AreTypesAccepted m more resolved layouts infos
   types-more infos h = record {
     laid_out = h.laid_out;

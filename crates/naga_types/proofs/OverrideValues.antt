@@ -18,7 +18,7 @@ type_unresolved s t (form.Array base size stride) i is =
 type_unresolved s t _ i is = is
 
 module _ (m : Module) (capabilities : Capabilities) (layouts : List TypeLayout) where
-  -- so all types are accepted, with the same infos
+  -- all types are accepted if overrides needn't have their values, with the same infos
   pub unresolved : (infos : List TypeInfo) → AreTypesAccepted m capabilities true layouts infos → AreTypesAccepted m capabilities false layouts infos
   unresolved infos h = record {
     laid_out = h.laid_out;

@@ -14,10 +14,10 @@ module _ (g : GlobalLists) (ok : GlobalReferencesOk g) (t : ℕ) (ty : «Type»)
   pub before : (p : ℕ) → Contains (parts ty.inner) p → p < t
   before p stands = parts_come_before g ok t ty p at stands
 
-  -- what a pointer leads to stands before it
+  -- the base of a pointer precedes it
   pub pointer_base_before : (base : ℕ) (space : AddressSpace) → ty.inner ≡ Pointer base space → base < t
   pointer_base_before base space e = before base (subst (λ i. Contains (parts i) base) (sym e) (parts_of_pointer base space))
 
-  -- and so do the elements of a binding array
+  -- the base of a binding array precedes it
   pub binding_array_base_before : (base : ℕ) (size : ArraySize) → ty.inner ≡ BindingArray base size → base < t
   binding_array_base_before base size e = before base (subst (λ i. Contains (parts i) base) (sym e) (parts_of_binding_array base size))

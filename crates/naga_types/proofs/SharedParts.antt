@@ -107,7 +107,7 @@ module _ (w : CheckedTypes) (n : ℕ) where
     all_aligned : AllInside w.lists (IsStorageAligned w.lists) t
     all_aligned = ((storage-exactly w t shared.host.0 shared.host.1).if_there (al t) shared.layout).1
 
-    -- and are shared with hosts
+    -- all types inside it are shared with hosts
     part_shared : (p : ℕ) → IsInside w.lists t p → IsShared p
     part_shared p i =
         let host = inside w t p i shared.host in

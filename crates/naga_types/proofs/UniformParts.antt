@@ -37,7 +37,7 @@ module _ (s : Surroundings) (t : ℕ) (members : List StructMember) (span : ℕ)
   pub sizes-fixed : first (unsized_errors s t members) ≡ None → (i : ℕ) (m : StructMember) → slice_get members i ≡ Some m → has (flags_at s m.ty) SIZED ≡ true
   sizes-fixed none i m at = unless-kept (has (flags_at s m.ty) SIZED) (t, UnsizedMember (saturated i)) (none-first (unsized_error s t) members none i m at)
 
-  -- and if they have there is none
+  -- there is no error of the members' sizes if all have fixed sizes
   pub sizes-kept : ((i : ℕ) (m : StructMember) → slice_get members i ≡ Some m → has (flags_at s m.ty) SIZED ≡ true) → first (unsized_errors s t members) ≡ None
   sizes-kept all = first-none (unsized_error s t) members (λ i m at. ap (λ b. require b (t, UnsizedMember (saturated i))) (all i m at))
 
@@ -46,7 +46,7 @@ module _ (s : Surroundings) (t : ℕ) (members : List StructMember) (span : ℕ)
   RoomIsLeft = (i : ℕ) (m next : StructMember) (inside : List StructMember) (room : ℕ) → slice_get members i ≡ Some m → slice_get members (suc i) ≡ Some next → inner_at s.lists m.ty ≡ Some (Struct inside room)
       → m.offset + rounded_up room ≤ next.offset
 
-  -- it does if there is no error of such a member
+  -- a member after a struct begins after its room if there is no error of such a member
   pub rooms-left : last_padding_error s t members ≡ None → RoomIsLeft
   rooms-left none i m next inside room m_at next_at is =
       let kept : end_after_struct_before s members (suc i) ≤ next.offset = leb-true (end_after_struct_before s members (suc i)) next.offset
@@ -68,7 +68,7 @@ module _ (s : Surroundings) (t : ℕ) (members : List StructMember) (span : ℕ)
       by_member None none = omega arith
       by_member (Some p) p_at = by_form p p_at (form_at s p.ty) refl
 
-  -- and if it does there is none
+  -- there is no error of a member after a struct if each begins after the room of the struct
   pub rooms-kept : RoomIsLeft → last_padding_error s t members ≡ None
   rooms-kept left = last-none (padding_error s t members) members
       (λ i m at. ap (λ b. require b (t, MemberOffsetAfterStruct (saturated i) m.offset (saturated (end_after_struct_before s members i)))) (le-leb (end_after_struct_before s members i) m.offset (room_kept left i m at)))
@@ -95,7 +95,7 @@ module _ (s : Surroundings) (t : ℕ) (members : List StructMember) (span : ℕ)
         granted-value failure (max (greatest_alignment s in_uniform members) min_uniform) a h,
       )
 
-  -- and when there is one
+  -- when a struct has a uniform layout, and which
   pub uniform-layout_is : UniformKept → uniform_layout_of s t members span ≡ Ok (max (greatest_alignment s in_uniform members) min_uniform)
   uniform-layout_is kept =
       let alignment : ℕ = max (greatest_alignment s in_uniform members) min_uniform in

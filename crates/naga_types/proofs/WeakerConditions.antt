@@ -20,12 +20,12 @@ pub require-weaker : {E : Type 0} (strict lax : Bool) (error : E) → (strict �
 require-weaker true lax error holds none = ap (λ b. require b error) (holds refl)
 require-weaker false lax error holds none = cc none
 
--- so is a condition that is only asked for in some cases
+-- a condition that is only required in some cases is weaker if it is weaker there
 pub when-weaker : {E : Type 0} (asked : Bool) (strict lax : Option E) → Weaker strict lax → Weaker (when asked strict) (when asked lax)
 when-weaker true strict lax weaker none = weaker none
 when-weaker false strict lax weaker none = refl
 
--- and one of two, by a case
+-- one of two conditions, by a case, is weaker if both are
 pub if-weaker : {E : Type 0} (case : Bool) (strict lax other_strict other_lax : Option E) → Weaker strict lax → Weaker other_strict other_lax
     → Weaker (if case then strict else other_strict) (if case then lax else other_lax)
 if-weaker true strict lax other_strict other_lax weaker other none = weaker none
@@ -60,7 +60,7 @@ pub granted-too : {A E : Type 0} (strict lax : Option E) (value result : A) → 
 granted-too None lax value result weaker granted = ap (λ o. ok_unless o value) (weaker refl) ∙ granted
 granted-too (Some error) lax value result weaker granted = cc granted
 
--- so is what passes all of some conditions
+-- what passes all of some conditions passes all of weaker ones
 pub passed-too : {A E : Type 0} (stricts laxes : List (Option E)) (value result : A) → AllWeaker stricts laxes → first_error_or stricts value ≡ Ok result → first_error_or laxes value ≡ Ok result
 passed-too stricts laxes value result weaker = granted-too (first stricts) (first laxes) value result (first-weaker stricts laxes weaker)
 

@@ -20,7 +20,7 @@ use Rattle.naga_typing.specs.declared.layouter.TypeLayout.{TypeLayout}
 abbrev pub rule_at : Surroundings → ℕ → Option (Result TypeInfo TypeError)
 rule_at s t = option_map (type_rule s t) (form_at s t)
 
--- a module's handles are right, and these are the layouts of its types
+-- the handles of `m` are right, and `layouts` are the layouts of its types
 pub record IsLaidOut (m : Module) (layouts : List TypeLayout) : Type 0 where
   pub handles : HandlesAccepted m
   pub each_type : AreLayouts (global_lists m) layouts
@@ -37,15 +37,15 @@ types_by rule g capabilities resolved layouts infos t ty = rule (surroundings_by
 abbrev pub types_rule : GlobalLists → Capabilities → Bool → List TypeLayout → RuleInOrder «Type» TypeInfo TypeError
 types_rule = types_by type_rule
 
--- a module is laid out so, and each of its types keeps `rule`, which gives these infos
+-- the types of `m` have `layouts`, and each keeps `rule`, which gives `infos`
 pub record AreTypesAcceptedBy (rule : TypeRule) (m : Module) (capabilities : Capabilities) (resolved : Bool) (layouts : List TypeLayout) (infos : List TypeInfo) : Type 0 where
   pub laid_out : IsLaidOut m layouts
   pub each_type : AllAcceptedInOrder (types_by rule (global_lists m) capabilities resolved layouts) m.types infos
 
--- a module is laid out so, and each of its types keeps its rule, which gives these infos
+-- the types of a module have these layouts, and each keeps `type_rule`, which gives these infos
 abbrev pub AreTypesAccepted : Module → Capabilities → Bool → List TypeLayout → List TypeInfo → Type 0
 AreTypesAccepted = AreTypesAcceptedBy type_rule
 
--- the types before one are accepted, and these are their infos
+-- the types of `g` before index `t` are accepted, and their infos are in `ctx`
 abbrev pub AreAcceptedBefore : TypeContext → GlobalCtx → ℕ → Type 0
 AreAcceptedBefore ctx g t = AllAcceptedInOrder (types_rule (lists_of g) ctx.capabilities ctx.overrides_resolved ctx.layouter.now) (take t g.types.now) (take t ctx.infos.now.infos)

@@ -7,7 +7,7 @@ abbrev pub first : {A : Type 0} → List (Option A) → Option A
 first [] = None
 first (a ∷ rest) = option_or a (first rest)
 
--- the last value among them
+-- the last value among some options
 abbrev pub last : {A : Type 0} → List (Option A) → Option A
 last [] = None
 last (a ∷ rest) = option_or (last rest) a

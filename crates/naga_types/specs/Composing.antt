@@ -74,11 +74,11 @@ is_vector_of rows scalar (Some (RayQuery vertex_return)) = false
 is_vector_of rows scalar (Some (BindingArray base size)) = false
 is_vector_of rows scalar None = false
 
--- whether a resolution is of a type of the module
+-- whether `r` is of the type of index `t`
 abbrev pub is_of : List «Type» → ℕ → TypeResolution → Boolean
 is_of types t r = are_same types (Handle t) r
 
--- whether it is of the type of a member
+-- whether `r` is of the type of a member, if there is one
 abbrev pub is_of_member : List «Type» → Option StructMember → TypeResolution → Boolean
 is_of_member types (Some m) r = is_of types m.ty r
 is_of_member types None r = false
@@ -95,11 +95,12 @@ first_component_type_error fits given = first (map (component_type_error fits) (
 abbrev pub component_count_error : ℕ → ℕ → Option ComposeError
 component_count_error given expected = require (given == expected) (ComponentCount (saturated given) (saturated expected))
 
--- how many components of a vector these are
+-- how many components of a vector the components `given` make
 abbrev pub all_parts : List «Type» → List TypeResolution → ℕ
 all_parts types given = sum_by (λ r. parts_in (inner_in types r)) given
 
--- the conditions of the components of a type: of a vector first what they are, and then how many, of others first how many
+-- the conditions on the components of a value of type `t`: for a vector their types come first, and then their number;
+-- for all other types the number comes first
 abbrev pub compose_checks : List «Type» → ℕ → Option TypeInner → List TypeResolution → List (Option ComposeError)
 compose_checks types t (Some (Vector size scalar)) given =
     first_component_type_error (λ at. is_part_of scalar (inner_in types at.1)) given ∷ component_count_error (all_parts types given) (components size) ∷ []
@@ -123,7 +124,7 @@ compose_checks types t (Some (RayQuery vertex_return)) given = Some (Type_ t) �
 compose_checks types t (Some (BindingArray base size)) given = Some (Type_ t) ∷ []
 compose_checks types t None given = Some (Type_ t) ∷ []
 
--- whether a type may be composed of components
+-- whether a value of the type of index `t` may be composed of the components `given`, or the error
 abbrev pub compose_rule : List «Type» → ℕ → List TypeResolution → Result (Unit {0}) ComposeError
 compose_rule types t given = first_error_or (compose_checks types t (inner_in types (Handle t)) given) tt
 

@@ -46,7 +46,7 @@ is_bool_type (Some (form.RayQuery vertex_return)) = false
 is_bool_type (Some (form.BindingArray base size)) = false
 is_bool_type None = false
 
--- the type of the old value, if the members are it and whether it was exchanged
+-- the type of the old value, if the members are `old_value` and a bool `exchanged`
 abbrev pub old_value_form : List «Type» → List StructMember → Option TypeInner
 old_value_form types (old ∷ flag ∷ []) =
     when (is_named (codes "old_value") old && (is_named (codes "exchanged") flag && is_bool_type (form_in (slice_get types flag.ty)))) (form_in (slice_get types old.ty))

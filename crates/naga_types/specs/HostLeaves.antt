@@ -7,7 +7,7 @@ use Rattle.naga_types.specs.HostLayouts.{data_for_hosts}
 use Rattle.naga_types.specs.declared.info.TypeInfo.{TypeInfo}
 use Rattle.naga_typing.specs.Leaves.{AreSeparate, EndsInArray, LeafBytes, elements, leaf_at, size_at_index}
 
--- a type has these flags and a layout in one of the address spaces
+-- the type of index `t` has all of `flags`, and a layout in one of the address spaces
 pub record IsLaidOutForHosts (g : GlobalLists) (infos : List TypeInfo) (t flags : ℕ) : Type 0 where
   pub info : TypeInfo
   pub info_is : slice_get infos t ≡ Some info
@@ -22,7 +22,7 @@ sized_for_hosts = union_of (DATA ∷ SIZED ∷ HOST_SHAREABLE ∷ [])
 abbrev pub resolved_for_hosts : ℕ
 resolved_for_hosts = union_of (DATA ∷ CREATION_RESOLVED ∷ HOST_SHAREABLE ∷ [])
 
--- a number is a multiple of the alignment of each leaf of a type
+-- `number` is a multiple of the alignment of each leaf of the type of index `t`
 abbrev pub AlignsLeaves : GlobalLists → ℕ → ℕ → Type 0
 AlignsLeaves g t number = (n : ℕ) (path : List ℕ) (leaf : LeafBytes) → leaf_at g (elements g n) t path ≡ Some leaf → number % leaf.alignment ≡ 0
 

@@ -11,7 +11,7 @@ pub record Infos : Type 0 where
   pub infos : List TypeInfo
   pub room : ℕ
 
--- four columns are equally long
+-- the four columns are equally long
 pub record AreColumns {A B C D : Type 0} (flags : List A) (uniform : List B) (storage : List C) (immediates : List D) : Type 0 where
   pub uniform_long : length uniform ≡ length flags
   pub storage_long : length storage ≡ length flags

@@ -24,7 +24,7 @@ Layout = Result ℕ (ℕ × Disalignment)
 abbrev pub in_uniform : TypeInfo → Layout
 in_uniform info = info.uniform_layout
 
--- and in the storage address space
+-- the layout of a type in the storage address space
 abbrev pub in_storage : TypeInfo → Layout
 in_storage info = info.storage_layout
 
@@ -40,7 +40,7 @@ saturated n = min n largest_u32
 abbrev pub span_error : Surroundings → ℕ → ℕ → Option (ℕ × Disalignment)
 span_error s t span = require (span % alignment_at s.layouts t == 0) (t, StructSpan span (alignment_at s.layouts t))
 
--- the error of a member that does not stand at a multiple of its own alignment, or has none
+-- the error of a member whose type has no layout, or that does not begin at a multiple of the alignment of its type
 abbrev pub offset_error : ℕ → ℕ → ℕ → Layout → Option (ℕ × Disalignment)
 offset_error t i offset (Err e) = Some e
 offset_error t i offset (Ok a) = require (offset % a == 0) (t, MemberOffset (saturated i) offset a)
@@ -52,7 +52,7 @@ member_layout_error s layout t at =
     (require (has (flags_at s at.1.ty) HOST_SHAREABLE) (at.1.ty, NonHostShareable))
     (offset_error t at.0 at.1.offset (layout (info_at s at.1.ty)))
 
--- the failures of all members
+-- for each member, the error if it is not host-shareable, or not aligned
 abbrev pub member_layout_errors : Surroundings → (TypeInfo → Layout) → ℕ → List StructMember → List (Option (ℕ × Disalignment))
 member_layout_errors s layout t members = map (member_layout_error s layout t) (enumerate_from 0 members)
 
@@ -65,7 +65,7 @@ abbrev pub storage_layout_of : Surroundings → ℕ → List StructMember → �
 storage_layout_of s t members span =
     first_error_or (span_error s t span ∷ first (member_layout_errors s in_storage t members) ∷ []) (greatest_alignment s in_storage members)
 
--- the least multiple of that least alignment that is `n` bytes or more
+-- the least multiple of `min_uniform` that is `n` bytes or more
 abbrev pub rounded_up : ℕ → ℕ
 rounded_up n = (n + (min_uniform - 1)) / min_uniform * min_uniform
 
@@ -98,7 +98,7 @@ abbrev pub before : List StructMember → ℕ → Option StructMember
 before members zero = None
 before members (suc i) = slice_get members i
 
--- the first byte that may follow the member before the one at a place, if that is a struct
+-- the first byte that may follow the member before the one at a place, and 0 if no struct is before it
 abbrev pub end_after_struct_before : Surroundings → List StructMember → ℕ → ℕ
 end_after_struct_before s members i = end_after_struct (before members i) (form_of s (before members i))
 
@@ -119,7 +119,8 @@ unsized_error s t at = require (has (flags_at s at.1.ty) SIZED) (t, UnsizedMembe
 abbrev pub unsized_errors : Surroundings → ℕ → List StructMember → List (Option (ℕ × Disalignment))
 unsized_errors s t members = map (unsized_error s t) (enumerate_from 0 members)
 
--- the layout in the uniform address space: the span and all members are aligned, each member after a struct begins after the padded end of the struct, all have fixed sizes, and the alignment is at least the least alignment of structs there
+-- the layout in the uniform address space: the span and all members are aligned, each member after a struct begins
+-- after the padded end of the struct, all have fixed sizes, and the alignment is at least `min_uniform`
 abbrev pub uniform_layout_of : Surroundings → ℕ → List StructMember → ℕ → Layout
 uniform_layout_of s t members span =
     first_error_or

@@ -9,6 +9,6 @@ abbrev pub NeedsMemory : {A : Type 0} → Result A TypeError → Type 0
 NeedsMemory (Err (InvalidDynamicArray (c ∷ name) ty)) = ⊤
 NeedsMemory _ = ⊥
 
--- a call returns what `rule` says, or `OutOfMemory` if that needs memory
+-- a call returns `result`, which is what `rule` says, or `OutOfMemory` if that needs memory
 abbrev pub IsRuleResult : {A : Type 0} → Result A TypeError → Result A TypeError → Type 0
 IsRuleResult rule result = IsResultOf NeedsMemory OutOfMemory rule result

@@ -29,7 +29,7 @@ use Rattle.naga_types.specs.declared.error.TypeError.{TypeError}
 use Rattle.naga_types.specs.declared.error.TypeError.TheVariants.{MissingCapability, InvalidAtomicWidth, InvalidPointerBase, InvalidPointerToUnsized, InvalidData, InvalidArrayBaseType, InvalidArrayStride, MatrixElementNotFloat, UnsupportedImageType, BindingArrayBaseTypeNotStruct, BindingArrayBaseExternalTextures, WidthError, InvalidArraySize}
 use Rattle.naga_types.specs.declared.info.TypeInfo.{TypeInfo}
 
--- a space is `Storage`
+-- the address space is `Storage`
 abbrev pub is_storage : AddressSpace → Boolean
 is_storage (Storage access) = true
 is_storage Function = false
@@ -42,7 +42,7 @@ is_storage TaskPayload = false
 is_storage RayPayload = false
 is_storage IncomingRayPayload = false
 
--- a kind is one of integers
+-- the kind is `Sint` or `Uint`
 abbrev pub is_integer : ScalarKind → Boolean
 is_integer Sint = true
 is_integer Uint = true
@@ -51,7 +51,7 @@ is_integer Bool = false
 is_integer AbstractInt = false
 is_integer AbstractFloat = false
 
--- a kind is one of floating-point numbers
+-- the kind is `Float`
 abbrev pub is_float : ScalarKind → Boolean
 is_float Float = true
 is_float Sint = false
@@ -60,11 +60,11 @@ is_float Bool = false
 is_float AbstractInt = false
 is_float AbstractFloat = false
 
--- the refusal of a type whose capability is missing
+-- the error of a type that needs the capability `flag`, if it is missing
 abbrev pub capability_error : ℕ → ℕ → Option TypeError
 capability_error capabilities flag = require (has capabilities flag) (MissingCapability (record { 0 = flag }))
 
--- the refusal of a scalar whose width is not allowed
+-- the error of a scalar whose width is not allowed
 abbrev pub scalar_error : ℕ → Scalar → Option TypeError
 scalar_error capabilities scalar = require (is_good_width capabilities scalar) (WidthError (width_error scalar))
 
@@ -72,7 +72,8 @@ scalar_error capabilities scalar = require (is_good_width capabilities scalar) (
 abbrev pub of_scalars : ℕ → ℕ → Scalar → TypeInfo
 of_scalars flags alignment scalar = record (shared flags alignment) { immediates_compatibility = immediates_of scalar }
 
--- the error of a scalar that is not allowed in an atomic: allowed are integers of 32 bits, with a capability also those of 64, and with another floating-point numbers of 32
+-- the error of a scalar that is not allowed in an atomic: integers of 32 bits are allowed, integers of 64 bits with
+-- either of two capabilities, and floating-point numbers of 32 bits with another
 abbrev pub atomic_error : ℕ → Scalar → Option TypeError
 atomic_error capabilities s =
     if is_integer s.kind && s.width == width_32 then None
@@ -87,7 +88,8 @@ cooperative_checks capabilities scalar =
     require (is_float scalar.kind && (scalar.width == width_16 || scalar.width == width_32)) MatrixElementNotFloat ∷
     []
 
--- the conditions of a pointer, by what its base may be used for: it is to data, which has a fixed size or stands in a storage buffer
+-- the conditions of a pointer, by what its base may be used for: the base is data, and has a fixed size unless the
+-- address space is `Storage`
 abbrev pub pointer_checks : ℕ → ℕ → AddressSpace → List (Option TypeError)
 pointer_checks flags base space =
     require (has flags DATA) (InvalidPointerBase base) ∷
@@ -100,7 +102,8 @@ has_count g (Pending o) = is_some (override_count g o)
 has_count g (Constant n) = true
 has_count g Dynamic = true
 
--- the layout of an array in an address space: its alignment is the alignment of its base there, and at least `least`, and its stride is a multiple of it
+-- the layout of an array in an address space: its alignment is the greater of `least` and the alignment of its base
+-- there, and its stride is a multiple of it
 abbrev pub array_layout : ℕ → ℕ → ℕ → Layout → Layout
 array_layout handle least stride (Err e) = Err e
 array_layout handle least stride (Ok base) = ok_unless (require (stride % max base least == 0) (handle, ArrayStride stride (max base least))) (max base least)
@@ -125,35 +128,36 @@ array_info s handle base size stride =
       immediates_compatibility = info.immediates_compatibility;
     }
 
--- an image has three coordinates
+-- the dimension is `D3`
 abbrev pub is_solid : ImageDimension → Boolean
 is_solid D3 = true
 is_solid D1 = false
 is_solid D2 = false
 is_solid Cube = false
 
--- an image is of the six sides of a cube
+-- the dimension is `Cube`
 abbrev pub is_cube : ImageDimension → Boolean
 is_cube Cube = true
 is_cube D1 = false
 is_cube D2 = false
 is_cube D3 = false
 
--- an image has two coordinates
+-- the dimension is `D2`
 abbrev pub is_2d : ImageDimension → Boolean
 is_2d D2 = true
 is_2d D1 = false
 is_2d D3 = false
 is_2d Cube = false
 
--- an image is an external texture
+-- the class is `External`
 abbrev pub is_external : ImageClass → Boolean
 is_external image.External = true
 is_external (image.Sampled kind multi) = false
 is_external (image.Depth multi) = false
 is_external (image.Storage format access) = false
 
--- the conditions of an image: none with three coordinates is arrayed, arrayed cubes need a capability, and external images are flat, single, and need another
+-- the conditions of an image: no 3D image is arrayed, arrayed cubes need a capability, and external textures are 2D,
+-- not arrayed, and need another capability
 abbrev pub image_checks : ℕ → ImageDimension → Boolean → ImageClass → List (Option TypeError)
 image_checks capabilities dim arrayed class =
     require (not (arrayed && is_solid dim)) (UnsupportedImageType dim arrayed class) ∷
@@ -162,7 +166,7 @@ image_checks capabilities dim arrayed class =
     when (is_external class) (capability_error capabilities TEXTURE_EXTERNAL) ∷
     []
 
--- the refusal of vertices of a hit, if they are to be returned and their capability is missing
+-- the error of a type that returns the vertices of a hit, if the capability for that is missing
 abbrev pub vertex_return_condition : ℕ → Boolean → Option TypeError
 vertex_return_condition capabilities vertex_return = when vertex_return (capability_error capabilities RAY_HIT_VERTEX_POSITION)
 
@@ -213,7 +217,8 @@ is_external_image (Some (form.RayQuery vertex_return)) = false
 is_external_image (Some (form.BindingArray base size)) = false
 is_external_image None = false
 
--- the conditions of a binding array: data in structs, no external images, and elements whose size is known when a module is created
+-- the conditions of a binding array: elements that are data are structs, none are external textures, and no override
+-- sizes them
 abbrev pub binding_array_checks : Surroundings → ℕ → List (Option TypeError)
 binding_array_checks s base =
     require (not (has (flags_at s base) DATA) || is_struct (form_at s base)) (BindingArrayBaseTypeNotStruct base) ∷

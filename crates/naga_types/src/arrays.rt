@@ -122,7 +122,7 @@ pub(crate) fn validate_array<'a>(
     }
     let alignment = layout.alignment;
     let in_uniform = alignment.max(Alignment::MIN_UNIFORM);
-    // Flags are cut by those of the base: an array is only used as its elements may be.
+    // The flags of the base limit the array's: an array is only used as its elements may be.
     Ok(TypeInfo {
         flags: info.flags.intersection(array_flags(*size)),
         uniform_layout: array_layout(handle, in_uniform, stride, info.uniform_layout),
@@ -149,6 +149,7 @@ pub(crate) fn validate_binding_array<'a>(
     if flags.contains(TypeFlags::DATA) && !matches!(inner, TypeInner::Struct { .. }) {
         return Err(TypeError::BindingArrayBaseTypeNotStruct(base));
     }
+    // naga doesn't support binding arrays of external textures yet.
     if let TypeInner::Image {
         class: ImageClass::External,
         ..

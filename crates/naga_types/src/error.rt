@@ -194,7 +194,8 @@ pub enum TypeError {
     /// Types").
     #[error("Base type {0:?} for the array is invalid")]
     InvalidArrayBaseType(Handle<TypeTag>),
-    /// A matrix has components other than floating-point numbers (WGSL "Matrix Types").
+    /// A matrix has components other than floating-point numbers (WGSL "Matrix Types"), or a cooperative matrix other
+    /// components than floating-point numbers of 16 or 32 bits.
     #[error("Matrix elements must always be floating-point types")]
     MatrixElementNotFloat,
     /// Never returned: no constant is specialized here.
@@ -220,7 +221,7 @@ pub enum TypeError {
     /// The elements of a binding array are data, but not structs. The handle is their type.
     #[error("The base handle {0:?} has to be a struct")]
     BindingArrayBaseTypeNotStruct(Handle<TypeTag>),
-    /// The elements of a binding array are external images.
+    /// The elements of a binding array are external textures.
     #[error("Binding arrays of external textures are not yet supported")]
     BindingArrayBaseExternalTextures,
     /// A member begins before the end of the one before it, and not at 0.
@@ -242,7 +243,7 @@ pub enum TypeError {
     /// A struct has no members.
     #[error("Structure types must have at least one member")]
     EmptyStruct,
-    /// Some members are sources of blending, and can't be so.
+    /// Some members are sources of blending, and can't be.
     #[error("Invalid `@blend_src` structure: {0}")]
     InvalidBlendSrc(VaryingError),
     /// A scalar's width is not allowed.

@@ -288,6 +288,7 @@ impl StructType<'_> {
         ensures { result ≡ first_error_or
             (rule.pair_checks (surroundings_of self.now) self.now.members.now (Some first) (Some second)) tt }
     {
+        // naga looks for another location before it compares the types.
         if let Some(location) = self.other_location() {
             return Err(VaryingError::InvalidBlendSrcWithOtherBindings { location });
         }
@@ -434,7 +435,7 @@ impl StructType<'_> {
         ensures uniform { AreLaidOut Uniform self.now result.0 result.1 }
         ensures storage { AreLaidOut Storage self.now result.0 result.1 }
     {
-        // With such a span the struct has no layout in either space, so nothing asks about its members.
+        // With such a span the struct has no layout in either space, whatever its members are.
         if self.check_span().is_err() {
             return (0, Alignment::ONE);
         }
@@ -591,7 +592,7 @@ impl StructType<'_> {
             self.now.span }
     {
         self.check_span()?;
-        // In naga this error overwrites those of all layouts before and hides those after it.
+        // In naga this error overwrites the layout errors before it and hides the ones after it.
         if let Some(error) = self.last_in_room() {
             return Err(error);
         }

@@ -33,7 +33,7 @@ pub fn is_sized(inner: &TypeInner) -> bool
     }
 }
 
-/// The dimension of the storage images in which values of a type are coordinates: those of one, two or
+/// The dimension of the storage images in which values of a type are coordinates: 1D, 2D or 3D for one, two or
 /// three integers (WGSL "Storage Texture Types"). Other types are coordinates in none.
 pub fn image_storage_coordinates(inner: &TypeInner) -> Option<ImageDimension>
     ensures { result ≡ spec.image_storage_coordinates inner.now }

@@ -20,7 +20,7 @@ use Rattle.naga_types.specs.steps.KnownTypes.{KnownBefore}
 abbrev pub surroundings_of : StructType → Surroundings
 surroundings_of x = surroundings x.ctx x.gctx
 
--- the types of a struct's members stand before it, and are known
+-- the types of the members of `x` precede it, and are known
 abbrev pub MembersKnown : StructType → Type 0
 MembersKnown x = KnownBefore (surroundings_of x) x.handle × All (λ (m : StructMember). m.ty < x.handle) x.members.now
 
