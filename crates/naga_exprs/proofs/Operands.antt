@@ -28,7 +28,7 @@ module _ (g : GlobalLists) (ok : GlobalReferencesOk g) (e n : ℕ) (x : Expressi
   pub type_exists : (ty : ℕ) (components : List ℕ) → x ≡ form.Compose ty components → ty < length g.types
   type_exists ty components is = subst (λ t. IfSome t (λ t. t < length g.types)) (ap named_type is ∙ composed_to ty components) (global_type_exists g ok e x at)
 
-  -- its components come before it
+  -- the components of a composition come before it
   pub components_before : (ty : ℕ) (components : List ℕ) → x ≡ form.Compose ty components → All (λ o. o < n) components
   components_before ty components is k d within =
       let o = get_or components k d in

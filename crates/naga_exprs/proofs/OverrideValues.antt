@@ -10,7 +10,7 @@ never_passed : {A E : Type 0} (a : Option E) (error : E) (value i : A) → first
 never_passed None error value i h = cc h
 never_passed (Some e) error value i h = cc h
 
--- so a global expression is accepted in either case
+-- a global expression that is accepted if overrides must have their values is accepted if they needn't
 pub unresolved : (s : ConstSurroundings) (e : ℕ) (x : Expression) → const_expression_rule (record s { resolved = true }) e x ≡ Ok tt → const_expression_rule (record s { resolved = false }) e x ≡ Ok tt
 unresolved s e (form.Literal value) h = h
 unresolved s e (form.Constant c) h = h

@@ -48,7 +48,7 @@ abbrev pub lengths : Boolean → GlobalLists → LengthOfArray
 lengths true g = resolved_length g
 lengths false g = pending_length
 
--- the refusal of a constant index: its base has no length, or one that is known and not above the index
+-- the error of a constant index, if its base has no length, or a length that is known and not above the index
 abbrev pub index_error : ℕ → ℕ → Result IndexableLength IndexableLengthError → Option ExpressionError
 index_error base value (Ok (Known n)) = require (ltb value n) (refusal.IndexOutOfBounds base value)
 index_error base value (Ok Pending) = None
@@ -100,7 +100,7 @@ part_limit (Sampler comparison) = None
 part_limit (AccelerationStructure vertex_return) = None
 part_limit (RayQuery vertex_return) = None
 
--- the same of a type that may not be there
+-- the limit of the known indexes into a value of a type that may not be there
 abbrev pub part_limit_in : Option TypeInner → Option ℕ
 part_limit_in None = None
 part_limit_in (Some inner) = part_limit inner
@@ -110,7 +110,7 @@ abbrev pub index_limit : List «Type» → TypeInner → Option ℕ
 index_limit types (Pointer base space) = part_limit_in (inner_in types (Handle base))
 index_limit types inner = part_limit inner
 
--- the refusal of a known index, unless its base has a limit and the index is below it
+-- the error of a known index, unless its base has a limit and the index is below it
 abbrev pub known_index_error : ℕ → ℕ → Option ℕ → Option ExpressionError
 known_index_error base index None = Some (refusal.InvalidBaseType base)
 known_index_error base index (Some limit) = require (ltb index limit) (refusal.IndexOutOfBounds base index)

@@ -31,7 +31,8 @@ pub record ConstSurroundings : Type 0 where
   pub kinds : List ExpressionKind
   pub resolutions : List TypeResolution
 
--- what it is validated by in a context: the context of expressions, the context of the module, the types of the global expressions, and their kinds
+-- what the validation of a global expression depends on in the context `ctx` of expressions and the context `gctx` of
+-- the module, by the types and the kinds of the global expressions
 abbrev pub surroundings : {T : Type 0} → ExprContext T → GlobalCtx → List TypeResolution → List ExpressionKind → ConstSurroundings
 surroundings ctx gctx resolutions kinds = record {
   capabilities = ctx.capabilities.0;
@@ -41,7 +42,7 @@ surroundings ctx gctx resolutions kinds = record {
   resolutions = resolutions;
 }
 
--- what the rule of widths says, as it is said of a literal
+-- what the rule of widths says of a literal
 abbrev pub of_width : Result (Result (Unit {0}) ImmediateError) WidthError → Result (Unit {0}) LiteralError
 of_width (Ok immediates) = Ok tt
 of_width (Err error) = Err (Width error)
@@ -50,7 +51,7 @@ of_width (Err error) = Err (Width error)
 abbrev pub literal_rule : ℕ → Literal → Result (Unit {0}) LiteralError
 literal_rule capabilities value = of_width (width_rule capabilities (literal_scalar value))
 
--- what another rule refuses is refused with its error inside another
+-- the error of another rule inside an error of this one, if the other rule refuses
 abbrev pub refused_inside : {A E F : Type 0} → (E → F) → Result A E → Option F
 refused_inside wrap (Ok value) = None
 refused_inside wrap (Err error) = Some (wrap error)

@@ -28,15 +28,15 @@ math_typing accepts least_arguments = record { accepts = accepts; least_argument
 abbrev pub keeps_float16 : MathFunction → Boolean
 keeps_float16 fun = list_any (of_function.ghosts.eq fun) (QuantizeToF16 ∷ Pack2x16float ∷ Unpack2x16float ∷ [])
 
--- the refusal of a function whose capability is missing
+-- the error of a function that needs a capability, if it is missing
 abbrev pub float16_error : ℕ → MathFunction → Option ExpressionError
 float16_error capabilities fun = when (keeps_float16 fun) (require (has capabilities SHADER_FLOAT16_IN_FLOAT32) (refusal.MissingCapabilities (record { 0 = SHADER_FLOAT16_IN_FLOAT32 })))
 
--- the refusal of an argument, given as its index and its operand, unless the function takes the types up to its own
+-- the error of an argument, given as its index and its operand, unless the function takes the types up to its own
 abbrev pub argument_error : MathTyping → MathFunction → List TypeInner → ℕ × ℕ → Option ExpressionError
 argument_error typing fun types argument = require (typing.accepts fun (take (argument.0 + 1) types)) (refusal.InvalidArgumentType fun argument.0 argument.1)
 
--- the refusal of the first argument that is refused
+-- the error of the first argument that is refused
 abbrev pub first_argument_error : MathTyping → MathFunction → List TypeInner → List ℕ → Option ExpressionError
 first_argument_error typing fun types given = first (map (argument_error typing fun types) (enumerate_from 0 given))
 

@@ -5,7 +5,7 @@ use Rattle.naga_flags.specs.Flags.{has}
 use Rattle.naga_info.specs.Surroundings.{ExpressionSurroundings}
 use Rattle.naga_info.specs.declared.module_info.FunctionInfo.{FunctionInfo}
 
--- each function is usable by all stages that may use it by what `less` says of functions
+-- by what `more` says of functions, each may be used by all stages that may use it by what `less` says
 abbrev pub AreUsableByMore : List FunctionInfo → List FunctionInfo → Type 0
 AreUsableByMore less more = (f : ℕ) → IsTrue (has (stages_in (slice_get more f)).0 (stages_in (slice_get less f)).0)
 

@@ -14,7 +14,7 @@ use Rattle.naga_types.specs.Checks.{ok_unless, require}
 use Rattle.naga_typing.specs.Resolutions.{inner_in}
 use Rattle.naga_typing.specs.declared.typifier.TypeResolution.TheVariants.{Handle}
 
--- an address space is `Function`
+-- the address space is `Function`
 abbrev pub is_function : AddressSpace → Boolean
 is_function «space».Function = true
 is_function «space».Private = false

@@ -37,15 +37,16 @@ component_index Y = 1
 component_index Z = 2
 component_index W = 3
 
--- the refusal of a component, unless a vector of this size has it
+-- the error of a component, unless a vector of this size has it
 abbrev pub component_error : VectorSize → SwizzleComponent → Option ExpressionError
 component_error size component = require (ltb (component_index component) (components size)) (refusal.InvalidSwizzleComponent component size)
 
--- the refusal of the first component that a vector of this size lacks
+-- the error of the first component that a vector of this size lacks
 abbrev pub first_lacking : VectorSize → List SwizzleComponent → Option ExpressionError
 first_lacking size wanted = first (map (component_error size) wanted)
 
--- the refusal of a swizzle, unless a vector is swizzled, and has the first components of the pattern, as many as are taken
+-- the error of a swizzle, unless a vector is swizzled, and has the first components of the pattern, as many as are
+-- taken
 abbrev pub swizzle_error : ℕ → VectorSize → List SwizzleComponent → Option VectorSize → Option ExpressionError
 swizzle_error vector taken pattern None = Some (refusal.InvalidVectorType vector)
 swizzle_error vector taken pattern (Some size) = first_lacking size (take (components taken) pattern)

@@ -39,12 +39,12 @@ module _ (s : ExpressionSurroundings) (sound : AreSound s) where
       All-contains (Exists (function_counts s.«module» s.function)) (flat_map expression_references s.function.expressions) r sound.in_function.expressions
       (within_all expression_references s.function.expressions e x r at within)
 
-  -- so does a variable of the module that one names
+  -- a variable of the module that an expression names exists
   pub variable_exists : (e v : ℕ) → slice_get s.function.expressions e ≡ Some (form.GlobalVariable v) → v < length s.«module».global_variables
   variable_exists e v at =
       let x : Expression = form.GlobalVariable v in of_expression e x (to.GlobalVariable v) at (item_in x (to.GlobalVariable v) (variable_named v))
 
-  -- and each operand of one
+  -- each operand of an expression exists
   pub operand_exists : (e o : ℕ) (x : Expression) → slice_get s.function.expressions e ≡ Some x → Contains (operands x) o → o < length s.function.expressions
   operand_exists e o x at within =
       of_expression e x (to.Expression o) at (Contains-append_left (map to.Expression (operands x)) (named_references x) (to.Expression o) (contains-map to.Expression (operands x) o within))
@@ -56,11 +56,11 @@ module _ (s : ExpressionSurroundings) (sound : AreSound s) where
       All-contains (Exists (module_counts s.«module»)) (other_references s.«module») (to.Type_ x.ty) sound.handles.exist.others
       (Contains-append_left variables _ (to.Type_ x.ty) (within_all global_variable_references s.«module».global_variables v x (to.Type_ x.ty) at (0, omega arith, refl)))
 
-  -- and so does the type of an argument
+  -- the type of an argument exists
   pub argument_type_exists : (i : ℕ) (a : FunctionArgument) → slice_get s.function.arguments i ≡ Some a → a.ty < length s.«module».types
   argument_type_exists i a at = all_at (λ (a : FunctionArgument). a.ty < length s.«module».types) s.function.arguments i a sound.in_function.arguments at
 
-  -- and the type of the bindings of a binding array
+  -- the type of the bindings of a binding array exists
   pub binding_type_exists : (t : ℕ) (x : «Type») (base : ℕ) (size : ArraySize) → slice_get s.«module».types t ≡ Some x → x.inner ≡ BindingArray base size → base < length s.«module».types
   binding_type_exists t x base size at is =
       let g = global_lists s.«module» in
@@ -69,7 +69,7 @@ module _ (s : ExpressionSurroundings) (sound : AreSound s) where
       All-contains (ExistsGlobally g) (type_references form) (to.Type_ base) (subst (ReferencesExist g) is (references_exist g (global_references_ok s.«module» sound.handles) t x at))
       (Contains-append_left named (map to.Override (option_to_list (size_override form))) (to.Type_ base) (type_of_binding base size))
 
-  -- so does the base of an access
+  -- the base of an access exists
   pub base_exists : (e base : ℕ) (x : Expression) → slice_get s.function.expressions e ≡ Some x → ((index : ℕ) × (x ≡ form.Access base index)) ⊎ ((index : ℕ) × (x ≡ form.AccessIndex base index))
       → base < length s.function.expressions
   base_exists e base x at (inl h) = operand_exists e base x at (of_access x base h.0 h.1)

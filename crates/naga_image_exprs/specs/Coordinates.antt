@@ -39,7 +39,7 @@ abbrev pub unless_operand : ExpressionSurroundings → (TypeInner → Boolean) �
 unless_operand s is None error = None
 unless_operand s is (Some e) error = require (is (form_at s e)) (error e)
 
--- the refusal of a layer, unless one is chosen of an image that has several, and none of another
+-- the error of an array layer, unless one is chosen exactly if the image has several
 abbrev pub layer_presence_error : Boolean → Boolean → Option ExpressionError
 layer_presence_error arrayed has_index = require (beq arrayed has_index) refusal.InvalidImageArrayIndex
 

@@ -15,23 +15,23 @@ use Rattle.naga_info.specs.declared.expression_error.ExpressionError.TheVariants
 use Rattle.naga_types.specs.Checks.{first_error_or, require}
 use Rattle.naga_types.specs.TypeMethods.{image_storage_coordinates}
 
--- there is a dimension, and it is this one
+-- there is a dimension, and it is `dim`
 abbrev pub is_dimension : ImageDimension → Option ImageDimension → Boolean
 is_dimension dim None = false
 is_dimension dim (Some found) = of_dimension.ghosts.eq found dim
 
--- the refusal of coordinates, unless they are integers, as many as the dimension of the image has
+-- the error of coordinates, unless they are integers, as many as the dimension of the image has
 abbrev pub coordinate_error : ExpressionSurroundings → ImageDimension → ℕ → Option ExpressionError
 coordinate_error s dim coordinate = require (is_dimension dim (image_storage_coordinates (form_at s coordinate))) (refusal.InvalidImageCoordinateType dim coordinate)
 
--- the refusal of a sample, unless one is chosen of a multisampled image, by an integer of 32 bits, and none of another
+-- the error of a sample, unless one is chosen of a multisampled image, by an integer of 32 bits, and none of another
 abbrev pub sample_index_error : ExpressionSurroundings → Boolean → Option ℕ → Option ExpressionError
 sample_index_error s true (Some e) = require (is_index (form_at s e)) (refusal.InvalidImageOtherIndexType e)
 sample_index_error s true None = Some refusal.MissingImageSampleSelector
 sample_index_error s false (Some e) = Some refusal.InvalidImageSampleSelector
 sample_index_error s false None = None
 
--- the refusal of a level, unless one is chosen of an image that may have several, by an integer, and none of another
+-- the error of a level, unless one is chosen of an image that may have several, by an integer, and none of another
 abbrev pub level_error : ExpressionSurroundings → Boolean → Option ℕ → Option ExpressionError
 level_error s true (Some e) = require (is_integer_scalar (form_at s e)) (refusal.InvalidImageArrayIndexType e)
 level_error s true None = Some refusal.MissingImageLevelSelector

@@ -13,7 +13,8 @@ use Rattle.naga_info.specs.declared.expression_error.ExpressionError.{Expression
 use Rattle.naga_info.specs.declared.expression_error.ExpressionError.TheVariants as refusal
 use Rattle.naga_types.specs.Checks.{first, ok_unless, require}
 
--- the refusal of the size of a level, unless its index is an integer of 32 bits, and the image may have several
+-- the error of a query for the size of a level, unless its index is an integer of 32 bits, and the image may have
+-- several levels
 abbrev pub level_error : ExpressionSurroundings → ImageType → ℕ → Option ExpressionError
 level_error s image level =
     first
@@ -21,7 +22,7 @@ level_error s image level =
     require (is_mipmapped image.class) (refusal.InvalidImageClass image.class) ∷
     [])
 
--- the refusal of a query, unless the image has that property: each has a size
+-- the error of a query, unless the image has the property that is queried: each image has a size
 abbrev pub query_error : ExpressionSurroundings → ImageType → ImageQuery → Option ExpressionError
 query_error s image (Size None) = None
 query_error s image (Size (Some level)) = level_error s image level

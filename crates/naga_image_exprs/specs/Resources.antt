@@ -62,7 +62,7 @@ source_of (form.SubgroupOperationResult ty) = elsewhere
 source_of (form.CooperativeLoad pointer stride) = elsewhere
 source_of (form.CooperativeMultiplyAdd a b c) = elsewhere
 
--- the same of an expression that may not be there
+-- what an expression stands for, which may not be there
 abbrev pub source_in : Option Expression → Source
 source_in None = elsewhere
 source_in (Some x) = source_of x
@@ -139,7 +139,7 @@ image_of (AccelerationStructure vertex_return) = None
 image_of (RayQuery vertex_return) = None
 image_of (BindingArray base size) = None
 
--- the same of a type of the module
+-- dimension, `arrayed` and class of the type of index `ty`, or the error if it is not an image
 abbrev pub image_type : ExpressionSurroundings → ℕ → Result ImageType ExpressionError
 image_type s ty = ok_or (option_and_then image_of (inner_in s.«module».types (Handle ty))) (refusal.ExpectedImageType ty)
 

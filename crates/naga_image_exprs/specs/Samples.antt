@@ -41,34 +41,36 @@ sampled s image sampler =
     and_then (sampler_comparison s sampler_ty) (λ comparison.
     and_then (image_type s image_ty) (λ found. Ok (found, comparison)))))
 
--- a class can be sampled, or gathered from: what is gathered may be integers, and nothing is multisampled
+-- images of a class can be sampled, or gathered from if `gathers`: what is gathered may be integers, and nothing is
+-- multisampled
 abbrev pub can_sample : ImageClass → Boolean → Boolean
 can_sample (Sampled kind multi) gathers = not multi && (is_float kind || is_integer kind && gathers)
 can_sample (Depth multi) gathers = not multi
 can_sample (Storage format access) gathers = false
 can_sample External gathers = true
 
--- the refusal of a class, unless it can be sampled
+-- the error of a class, unless it can be sampled
 abbrev pub class_error : ImageClass → Option SwizzleComponent → Option ExpressionError
 class_error class gather = require (can_sample class (is_some gather)) (refusal.InvalidImageClass class)
 
--- a class is `Depth`
+-- the class is `Depth`
 abbrev pub is_depth : ImageClass → Boolean
 is_depth (Depth multi) = true
 is_depth (Sampled kind multi) = false
 is_depth (Storage format access) = false
 is_depth External = false
 
--- the refusal of a sampler, unless it compares exactly if there is a reference, and then depths
+-- the error of a sampler, unless it compares exactly if there is a reference, and then the image holds depths
 abbrev pub comparison_error : ImageClass → Boolean → Option ℕ → Option ExpressionError
 comparison_error class comparison depth_ref =
     require (beq comparison (is_some depth_ref) && (not comparison || is_depth class)) (refusal.ComparisonSamplingMismatch class comparison (is_some depth_ref))
 
--- the refusal of coordinates, unless they are floating-point numbers, as many as an image of this dimension wants
+-- the error of coordinates, unless they are floating-point numbers, as many as an image of dimension `dim` needs
 abbrev pub coordinate_error : ExpressionSurroundings → ImageDimension → ℕ → Option ExpressionError
 coordinate_error s dim coordinate = require (are_coordinates dim (form_at s coordinate)) (refusal.InvalidImageCoordinateType dim coordinate)
 
--- the refusal of an offset, unless it is known when the shader is compiled, and signed integers, as many as the coordinates
+-- the error of an offset, unless it is known when the shader is compiled, and is signed integers, as many as the
+-- coordinates
 abbrev pub sample_offset_error : ExpressionSurroundings → ImageDimension → Option ℕ → Option ExpressionError
 sample_offset_error s dim None = None
 sample_offset_error s dim (Some e) =
@@ -77,7 +79,7 @@ sample_offset_error s dim (Some e) =
     require (is_of_kind (coordinate_count dim) Sint (form_at s e)) (refusal.InvalidSampleOffset dim e) ∷
     [])
 
--- a level is chosen by derivatives, or is the first
+-- the level is `Auto` or `Zero`
 abbrev pub is_auto_or_zero : SampleLevel → Boolean
 is_auto_or_zero Auto = true
 is_auto_or_zero Zero = true
@@ -85,7 +87,7 @@ is_auto_or_zero (Exact e) = false
 is_auto_or_zero (Bias e) = false
 is_auto_or_zero (Gradient x y) = false
 
--- the refusal of a reference, unless it is a floating-point number, and the level is not given by an operand
+-- the error of a reference, unless it is a floating-point number, and the level is not given by an operand
 abbrev pub depth_reference_error : ExpressionSurroundings → Option ℕ → SampleLevel → Option ExpressionError
 depth_reference_error s None level = None
 depth_reference_error s (Some e) level =
@@ -101,14 +103,14 @@ can_gather Cube = true
 can_gather D1 = false
 can_gather D3 = false
 
--- a component is the first
+-- the component is the first
 abbrev pub is_first_component : SwizzleComponent → Boolean
 is_first_component X = true
 is_first_component Y = false
 is_first_component Z = false
 is_first_component W = false
 
--- a level is the first
+-- the level is `Zero`
 abbrev pub is_first_level : SampleLevel → Boolean
 is_first_level Zero = true
 is_first_level Auto = false
@@ -116,7 +118,8 @@ is_first_level (Exact e) = false
 is_first_level (Bias e) = false
 is_first_level (Gradient x y) = false
 
--- the refusal of a gather, unless it is in a plane or a cube, of the first component if there are depths, and of the first level
+-- the error of a gather, unless the image is 2D or a cube, the component is the first if the image holds depths, and
+-- the level is `Zero`
 abbrev pub gather_error : ImageType → Option SwizzleComponent → SampleLevel → Option ExpressionError
 gather_error image None level = None
 gather_error image (Some component) level =
@@ -126,14 +129,15 @@ gather_error image (Some component) level =
     require (is_first_level level) refusal.InvalidGatherLevel ∷
     [])
 
--- a class is one of floating-point numbers, not multisampled
+-- images of the class hold floating-point numbers, and are not multisampled
 abbrev pub is_filtered : ImageClass → Boolean
 is_filtered (Sampled kind multi) = is_float kind && not multi
 is_filtered (Depth multi) = false
 is_filtered (Storage format access) = false
 is_filtered External = false
 
--- coordinates can be clamped in a 2D image of floating-point numbers or an external texture, at the first level, and without a gather, an array layer, an offset or a reference
+-- coordinates can be clamped in a 2D image of floating-point numbers or an external texture, at the level `Zero`, and
+-- without a gather, an array layer, an offset or a reference
 abbrev pub can_clamp : ImageType → Sample → Boolean
 can_clamp image sample =
     (is_filtered image.class || is_external image.class) && (is_2d image.dim && (is_first_level sample.level
@@ -154,18 +158,18 @@ numbers_levels (Sampled kind multi) inner = is_of_kind 1 Float inner
 numbers_levels (Storage format access) inner = is_of_kind 1 Float inner
 numbers_levels External inner = is_of_kind 1 Float inner
 
--- the refusal of the number of a level, unless it is an integer for depths, and a floating-point number for others
+-- the error of the number of a level, unless it is an integer for depths, and a floating-point number for others
 abbrev pub exact_level_error : ExpressionSurroundings → ImageClass → ℕ → Option ExpressionError
 exact_level_error s class e = require (numbers_levels class (form_at s e)) (refusal.InvalidSampleLevelExactType e)
 
--- an image has one dimension
+-- the dimension is `D1`
 abbrev pub is_1d : ImageDimension → Boolean
 is_1d D1 = true
 is_1d D2 = false
 is_1d D3 = false
 is_1d Cube = false
 
--- the refusal of the bias of a level, unless it is a floating-point number, and the image one of such, of more than one dimension
+-- the error of the bias of a level, unless it is a floating-point number, and the image holds such and is not 1D
 abbrev pub bias_error : ExpressionSurroundings → ImageType → ℕ → Option ExpressionError
 bias_error s image e =
     first
@@ -174,11 +178,11 @@ bias_error s image e =
     require (not (is_1d image.dim)) (refusal.InvalidSampleLevelBiasDimension image.dim) ∷
     [])
 
--- the refusal of a derivative, unless it is like coordinates
+-- the error of a derivative, unless it is as many floating-point numbers as the coordinates
 abbrev pub gradient_error : ExpressionSurroundings → ImageDimension → ℕ → Option ExpressionError
 gradient_error s dim e = require (are_coordinates dim (form_at s e)) (refusal.InvalidSampleLevelGradientType dim e)
 
--- the refusal of a level, by what it is given by
+-- the error of a level, by how it is given
 abbrev pub level_error : ExpressionSurroundings → ImageType → SampleLevel → Option ExpressionError
 level_error s image Auto = None
 level_error s image Zero = None
@@ -194,7 +198,7 @@ level_stages (Exact e) = every_stage
 level_stages (Bias e) = fragment_stage
 level_stages (Gradient x y) = every_stage
 
--- the conditions of a sample of this image by a sampler that compares or doesn't, if a refusal to clamp carries this text
+-- the conditions of a sample of `image` by a sampler that compares or doesn't, if the error of clamping holds `text`
 abbrev pub sample_checks : ExpressionSurroundings → String Global → Sample → ImageType → Boolean → List (Option ExpressionError)
 sample_checks s text sample image comparison =
     layer_error s is_integer_scalar image.arrayed sample.array_index ∷
@@ -209,15 +213,15 @@ sample_checks s text sample image comparison =
     level_error s image sample.level ∷
     []
 
--- the rule of a sample, if a refusal to clamp carries this text
+-- the rule of a sample, if the error of clamping holds `text`
 abbrev pub image_sample_rule : ExpressionSurroundings → String Global → Sample → Result ShaderStages ExpressionError
 image_sample_rule s text sample =
     and_then (sampled s sample.image sample.sampler) (λ found. first_error_or (sample_checks s text sample found.0 found.1) (level_stages sample.level))
 
--- the rule of a sample, whose refusal to clamp carries some text
+-- `rule` is the rule of a sample, if the error of clamping holds some text
 abbrev pub IsImageSampleRule : ExpressionSurroundings → Sample → Result ShaderStages ExpressionError → Type 0
 IsImageSampleRule s sample rule = (text : String Global) × (rule ≡ image_sample_rule s text sample)
 
--- a call returns the rule of a sample, out of memory aside
+-- a call returns `result`, which is the rule of a sample, out of memory aside
 abbrev pub IsImageSampleResult : ExpressionSurroundings → Sample → Result ShaderStages ExpressionError → Type 0
 IsImageSampleResult s sample result = (rule : Result ShaderStages ExpressionError) × IsImageSampleRule s sample rule × IsRuleResult rule result

@@ -50,7 +50,7 @@ pub(crate) fn is_filtered(class: ImageClass) -> bool
     }
 }
 
-/// The first reason why coordinates in an image can't be clamped, if there is one.
+/// The first reason, in naga's order, why coordinates in an image can't be clamped, if there is one.
 fn clamp_fault(image: ImageType, sample: &Sample) -> Option<ClampFault>
     ensures { is_none result ≡ rule.can_clamp image sample.now }
 {

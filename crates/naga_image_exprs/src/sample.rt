@@ -97,8 +97,7 @@ fn is_depth(class: ImageClass) -> bool
     }
 }
 
-/// Checks that depths are compared if the sampler compares and there is a reference, and not if there is
-/// neither.
+/// Checks that the sampler compares exactly if there is a reference, and that then the image holds depths.
 fn check_comparison(
     class: ImageClass,
     comparison: bool,
@@ -338,7 +337,7 @@ fn level_stages(level: SampleLevel) -> ShaderStages
 /// - `InvalidImageArrayIndex` if the image has array layers and none is chosen, or the other way round.
 ///   `InvalidImageArrayIndexType` if the index of the array layer is not an integer.
 /// - `InvalidImageClass` if the image can't be sampled: it is multisampled, or a storage image, or holds
-///   integers, which can only be gathered, or bools.
+///   integers, which can only be gathered, or bools or abstract numbers.
 /// - `ComparisonSamplingMismatch` if there is a reference and the sampler doesn't compare, or there is none
 ///   and it does, or it compares and the image holds no depths.
 /// - `InvalidImageCoordinateType` if the coordinates are not as many floating-point numbers as the image

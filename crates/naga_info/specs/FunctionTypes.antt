@@ -66,25 +66,26 @@ function_resolves resolves m f (form.SubgroupOperationResult ty) earlier = resol
 function_resolves resolves m f (form.CooperativeLoad pointer stride) earlier = resolves m (form.CooperativeLoad pointer stride) earlier
 function_resolves resolves m f (form.CooperativeMultiplyAdd a b c) earlier = resolves m (form.CooperativeMultiplyAdd a b c) earlier
 
--- this as a rule in order
+-- `function_resolves` as a rule in order
 abbrev pub type_in_order : Resolves → Module → Function → RuleInOrder Expression TypeResolution ResolveError
 type_in_order resolves m f before e x = function_resolves resolves m f x before
 
--- each expression of a function has its type, by the types of those before it
+-- `types` are the types of the expressions of `f`, each by the types of those before it
 abbrev pub AreFunctionTypes : Resolves → Module → Function → List TypeResolution → Type 0
 AreFunctionTypes resolves m f types = AllAcceptedInOrder (type_in_order resolves m f) f.expressions types
 
--- there is an expression at this place, and each expression before it has its type, by the types of those before it
+-- there is an expression at `place`, and `types` are the types of the expressions before it, each by the types of those
+-- before it
 pub record AreTypesBefore (resolves : Resolves) (m : Module) (f : Function) (place : ℕ) (types : List TypeResolution) : Type 0 where
   pub within : place < length f.expressions
   pub as_many : length types ≡ place
   pub follow : FollowInOrder (type_in_order resolves m f) f.expressions types
 
--- the expression at this place has no type, for this reason, by the types of those before it
+-- the expression at `place` has no type, and `error` is why, by `types`, the types of those before it
 abbrev pub IsUntyped : Resolves → Module → Function → ℕ → List TypeResolution → ResolveError → Type 0
 IsUntyped resolves m f place types error = given_at (type_in_order resolves m f) f.expressions types place ≡ Some (Err error)
 
--- what is known of a function, in either case
+-- what is known of a function, whether all its expressions have types or not
 abbrev pub info_of : Result FunctionInfo UntypedExpression → FunctionInfo
 info_of (Ok info) = info
 info_of (Err e) = e.info

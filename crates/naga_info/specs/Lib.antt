@@ -1,6 +1,6 @@
 -- To read first:
 -- ModuleInfo.ModuleInfoLists: what is known of an accepted module, a list for each kind of item
--- ModuleInfo.ModuleInfoWithRoom: the same with the room that takes no more memory
+-- ModuleInfo.ModuleInfoWithRoom: what is known of an accepted module, with the room that takes no more memory
 -- FunctionTypes.function_resolves, AreFunctionTypes: the type of an expression of a function, and of all of them
 -- FunctionTypes.AreTypesBefore, IsUntyped: the types of the expressions before a place; why the one there has none
 -- Surroundings.ExpressionSurroundings: what the validation of an expression of a function depends on, besides the expression

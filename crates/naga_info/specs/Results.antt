@@ -16,6 +16,6 @@ NeedsMemory (Err (ShiftAmountTooLarge lhs_type rhs_expr)) = IsStruct lhs_type
 NeedsMemory (Err (InvalidSampleClampCoordinateToEdge text)) = ⊤
 NeedsMemory (Err _) = ⊥
 
--- a call returns what `rule` says, or `OutOfMemory` if that needs memory
+-- a call returns `result`, which is what `rule` says, or `OutOfMemory` if that needs memory
 abbrev pub IsRuleResult : Result ShaderStages ExpressionError → Result ShaderStages ExpressionError → Type 0
 IsRuleResult rule result = IsResultOf NeedsMemory OutOfMemory rule result

@@ -66,11 +66,11 @@ pub record AreSound (s : ExpressionSurroundings) : Type 0 where
   pub types_exist : All (ResolutionExists (global_lists s.«module»)) s.types
   pub flags : length s.«module».types ≤ length s.infos.type_flags
 
--- every argument that an expression before a place names exists
+-- every argument that an expression before index `root` names exists
 abbrev pub ArgumentsExist : ExpressionSurroundings → ℕ → Type 0
 ArgumentsExist s root = (e i : ℕ) → e < root → slice_get s.function.expressions e ≡ Some (form.FunctionArgument i) → i < length s.function.arguments
 
--- what is known of the function whose result an expression is, if it is one
+-- if the expression `x` is the result of a call, the function that was called is known
 abbrev pub ResultIsKnown : ExpressionSurroundings → Expression → Type 0
 ResultIsKnown s x = (f : ℕ) → x ≡ form.CallResult f → f < length s.infos.functions
 

@@ -10,7 +10,7 @@ use Rattle.naga_ir.specs.declared.types.TypeInner.{TypeInner}
 use Rattle.naga_ir.specs.declared.types.VectorSize.{VectorSize}
 use Rattle.naga_types.specs.TypeRule.{is_float, is_integer}
 
--- there is a scalar, and it is so
+-- there is a scalar, and it satisfies `is`
 abbrev pub has_scalar : (ScalarType → Boolean) → Option (Option VectorSize × ScalarType) → Boolean
 has_scalar is (Some found) = is found.1
 has_scalar is None = false
@@ -24,7 +24,7 @@ abbrev pub component_count : Option VectorSize → ℕ
 component_count None = 1
 component_count (Some size) = components size
 
--- there is a scalar that is so, and as many components
+-- there are `count` components, and their scalar satisfies `is`
 abbrev pub has_components : ℕ → (ScalarType → Boolean) → Option (Option VectorSize × ScalarType) → Boolean
 has_components count is (Some found) = component_count found.0 == count && is found.1
 has_components count is None = false
@@ -50,10 +50,10 @@ is_bool Float = false
 is_bool AbstractInt = false
 is_bool AbstractFloat = false
 
--- a kind is one of numbers with a width of their own
+-- `kind` is `Sint`, `Uint` or `Float`
 abbrev pub is_number : ScalarKind → Boolean
 is_number kind = is_integer kind || is_float kind
 
--- two types are equal
+-- `x` and `y` are equal
 abbrev pub are_equal : TypeInner → TypeInner → Boolean
 are_equal x y = of_inner.ghosts.eq x y

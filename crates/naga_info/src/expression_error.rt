@@ -94,9 +94,9 @@ pub enum ExpressionError {
     ExpectedGlobalOrArgument,
     /// An element is taken of a variable that is not a binding array.
     ExpectedBindingArrayType(Handle<TypeTag>),
-    /// Something else stands in place of an image.
+    /// Something else is given in place of an image.
     ExpectedImageType(Handle<TypeTag>),
-    /// Something else stands in place of a sampler.
+    /// Something else is given in place of a sampler.
     ExpectedSamplerType(Handle<TypeTag>),
     /// Images of this class can't be used so.
     InvalidImageClass(ImageClass),

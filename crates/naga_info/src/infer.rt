@@ -84,7 +84,7 @@ pub fn infer_types<T: Typing>(
 ///
 /// # Errors
 ///
-/// Those of `infer_types`, which change nothing.
+/// The errors of `infer_types`, which leave the info as it was.
 #[tactic(auto, unfolding(crate::specs::FunctionTypes::function_resolves))]
 fn push_type_of<T: Typing>(
     alloc: Global,

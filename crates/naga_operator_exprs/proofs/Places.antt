@@ -38,7 +38,7 @@ pub record AreInScope (s : Scope) : Type 0 where
   pub handles : HandlesAccepted s.«module»
   pub in_function : ExpressionReferencesOk s.«module» s.function
 
--- so they are where a rule is checked
+-- the handles of a module and of a function in it are right where a rule is checked
 pub in_scope : (s : ExpressionSurroundings) → AreSound s → AreInScope (scope_of s)
 in_scope s sound = record { handles = sound.handles; in_function = sound.in_function }
 
@@ -68,7 +68,7 @@ module _ (s : Scope) (sound : AreInScope s) where
   operand_before (InFunction e) x o there at within = let back : o < e = sound.in_function.back (to.Expression e) (to.Expression o) (own_operand e o x at within) in omega (arith, back)
   operand_before (InModule e) x o there at within = let back : o < e = global_ok.back (to.Expression e) (to.Expression o) (operand e o x at within) in back
 
-  -- and exists
+  -- an operand exists
   pub operand_exists : (p : Place) (x : Expression) (o : ℕ) → PlaceExists s p → expression_at s p ≡ Some x → Contains (operands x) o → PlaceExists s (operand_place p o)
   operand_exists (InFunction e) x o there at within = let back : o < e = sound.in_function.back (to.Expression e) (to.Expression o) (own_operand e o x at within) in omega (arith, back, there)
   operand_exists (InModule e) x o there at within = let back : o < e = global_ok.back (to.Expression e) (to.Expression o) (operand e o x at within) in omega (arith, back, there)
@@ -77,7 +77,7 @@ module _ (s : Scope) (sound : AreInScope s) where
   pub initialiser_there : (c : ℕ) (d : Constant) → slice_get s.«module».constants c ≡ Some d → PlaceExists s (InModule d.init)
   initialiser_there c d at = initialiser_exists g global_ok c d at
 
-  -- and comes before the constant
+  -- the initialiser of a constant comes before the constant
   pub initialiser_before : (p : Place) (c : ℕ) (d : Constant) → expression_at s p ≡ Some (form.Constant c) → slice_get s.«module».constants c ≡ Some d → rank s (InModule d.init) < rank s p
   initialiser_before (InFunction e) c d at names = let there : d.init < length s.«module».global_expressions = initialiser_exists g global_ok c d names in omega (arith, there)
   initialiser_before (InModule e) c d at names = global_ok.back (to.Expression e) (to.Expression d.init) (constant e c d at names)

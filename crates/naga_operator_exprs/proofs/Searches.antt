@@ -21,7 +21,7 @@ module _ (s : Scope) (forbidden : Forbidden) (p : Place) (items : List ℕ) wher
   not_among : (i c : ℕ) → NoneBefore s forbidden p items i → length items ≤ i → Contains items c → ContainsForbidden s forbidden (operand_place p c) → ⊥
   not_among i c none ended (k, below, at) h = none k c (omega (arith, below, ended)) (slice_get_read items (length items) k c refl below (sym at)) h
 
-  -- a composition is no integer by itself
+  -- a composition is not an integer by itself
   not_own : (x : Expression) (n : ℤ) (ty : ℕ) → IsOwnInteger s x n → x ≡ form.Compose ty items → ⊥
   not_own _ n ty (literal_value value _ is) same = cc same
   not_own _ _ ty (zero_value other is) same = cc same

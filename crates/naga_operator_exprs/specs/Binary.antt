@@ -35,7 +35,7 @@ is_unsigned Bool = false
 is_unsigned AbstractInt = false
 is_unsigned AbstractFloat = false
 
--- two types are equal, and each is a scalar whose kind satisfies `is`, or a vector of such
+-- `x` and `y` are equal, and each is a scalar whose kind satisfies `is`, or a vector of such
 abbrev pub are_both : (ScalarKind → Boolean) → TypeInner → TypeInner → Boolean
 are_both is x y = consists_of (λ scalar. is scalar.kind) x && are_equal x y
 
@@ -56,7 +56,7 @@ is_any_matrix (AccelerationStructure vertex_return) = false
 is_any_matrix (RayQuery vertex_return) = false
 is_any_matrix (BindingArray base size) = false
 
--- values of two types are added: equal types, of numbers, vectors of numbers, or matrices
+-- values of types `x` and `y` are added: the types are equal, and numbers, vectors of numbers, or matrices
 abbrev pub can_add : TypeInner → TypeInner → Boolean
 can_add x y = are_both is_number x y || is_any_matrix x && are_equal x y
 
@@ -73,7 +73,7 @@ can_shift (Some x) (Some y) = is_integer x.1.kind && is_unsigned y.1.kind && sam
 can_shift (Some x) None = false
 can_shift None _ = false
 
--- the operands of an operator fit
+-- the operator `op` takes values of types `x` and `y`
 abbrev pub operands_fit : BinaryOperator → TypeInner → TypeInner → Boolean
 operands_fit Add x y = can_add x y
 operands_fit Subtract x y = can_add x y
@@ -129,17 +129,18 @@ abbrev pub refusal_of : Forbidden → TypeInner → ℕ → ExpressionError
 refusal_of (AtLeast bound) x right = ShiftAmountTooLarge x right
 refusal_of Zero x right = DivideByZero
 
--- the right operand is a constant expression that holds a number which the operator forbids
+-- the operand `right` is a constant expression that contains a number which `op` forbids, and `forbidden` says which
 abbrev pub RightIsForbidden : ExpressionSurroundings → BinaryOperator → ℕ → ℕ → Forbidden → Type 0
 RightIsForbidden s op left right forbidden = (forbidden_on_right op (form_at s left) ≡ Some forbidden) × ContainsForbidden (scope_of s) forbidden (InFunction right)
 
--- the rule of an operator: the operands don't fit; or they do, and a constant on the right is forbidden; or they do, and none is
+-- the rule of an operator: the operands don't fit; or they do, and a constant on the right is forbidden; or they do,
+-- and none is
 pub data IsBinaryRule (s : ExpressionSurroundings) (op : BinaryOperator) (left right : ℕ) : Result ShaderStages ExpressionError → Type 0 where
   wrong_operands : operands_fit op (form_at s left) (form_at s right) ≡ false → IsBinaryRule s op left right (Err (InvalidBinaryOperandTypes op left (form_at s left) right (form_at s right)))
   forbidden_constant : (forbidden : Forbidden) → operands_fit op (form_at s left) (form_at s right) ≡ true → RightIsForbidden s op left right forbidden
       → IsBinaryRule s op left right (Err (refusal_of forbidden (form_at s left) right))
   accepted : operands_fit op (form_at s left) (form_at s right) ≡ true → ((forbidden : Forbidden) → RightIsForbidden s op left right forbidden → ⊥) → IsBinaryRule s op left right (Ok every_stage)
 
--- a call returns the rule of an operator, out of memory aside
+-- a call returns `result`, which is the rule of the operator `op`, out of memory aside
 abbrev pub IsBinaryResult : ExpressionSurroundings → BinaryOperator → ℕ → ℕ → Result ShaderStages ExpressionError → Type 0
 IsBinaryResult s op left right result = (rule : Result ShaderStages ExpressionError) × IsBinaryRule s op left right rule × IsRuleResult rule result

@@ -29,7 +29,7 @@ has_role wanted (AccelerationStructure vertex_return) = false
 has_role wanted (RayQuery vertex_return) = false
 has_role wanted (BindingArray base size) = false
 
--- the refusal of an operand of `a * b + c`, unless it has its role
+-- the error of an operand of `a * b + c`, unless it has its role
 abbrev pub role_error : ExpressionSurroundings → CooperativeRole → ℕ → Option ExpressionError
 role_error s role operand = require (has_role role (form_at s operand)) (InvalidCooperativeOperand operand)
 

@@ -23,7 +23,7 @@ pub record Scope : Type 0 where
   pub «module» : Module
   pub function : Function
 
--- where they are, of what the validation of an expression depends on
+-- where the constant expressions are, of what the validation of an expression depends on
 abbrev pub scope_of : ExpressionSurroundings → Scope
 scope_of s = record { «module» = s.«module»; function = s.function }
 
@@ -56,12 +56,14 @@ integer_of (literal.AbstractFloat bits) = None
 abbrev pub is_integer_zero : Scope → ℕ → Boolean
 is_integer_zero s ty = consists_of (λ scalar. is_integer scalar.kind) (form_in (inner_in s.«module».types (Handle ty)))
 
--- a number is the integer that an expression is by itself: a literal, or the zero of an integer or of a vector of integers
+-- a number is the integer that an expression is by itself: a literal, or the zero of an integer or of a vector of
+-- integers
 pub data IsOwnInteger (s : Scope) : Expression → ℤ → Type 0 where
   literal_value : (value : Literal) (n : ℤ) → integer_of value ≡ Some n → IsOwnInteger s (form.Literal value) n
   zero_value : (ty : ℕ) → is_integer_zero s ty ≡ true → IsOwnInteger s (form.ZeroValue ty) (pos 0)
 
--- a number is in the expression at a place: it is that integer itself, or it is in what is splatted, in a component, or in the initialiser of a constant
+-- a number is in the expression at a place: the expression is that integer itself, or the number is in what is
+-- splatted, in a component, or in the initialiser of a constant
 pub data ContainsInteger (s : Scope) : Place → ℤ → Type 0 where
   itself : (p : Place) (x : Expression) (n : ℤ) → expression_at s p ≡ Some x → IsOwnInteger s x n → ContainsInteger s p n
   splatted : (p : Place) (size : VectorSize) (value : ℕ) (n : ℤ) → expression_at s p ≡ Some (form.Splat size value) → ContainsInteger s (operand_place p value) n → ContainsInteger s p n
@@ -75,6 +77,6 @@ is_forbidden (AtLeast bound) (negsuc k) = false
 is_forbidden Zero (pos k) = k == 0
 is_forbidden Zero (negsuc k) = false
 
--- a forbidden number is in the expression at a place
+-- a number that `forbidden` forbids is in the expression at `p`
 abbrev pub ContainsForbidden : Scope → Forbidden → Place → Type 0
 ContainsForbidden s forbidden p = (n : ℤ) × ContainsInteger s p n × (is_forbidden forbidden n ≡ true)

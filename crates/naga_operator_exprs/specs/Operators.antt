@@ -31,7 +31,7 @@ is_signed Bool = false
 is_signed AbstractInt = false
 is_signed AbstractFloat = false
 
--- an operator on one value takes values of a kind
+-- an operator on one value takes values of `kind`
 abbrev pub takes : UnaryOperator → ScalarKind → Boolean
 takes Negate kind = is_float kind || is_signed kind
 takes LogicalNot kind = is_bool kind
@@ -101,7 +101,7 @@ cast_scalar (AccelerationStructure vertex_return) = None
 cast_scalar (RayQuery vertex_return) = None
 cast_scalar (BindingArray base size) = None
 
--- a scalar can be converted to this kind, and to this width or else its own
+-- a scalar can be converted to `kind`, and to `width` if it is given, or else keeps its own width
 abbrev pub can_cast : ℕ → ScalarKind → Option ℕ → Option ScalarType → Boolean
 can_cast capabilities kind width (Some scalar) = is_good_width capabilities (record { kind = kind; width = unwrap_or width scalar.width })
 can_cast capabilities kind width None = false

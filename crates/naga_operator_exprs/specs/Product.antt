@@ -68,11 +68,11 @@ is_matrix (AccelerationStructure vertex_return) = false
 is_matrix (RayQuery vertex_return) = false
 is_matrix (BindingArray base size) = false
 
--- of two factors one is a matrix, and the left has as many columns as the right has rows
+-- `x` or `y` is a matrix, and `x` has as many columns as `y` has rows
 abbrev pub multiply_by_dimensions : TypeInner → TypeInner → Boolean
 multiply_by_dimensions x y = (is_matrix x || is_matrix y) && agree (columns_of_left x) (rows_of_right y)
 
--- two factors are vectors of one size and scalar, which multiply by components
+-- both factors are vectors of one size and scalar, which multiply by components
 abbrev pub multiply_by_components : TypeInner → TypeInner → Boolean
 multiply_by_components (Vector size scalar) y = is_vector_of size scalar (Some y)
 multiply_by_components (Scalar scalar) y = false
@@ -129,10 +129,12 @@ are_numbers_of_one_width (Some x) (Some y) = is_number x.kind && x.width == y.wi
 are_numbers_of_one_width (Some x) None = false
 are_numbers_of_one_width None _ = false
 
--- values of two types multiply, widths aside: by dimensions, by components, or as one of them is a scalar that multiplies the other
+-- values of types `x` and `y` multiply, widths aside: by dimensions, by components, or because one of them is a scalar
+-- that multiplies the other
 abbrev pub forms_multiply : TypeInner → TypeInner → Boolean
 forms_multiply x y = multiply_by_dimensions x y || multiply_by_components x y || scales x y || scales y x
 
--- values of two types multiply: their scalars have one width, the scalars of the first are numbers, and the types multiply, widths aside
+-- values of types `x` and `y` multiply: their scalars have one width, the scalars of `x` are numbers, and the types
+-- multiply, widths aside
 abbrev pub can_multiply : TypeInner → TypeInner → Boolean
 can_multiply x y = are_numbers_of_one_width (scalar_of x) (scalar_of y) && forms_multiply x y

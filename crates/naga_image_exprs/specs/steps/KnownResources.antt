@@ -3,7 +3,7 @@ use Rattle.std.specs.Prelude.{◌≡◌, ◌<◌, ℕ, Some, length, slice_get}
 use Rattle.naga_ir.specs.declared.expression.Expression.TheVariants.{FunctionArgument}
 use Rattle.naga_info.specs.Surroundings.{ExpressionSurroundings}
 
--- an expression is one of the function, and if it names an argument, the function has that
+-- `e` is the index of an expression of the function, and if the expression names an argument, the function has it
 pub record CanLookUp (s : ExpressionSurroundings) (e : ℕ) : Type 0 where
   pub there : e < length s.function.expressions
   pub argument : (i : ℕ) → slice_get s.function.expressions e ≡ Some (FunctionArgument i) → i < length s.function.arguments

@@ -7,7 +7,7 @@ use Rattle.naga_operator_exprs.specs.declared.integers.Forbidden.{Forbidden}
 use Rattle.naga_operator_exprs.specs.declared.integers.Place.{Place}
 use Rattle.naga_operator_exprs.specs.declared.integers.Place.TheVariants.{InFunction, InModule}
 
--- there is an expression at a place
+-- there is an expression at the place
 abbrev pub PlaceExists : Scope → Place → Type 0
 PlaceExists s (InFunction e) = e < length s.function.expressions
 PlaceExists s (InModule e) = e < length s.«module».global_expressions
@@ -17,14 +17,14 @@ abbrev pub rank : Scope → Place → ℕ
 rank s (InFunction e) = length s.«module».global_expressions + e
 rank s (InModule e) = e
 
--- the expression at a place has its integers from the one at another, which comes before it
+-- the expression at `p` has its integers from the expression at `q`, which comes before it
 pub record IsSource (s : Scope) (p q : Place) : Type 0 where
   pub exists : PlaceExists s q
   pub before : rank s q < rank s p
   pub given : (n : ℤ) → ContainsInteger s q n → ContainsInteger s p n
   pub taken : (n : ℤ) → ContainsInteger s p n → ContainsInteger s q n
 
--- the same, or it is the same place
+-- the expression at `p` has its integers from the expression at `q`, which comes before it or is the same
 pub record IsSourceOrItself (s : Scope) (p q : Place) : Type 0 where
   pub exists : PlaceExists s q
   pub not_after : rank s q ≤ rank s p
@@ -72,7 +72,7 @@ HasNoSource (form.CooperativeMultiplyAdd a b c) = ⊤
 abbrev pub HasNoSourceAt : Scope → Place → Type 0
 HasNoSourceAt s p = (x : Expression) → expression_at s p ≡ Some x → HasNoSource x
 
--- these are the components of the expression at a place, if it is a composition, and else there are none
+-- `components` are the components of the expression at `p`, if it is a composition, and else there are none
 pub record AreComponents (s : Scope) (p : Place) (components : List ℕ) : Type 0 where
   pub of_composition : (ty : ℕ) (given : List ℕ) → expression_at s p ≡ Some (form.Compose ty given) → components ≡ given
   pub composed : (c : ℕ) → Contains components c → (ty : ℕ) × (expression_at s p ≡ Some (form.Compose ty components))
@@ -86,6 +86,6 @@ is_forbidden_found forbidden None = false
 abbrev pub OwnForbidden : Scope → Forbidden → Expression → Type 0
 OwnForbidden s forbidden x = (n : ℤ) × IsOwnInteger s x n × (is_forbidden forbidden n ≡ true)
 
--- no forbidden number is in the first of some components of the expression at a place
+-- no forbidden number is in the first `i` of `components`, the components of the expression at `p`
 abbrev pub NoneBefore : Scope → Forbidden → Place → List ℕ → ℕ → Type 0
 NoneBefore s forbidden p components i = (k c : ℕ) → k < i → slice_get components k ≡ Some c → ContainsForbidden s forbidden (operand_place p c) → ⊥

@@ -10,11 +10,11 @@ use Rattle.naga_operator_exprs.specs.declared.integers.Place.TheVariants.{InFunc
 abbrev pub note_count : ℕ
 note_count = 16
 
--- where it notes the composition at a place
+-- where a search notes the composition at a place
 abbrev pub note_of : Place → ℕ
 note_of (InFunction e) = e % note_count
 note_of (InModule e) = e % note_count
 
--- no forbidden number is in the expressions at the places that are noted
+-- no forbidden number is in the expressions at the places in `noted`
 abbrev pub HaveNone : Scope → Forbidden → List (Option Place) → Type 0
 HaveNone s forbidden noted = All (λ note. IfSome note (λ p. ContainsForbidden s forbidden p → ⊥)) noted

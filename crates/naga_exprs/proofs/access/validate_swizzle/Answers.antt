@@ -13,7 +13,7 @@ accepted : (bad : Option ExpressionError) → ok_unless bad (tt {0}) ≡ Ok (tt 
 accepted None h = refl
 accepted (Some x) h = cc h
 
--- and what is refused to it is refused with the same error
+-- the error of a check is the error of the expression
 refused : (bad : Option ExpressionError) (error : ExpressionError) → ok_unless bad (tt {0}) ≡ Err error → ok_unless bad every_stage ≡ Err error
 refused None error h = cc h
 refused (Some x) error h = cc h

@@ -5,7 +5,7 @@ use Rattle.naga_exprs.proofs.math.check_arguments.Given as goal
 use Rattle.naga_exprs.specs.Math.{MathTyping, argument_error}
 use Rattle.naga_types.specs.Checks.{first}
 
--- of the arguments that are left the same is refused as of all
+-- the arguments that are left have the same first error as all
 abbrev pub invariant-loop-index : goal.invariant-loop-index
 invariant-loop-index g l =
     let typing : MathTyping = record { accepts = g.T.Typing.accepts_types l.typing; least_arguments = g.T.Typing.least_arguments l.typing } in

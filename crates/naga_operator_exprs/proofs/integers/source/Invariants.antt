@@ -7,6 +7,6 @@ use Rattle.naga_operator_exprs.proofs.integers.source.Given as goal
 abbrev pub invariant-loop-next : goal.invariant-loop-next
 invariant-loop-next l = IsSourceOrItself (scope_of (surroundings l.context)) l.fn.place l.last
 
--- and each comes before the one before it
+-- each place comes before the place before it
 abbrev pub decreases-loop-next : goal.decreases-loop-next
 decreases-loop-next l = rank (scope_of (surroundings l.context)) l.last
