@@ -77,7 +77,7 @@ module _ (g : GlobalLists) (whole : ℕ) (aligned : (u : ℕ) → IsInside g who
           size_is = own.size_is;
         }
 
-    -- and each leaf is a part
+    -- each leaf is a part
     pub record PartOf (inner : TypeInner) (at : ℕ) (leaf : LeafBytes) : Type 0 where
       pub part : TypeInner
       pub first : ℕ
@@ -113,7 +113,7 @@ module _ (g : GlobalLists) (whole : ℕ) (aligned : (u : ℕ) → IsInside g who
           size_is = own.size_is ∙ sym (ap (λ (l : LeafBytes). l.size) p.is_moved);
         }
 
-  -- so a type uses the slots of its leaves
+  -- a type uses the slots of its leaves
   pub uses_leaves : (n at k : ℕ) (inner : TypeInner) → inner_at g whole ≡ Some inner → UsesSlot g inner at k ↔ SharesLeaf g n whole at k
   uses_leaves n at k inner is = (there, back)
     where

@@ -58,7 +58,7 @@ module _ (g : GlobalLists) where
   part_from _ _ _ _ (itself inner at plain) = omega arith
   part_from _ _ _ _ (in_member members span at m inner part first is_member is_its has) = let h : at + m.offset ≤ first = part_from inner (at + m.offset) part first has in omega arith
 
-  -- so nothing that begins past all bytes uses a slot
+  -- nothing that begins past all bytes uses a slot
   none_past : (t at k : ℕ) → 256 ≤ at → k < slot_count → TypeUses g t at k → ⊥
   none_past t at k past within u = past_all u.uses.first (size_of g u.uses.part) (part_from u.inner at u.uses.part u.uses.first u.uses.is_part) u.uses.shares
     where
@@ -203,13 +203,13 @@ module _ (g : GlobalLists) (members : List StructMember) (at at′ i : ℕ) (old
   is_at : slice_get members i ≡ Some m
   is_at = slice_get_read members (length members) i m refl within e
 
-  -- it walks through one more
+  -- the walk walks through one more member
   pub walks_on : (byte : ℕ) (walk′ : SlotWalk) → Some byte ≡ byte_of (at′ + m.offset) → KnowsNoted g walk′ → AddsSlotsOf g m.ty byte walk.slots walk′.slots → next ≡ walk′ → IsWalking g members at (i + 1) old next
   walks_on byte walk′ is known gains e′ =
       subst (IsWalking g members at (i + 1) old) (sym e′)
       record { noted = known; gains = added g members at i old walk.slots h.gains m is_at byte walk′.slots (byte_is _ byte is ∙ ap (λ n. n + m.offset) same) gains }
 
-  -- or passes over it
+  -- the walk passes over one more member, which begins past all bytes
   pub passes_on : (found : Option ℕ) → found ≡ byte_of (at′ + m.offset) → ((byte : ℕ) → found ≡ Some byte → ⊥) → next ≡ walk → IsWalking g members at (i + 1) old next
   passes_on found is none e′ =
       subst (IsWalking g members at (i + 1) old) (sym e′)

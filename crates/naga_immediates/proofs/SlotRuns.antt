@@ -46,7 +46,7 @@ module _ (slots : ImmediateSlots) where
     pub begins : begins_run slots first ≡ true
     pub all : (j : ℕ) → first ≤ j → j ≤ k → has_slot slots j ≡ true
 
-  -- it has one if it is in the set
+  -- each slot in the set has a run that begins at it or before
   runs_up_to : (k : ℕ) → has_slot slots k ≡ true → RunsUpTo k
   runs_up_to zero has = record { first = 0; before = omega arith; begins = has; all = λ j a b. subst (λ n. has_slot slots n ≡ true) (let same : 0 ≡ j = omega arith in same) has }
   runs_up_to (suc k) has = by_test (runs_up_to k) (has_slot slots k) refl
@@ -77,7 +77,7 @@ module _ (slots : ImmediateSlots) where
     pub from : run.first ≤ k
     pub to : k < run.end
 
-  -- it is one of the runs of the set
+  -- slot `k` is in one of the runs of the set
   pub record IsInRunOf (k : ℕ) : Type 0 where
     pub run : Run
     pub is_its : Contains (runs slots) run

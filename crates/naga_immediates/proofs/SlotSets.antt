@@ -14,7 +14,7 @@ pub exactly_too : (P Q : ℕ → Type 0) (slots : ImmediateSlots) → ((k : ℕ)
 exactly_too P Q slots same exactly k =
     ((λ has. let h = (exactly k).0 has in (h.0, (same k h.0).0 h.1)), λ h. (exactly k).1 (h.0, (same k h.0).1 h.1))
 
--- of more bytes than there are, the slots are the same
+-- a range of more than 4294967295 bytes has the slots of the first 4294967295
 all_bytes : (first size k : ℕ) → 4294967295 < size → k < slot_count → SharesByte first 4294967295 k ↔ SharesByte first size k
 all_bytes first size k many within = (there, back)
   where
@@ -27,7 +27,7 @@ all_bytes first size k many within = (there, back)
 same_size : (first size size′ k : ℕ) → size ≡ size′ → SharesByte first size k ↔ SharesByte first size′ k
 same_size first size size′ k e = (subst (λ n. SharesByte first n k) e, subst (λ n. SharesByte first n k) (sym e))
 
--- so a size past 32 bits may be read as the greatest number of 32 bits
+-- a size past 32 bits may be read as the greatest number of 32 bits
 pub greatest_size : (first size : ℕ) (found : Option ℕ) (slots : ImmediateSlots) → MatchOption found (4294967295 < size) (λ n. n ≡ size)
     → IsSetOf (SharesByte first (unwrap_or found 4294967295)) slots → IsSetOf (SharesByte first size) slots
 greatest_size first size None slots many = exactly_too _ _ slots (λ k within. all_bytes first size k many within)
@@ -46,7 +46,7 @@ shared_by_both offset size more k = (there, ⊎_elim first second)
     second : SharesByte (offset + size) more k → SharesByte offset (size + more) k
     second (byte, a, b, c, d) = (byte, omega arith, omega arith, c, d)
 
--- so their slots are the slots of both together
+-- the slots of two ranges of which one begins where the other ends are the slots of both together
 pub ranges_join : (offset size more : ℕ) (first second both : ImmediateSlots) → IsSetOf (SharesByte offset size) first → IsSetOf (SharesByte (offset + size) more) second → IsSetOf (SharesByte offset (size + more)) both
     → record { 0 = bit_or first.0 second.0 } ≡ both
 ranges_join offset size more first second both one other all = ap (λ n. let slots : ImmediateSlots = record { 0 = n } in slots) (same_from_bits (bit_or first.0 second.0) both.0 same)

@@ -21,7 +21,7 @@ abbrev pub written : List Run → List ℕ
 written [] = []
 written (run ∷ rest) = run_text run ++ more_text rest
 
--- and what comes before the next
+-- what is written before the next run, once some runs are
 abbrev pub separator : List Run → List ℕ
 separator [] = []
 separator (run ∷ rest) = codes ", "
@@ -104,7 +104,7 @@ more_begins (run ∷ rest) = lit< tt
 after_comma : {xs ys : List ℕ} → codes ", " ++ xs ≡ codes ", " ++ ys → xs ≡ ys
 after_comma e = cc
 
--- so are runs that come after another
+-- runs that come after another are determined by their text
 more_tells : (rest others : List Run) → All IsSmall rest → All IsSmall others → more_text rest ≡ more_text others → rest ≡ others
 more_tells [] [] small small′ e = refl
 more_tells [] (other ∷ others) small small′ e = absurd cc
@@ -158,7 +158,7 @@ before_more slots k =
 pub one_more : (slots : ImmediateSlots) (k : ℕ) → begins_run slots k ≡ true → runs_before slots k ++ run_from slots k ∷ [] ≡ runs_before slots (k + 1)
 one_more slots k begins = sym (before_more slots k ∙ ap (λ b. runs_before slots k ++ map (run_from slots) (cond b (k ∷ []) [])) begins)
 
--- and no more if none does
+-- no more runs if none begins with the slot
 pub no_more : (slots : ImmediateSlots) (k : ℕ) → begins_run slots k ≡ false → runs_before slots k ≡ runs_before slots (k + 1)
 no_more slots k none = sym (before_more slots k ∙ ap (λ b. runs_before slots k ++ map (run_from slots) (cond b (k ∷ []) [])) none ∙ append-nil (runs_before slots k))
 

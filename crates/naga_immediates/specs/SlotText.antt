@@ -10,11 +10,11 @@ pub record Run : Type 0 where
   pub first : ℕ
   pub end : ℕ
 
--- a slot is in a set
+-- slot `k` is in the set `slots`
 abbrev pub has_slot : ImmediateSlots → ℕ → Bool
 has_slot slots k = bit_at slots.0 k == 1
 
--- a run begins with a slot: it is in the set, and the slot before it isn't
+-- a run of `slots` begins with a slot: it is in the set, and the slot before it isn't
 abbrev pub begins_run : ImmediateSlots → ℕ → Bool
 begins_run slots zero = has_slot slots 0
 begins_run slots (suc before) = has_slot slots (suc before) && not (has_slot slots before)

@@ -35,15 +35,15 @@ slot_size = 4
 abbrev pub byte_count : ℕ
 byte_count = 256
 
--- a slot is in a set
+-- slot `k` is in the set `slots`
 abbrev pub HasSlot : ImmediateSlots → ℕ → Type 0
 HasSlot slots k = bit_at slots.0 k ≡ 1
 
--- `size` bytes from `first` on share a byte with a slot
+-- the `size` bytes from `first` on share a byte with slot `k`
 abbrev pub SharesByte : (first size k : ℕ) → Type 0
 SharesByte first size k = (byte : ℕ) × (first ≤ byte) × (byte < first + size) × (slot_size * k ≤ byte) × (byte < slot_size * k + slot_size)
 
--- a set has exactly the slots of which this holds
+-- the set `slots` has exactly the slots of which `P` holds
 abbrev pub IsSetOf : (ℕ → Type 0) → ImmediateSlots → Type 0
 IsSetOf P slots = (k : ℕ) → HasSlot slots k ↔ ((k < slot_count) × P k)
 
@@ -52,7 +52,7 @@ pub data HasPart (g : GlobalLists) : TypeInner → ℕ → TypeInner → ℕ →
   itself : (inner : TypeInner) (at : ℕ) → IsNoStruct inner → HasPart g inner at inner at
   in_member : (members : List StructMember) (span at : ℕ) (m : StructMember) (inner part : TypeInner) (first : ℕ) → Contains members m → inner_at g m.ty ≡ Some inner → HasPart g inner (at + m.offset) part first → HasPart g (Struct members span) at part first
 
--- a value that begins at byte `at` uses a slot: a part of it shares a byte with the slot
+-- a value of type `inner` that begins at byte `at` uses slot `k`: a part of it shares a byte with the slot
 pub record UsesSlot (g : GlobalLists) (inner : TypeInner) (at k : ℕ) : Type 0 where
   pub part : TypeInner
   pub first : ℕ
@@ -71,11 +71,11 @@ pub record AccessesMember (xs : List Expression) (whole : TypeInner) (pointer : 
   pub is_struct : whole ≡ Struct members span
   pub is_member : slice_get members index ≡ Some m
 
--- it accesses no member so
+-- `pointer` accesses no member of a variable of type `whole` by the member's index
 abbrev pub AccessesNone : List Expression → TypeInner → ℕ → Type 0
 AccessesNone xs whole pointer = (m : StructMember) → ¬ (AccessesMember xs whole pointer m)
 
--- if a pointer accesses a member of a known index, its base exists
+-- if `pointer` accesses a member by its index, its base exists
 abbrev pub BaseExists : List Expression → ℕ → Type 0
 BaseExists xs pointer = (base index : ℕ) → slice_get xs pointer ≡ Some (AccessIndex base index) → base < length xs
 
@@ -93,7 +93,7 @@ IsTyped g (Some v) = v.ty < length g.types
 abbrev pub form_of_variable : GlobalLists → Option Variable → Option TypeInner
 form_of_variable g variable = option_and_then (λ (v : Variable). inner_at g v.ty) variable
 
--- a set has exactly the slots of what a pointer into a variable reaches
+-- `slots` are exactly the slots of what `pointer` into `variable` reaches
 pub record AreSlotsTouched (g : GlobalLists) (xs : List Expression) (variable : Option Variable) (pointer : ℕ) (slots : ImmediateSlots) : Type 0 where
   pub whole : TypeInner
   pub inner : TypeInner
@@ -102,7 +102,7 @@ pub record AreSlotsTouched (g : GlobalLists) (xs : List Expression) (variable : 
   pub reached : Touches g xs whole pointer inner first
   pub exactly : IsSetOf (UsesSlot g inner first) slots
 
--- variables in a space hold immediate data
+-- variables in the address space hold immediate data
 abbrev pub is_immediate : AddressSpace → Bool
 is_immediate space.Function = false
 is_immediate space.Private = false

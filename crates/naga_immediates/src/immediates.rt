@@ -35,7 +35,7 @@ const BYTE_COUNT: usize = 256;
 /// How many struct types a walk notes for each byte.
 const NOTES_A_BYTE: usize = 8;
 
-/// How many it notes for all bytes.
+/// How many struct types a walk notes for all bytes.
 const NOTE_COUNT: usize = NOTES_A_BYTE * BYTE_COUNT;
 
 /// A set of slots of the immediate data of a pipeline: naga's `ImmediateSlots`. The 256 bytes of
@@ -75,8 +75,8 @@ impl ImmediateSlots {
         ImmediateSlots(below(last / SLOT_SIZE + 1) - below(first / SLOT_SIZE))
     }
 
-    /// The slots that a value of type `ty` uses if it begins at byte `offset`: those of which a
-    /// part of it has a byte. A struct has the parts of its members, at their offsets, and what is
+    /// The slots that a value of type `ty` uses if it begins at byte `offset`: the slots with which a
+    /// part of it shares a byte. A struct has the parts of its members, at their offsets, and what is
     /// between them is used by none; any other value is one part, of as many bytes as its size. Bytes
     /// from 256 on are in no slot.
     ///

@@ -100,7 +100,7 @@ module _ (a b : Leaves) (come : YieldsSame a b) (begun : b.is_begun ≡ true) (p
       comes_on (subst (HasSameFrom (lists_under b) (elements_for b) b.place.ty (place_start b.place)) (sym (unmoved_start (lists_under b) (elements_for b) b.place place same))
       (no_leaf_passed (lists_under b) (elements_for b) b.place.ty (place_start b.place)))
 
-  -- and if it had none to come to, the cursor is at the end
+  -- if a place that did not move had no leaf to come to, the cursor is at the end
   pub comes_to_end : HasNoneFrom (lists_under b) (elements_for b) b.place.ty (place_start b.place) → IsUnmoved b.place place → IsAtEnd a Now
   comes_to_end none same =
       let from_start : HasNoneFrom (lists_under b) (elements_for b) b.place.ty (start_of b) =
@@ -154,7 +154,7 @@ module _ (a : Leaves) (is : IsCursor a) (fresh : a.is_begun ≡ false) where
         fewer = let l : fuel a ≡ suc (place_left a.place) = left_fresh in omega arith;
       }
 
-  -- and one that is none is passed
+  -- a whole that is not a leaf is passed
   begins_without : None ≡ whole_part → ComesOn a Begun
   begins_without none = record {
     same = record {

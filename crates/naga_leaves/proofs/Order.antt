@@ -64,7 +64,7 @@ extends_or_past (i ∷ p) (j ∷ q) n (inl lt) = inr (inl lt)
 extends_or_past (i ∷ p) (j ∷ q) n (inr h) =
     ⊎_elim (λ (e : Extends p q n). inl (same_head i j p q n h.0 (extends_further i p q n e))) (λ (l : Past p q). inr (inr (h.0, l))) (extends_or_past p q n h.1)
 
--- and what comes after its extensions comes from the next index
+-- what comes after the extensions of the path with an index comes from the next index on
 pub past_next : (p q : List ℕ) (i : ℕ) → Past (p ++ i ∷ []) q → IsAtOrAfter (p ++ (i + 1) ∷ []) q
 past_next [] [] i h = absurd h
 past_next [] (j ∷ q) i (inl lt) = ⊎_elim (λ (l : i + 1 < j). inl l) (λ (e : (i + 1 ≡ j) ⊎ (j < i + 1)). ⊎_elim (λ (same : i + 1 ≡ j). inr (same, tt)) (λ (l : j < i + 1). inl (omega arith)) e) (less (i + 1) j)
@@ -73,7 +73,7 @@ past_next (k ∷ p) [] i h = absurd h
 past_next (k ∷ p) (j ∷ q) i (inl lt) = inl lt
 past_next (k ∷ p) (j ∷ q) i (inr h) = inr (h.0, past_next p q i h.1)
 
--- and from any index
+-- what comes after the extensions of a path comes from any index on
 pub past_from : (p q : List ℕ) (n : ℕ) → Past p q → IsAtOrAfter (p ++ n ∷ []) q
 past_from [] q n h = absurd h
 past_from (i ∷ p) [] n h = absurd h

@@ -42,6 +42,6 @@ part_is_named elements_of (Struct members span) i part h =
 part_is_named elements_of _ i part h = absurd (none-some part h)
 
 module _ (g : GlobalLists) (ok : GlobalReferencesOk g) (elements_of : Elements) (t : ℕ) (x : «Type») (i : ℕ) (part : Part) where
-  -- so it comes before the type
+  -- a part comes before the type that it is a part of
   pub part_comes_before : slice_get g.types t ≡ Some x → part_at elements_of x.inner i ≡ Some part → part.ty < t
   part_comes_before at h = parts_come_before g ok t x part.ty at (part_is_named elements_of x.inner i part h)

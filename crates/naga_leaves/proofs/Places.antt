@@ -117,7 +117,7 @@ module _ (g : GlobalLists) (elements_of : Elements) where
   leaf_at_none t i rest h = ap (option_and_then (λ (part : spec.Part). option_map (moved part.first) (leaf_at g elements_of part.ty rest))) h
 
   module _ (whole : ℕ) where
-    -- there is a part around for each index
+    -- there is a part around for each index of a path
     pub as_many : (outer : List Part) (path : List ℕ) (part : Part) → LeadsTo g elements_of whole outer path part → length outer ≡ length path
     as_many _ _ _ itself = refl
     as_many _ _ _ (further outer path part i child h is within) =

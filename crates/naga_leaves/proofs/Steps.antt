@@ -77,14 +77,14 @@ module _ (g : GlobalLists) (elements_of : Elements) (t : ℕ) where
       back = λ q l h. record { has = h.has; after = subst (λ p. IsAtOrAfter (p ++ n ∷ []) q) (sym e) (from_below r q i n h.after) };
     }
 
-    -- and so may those of its parts that are left
+    -- the same leaves are left from any later index of a part that has no more leaves
     pub past_rest : (m : ℕ) → n ≤ m → HasSameFrom g elements_of t (p ++ n ∷ []) (p ++ m ∷ [])
     past_rest m le = record {
       into = λ q l h. record { has = h.has; after = past_from p q m (is_past q l h) };
       back = λ q l h. record { has = h.has; after = from_lesser p q n m le h.after };
     }
 
-    -- and at the whole nothing is left
+    -- nothing is left at the whole
     pub none_left : p ≡ [] → HasNoneFrom g elements_of t (p ++ n ∷ [])
     none_left e q l h = subst (λ p. Past p q) e (is_past q l h)
 
@@ -221,7 +221,7 @@ module _ (g : GlobalLists) (ok : GlobalReferencesOk g) (elements_of : Elements) 
       skips_to next from within same =
           has_no_leaf_before next (omega arith) within (subst (λ k. HasSameFrom g elements_of before.ty (take n before.path.items ++ k ∷ []) (take n before.path.items ++ next ∷ [])) index_is same)
 
-      -- or if no part does
+      -- no leaf follows if no part does
       pub no_part_follows : part_of_type g elements_of around.ty index ≡ None → HasNoLeafBefore g elements_of before (suc largest_u32)
       no_part_follows none =
           let within : last ≤ largest_u32 = last_around.1 in
@@ -230,7 +230,7 @@ module _ (g : GlobalLists) (ok : GlobalReferencesOk g) (elements_of : Elements) 
           (λ m rest from below. in_around m rest ∙ ap (option_map (moved around.first)) (leaf_at_none g elements_of around.ty m rest (none_of_type_after g elements_of around.ty index m none from)))
           (suc largest_u32) (omega arith))
 
-      -- and none is in a part that begins past all numbers
+      -- no leaf is in a part that begins past all numbers of 64 bits
       pub far_part_follows : (child : spec.Part) → part_of_type g elements_of around.ty index ≡ Some child → largest_u64 < around.first + child.first → index ≤ largest_u32
           → HasNoLeafBefore g elements_of before (index + 1)
       far_part_follows child at far within =

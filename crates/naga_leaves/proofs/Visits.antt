@@ -66,7 +66,7 @@ module _ (g : GlobalLists) (ok : GlobalReferencesOk g) (elements_of : Elements) 
       then_first g elements_of before.ty (place_start before) at.path.items arrives.same at.path.items (place_start now) (bytes_of leaf)
       (subst (λ t. IsFirstLeaf g elements_of t at.path.items at.path.items (place_start now) (bytes_of leaf)) arrives.ty first)
 
-  -- and to visit another part is to pass no leaf
+  -- to visit a part that is not a leaf is to pass no leaf
   visits_other : leaf_of_part g elements_of at ≡ None → place_start now ≡ place_start at → HasSameFrom g elements_of before.ty (place_start before) (place_start now)
   visits_other is start =
       let none : leaf_at g elements_of at.ty at.path.items ≡ None = leaf_here g ok elements_of at arrives.place ∙ is in

@@ -38,7 +38,7 @@ module _ (t n : ℕ) (within : n ≤ largest_u32) where
       subst (λ k. part_left u 0 + part_left t (n + 1) < k * weight t) (sym fewer)
       (one_more (suc (suc largest_u32) - (n + 1)) (weight u) (weight t) (weight_grows u t back) (weight_positive u))
 
-  -- and so does to pass one
+  -- to pass a part takes a step
   pub passing : part_left t (n + 1) < part_left t n
   passing = subst (λ k. part_left t (n + 1) < k * weight t) (sym fewer) (one_less (suc (suc largest_u32) - (n + 1)) (weight t) (weight_positive t))
 
@@ -46,7 +46,7 @@ module _ (t n : ℕ) (within : n ≤ largest_u32) where
 pub later : (t n m : ℕ) → n ≤ m → part_left t m ≤ part_left t n
 later t n m le = mul-le-mul_right (weight t) (omega arith)
 
--- and to leave a part
+-- to leave a part takes a step
 pub leaving : (t n : ℕ) → n ≤ suc largest_u32 → 0 < part_left t n
 leaving t n within =
     let more : suc (suc largest_u32) - n ≡ (suc largest_u32 - n) + 1 = omega arith in

@@ -20,7 +20,7 @@ elements_for leaves = elements (lists_under leaves) leaves.length
 abbrev pub path_of : Leaves → List ℕ
 path_of leaves = leaves.place.path.items
 
--- the first path that a cursor has still to come to
+-- the first path to which a cursor has still to come
 abbrev pub start_of : Leaves → List ℕ
 start_of leaves = if leaves.is_begun then place_start leaves.place else []
 
@@ -28,7 +28,7 @@ start_of leaves = if leaves.is_begun then place_start leaves.place else []
 abbrev pub fuel : Leaves → ℕ
 fuel leaves = if leaves.is_begun then place_left leaves.place else suc (place_left leaves.place)
 
--- a cursor has still to come to a leaf at a path
+-- a cursor has still to come to `leaf`, which is at `path`
 abbrev pub IsRemaining : Leaves → List ℕ → LeafBytes → Type 0
 IsRemaining leaves path leaf = HasLeafFrom (lists_under leaves) (elements_for leaves) leaves.place.ty (start_of leaves) path leaf
 
@@ -38,24 +38,24 @@ pub record IsCursor (leaves : Leaves) : Type 0 where
   pub place : IsPlace (lists_under leaves) (elements_for leaves) leaves.place
   pub whole : leaves.is_begun ≡ false → (leaves.place.path.items ≡ []) × (leaves.place.next ≡ 0)
 
--- a cursor has still to come to all leaves of a type
+-- a cursor has still to come to all leaves of the type of index `t`, and to no others
 pub record YieldsAll (g : GlobalLists) (elements_of : Elements) (t : ℕ) (leaves : Leaves) : Type 0 where
   pub all : (path : List ℕ) (leaf : LeafBytes) → HasLeaf g elements_of t path leaf → IsRemaining leaves path leaf
   pub only : (path : List ℕ) (leaf : LeafBytes) → IsRemaining leaves path leaf → HasLeaf g elements_of t path leaf
 
--- a cursor goes over the same type as before
+-- the cursor `now` goes over the same type as `before`
 pub record IsOverSame (before now : Leaves) : Type 0 where
   pub lists : lists_under now ≡ lists_under before
   pub length : now.length ≡ before.length
   pub ty : now.place.ty ≡ before.place.ty
 
--- a cursor came to the first leaf that it had still to come to, and has now still to come to all others
+-- a cursor came to `leaf`, the first leaf to which it had still to come, and has now still to come to all others
 pub record IsNext (before now : Leaves) (leaf : LeafBytes) : Type 0 where
   pub over : IsOverSame before now
   pub first : IsFirstLeaf (lists_under before) (elements_for before) before.place.ty (start_of before) (path_of now) (start_of now) leaf
   pub fewer : fuel now < fuel before
 
--- a cursor has still to come to the leaves that it had still to come to
+-- the cursor `now` has still to come to the leaves to which `before` had still to come
 pub record YieldsSame (before now : Leaves) : Type 0 where
   pub over : IsOverSame before now
   pub same : HasSameFrom (lists_under before) (elements_for before) before.place.ty (start_of before) (start_of now)

@@ -1,7 +1,7 @@
 -- The order of paths.
 use Rattle.std.specs.Prelude.{◌≡◌, ◌<◌, ◌⊎◌, ℕ, List, [], ◌∷◌, ⊤}
 
--- a path comes at another or after it in lexicographic order, in which a path precedes all that it begins
+-- the second path comes at the first or after it in lexicographic order, in which a path precedes all that it begins
 abbrev pub IsAtOrAfter : List ℕ → List ℕ → Type 0
 IsAtOrAfter [] path = ⊤
 IsAtOrAfter (i ∷ start) [] = ⊥

@@ -18,7 +18,7 @@ pub data LeadsTo (g : GlobalLists) (elements_of : Elements) (whole : ℕ) : List
       → LeadsTo g elements_of whole outer path part → part_of_type g elements_of part.ty i ≡ Some child → i ≤ largest_u32
       → LeadsTo g elements_of whole (outer ++ part ∷ []) (path ++ i ∷ []) (record { ty = child.ty; first = part.first + child.first })
 
--- the path of a place leads to its part, and the next index is at most one above the greatest of a path
+-- the path of `place` leads to its part, and the next index is at most one above the greatest index in a path
 pub record IsPlace (g : GlobalLists) (elements_of : Elements) (place : Place) : Type 0 where
   pub exists : place.ty < length g.types
   pub leads : LeadsTo g elements_of place.ty place.outer.items place.path.items place.part
@@ -43,11 +43,11 @@ outer_left [] path = 0
 outer_left (part ∷ outer) [] = 0
 outer_left (part ∷ outer) (i ∷ path) = part_left part.ty (i + 1) + outer_left outer path
 
--- the steps that are left to a place at most
+-- the greatest number of steps that may be left to a place
 abbrev pub place_left : Place → ℕ
 place_left place = outer_left place.outer.items place.path.items + part_left place.part.ty place.next
 
--- a place went on to a part of its part
+-- a place went on to `part`, which is the part at `index` of its part
 pub record IsEntered (before now : Place) (index : ℕ) (part : Part) : Type 0 where
   pub ty : now.ty ≡ before.ty
   pub part_is : now.part ≡ part

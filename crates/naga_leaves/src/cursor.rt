@@ -21,7 +21,7 @@ use naga_ir::tags::TypeTag;
 use naga_typing::context::{GlobalCtx, to_ctx};
 use std::alloc::Global;
 
-/// An index past those of all elements and members, which are `u32`s.
+/// An index past the indexes of all elements and members, which are `u32`s.
 const PAST_PARTS: u64 = u32::MAX as u64 + 1;
 
 /// What a step comes to.

@@ -15,21 +15,21 @@ byte_of n = if ltb n byte_count then Some n else None
 abbrev pub notes_a_byte : ℕ
 notes_a_byte = 8
 
--- how many it notes for all bytes
+-- how many struct types a walk notes for all bytes
 abbrev pub note_count : ℕ
 note_count = 2048
 
--- where it notes that it has walked through a struct type from a byte
+-- where a walk notes that it has walked through a struct type from a byte
 abbrev pub place_of : (t byte : ℕ) → ℕ
 place_of t byte = notes_a_byte * byte + t % notes_a_byte
 
--- a value of the type of an index uses a slot if it begins at byte `at`
+-- a value of the type of index `t` that begins at byte `at` uses slot `k`
 pub record TypeUses (g : GlobalLists) (t at k : ℕ) : Type 0 where
   pub inner : TypeInner
   pub is_its : inner_at g t ≡ Some inner
   pub uses : UsesSlot g inner at k
 
--- a set has gained exactly the slots that a type uses from a byte on
+-- `new` has besides the slots of `old` exactly the slots that the type of index `t` uses from byte `at` on
 pub record AddsSlotsOf (g : GlobalLists) (t at : ℕ) (old new : ImmediateSlots) : Type 0 where
   pub kept : (k : ℕ) → HasSlot old k → HasSlot new k
   pub gained : (k : ℕ) → k < slot_count → TypeUses g t at k → HasSlot new k

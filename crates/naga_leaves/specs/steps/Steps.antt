@@ -12,11 +12,11 @@ use Rattle.naga_leaves.specs.LeavesFrom.{HasNoneFrom, HasSameFrom, IsFirstLeaf}
 use Rattle.naga_typing.specs.Leaves as spec
 use Rattle.naga_typing.specs.Leaves.{Elements, LeafBytes, leaf_at, moved}
 
--- a type has no part from an index on
+-- the type of index `t` has no part from the index `next` on
 abbrev pub HasNoPartFrom : GlobalLists → Elements → ℕ → ℕ → Type 0
 HasNoPartFrom g elements_of t next = (m : ℕ) → next ≤ m → m ≤ largest_u32 → part_of_type g elements_of t m ≡ None
 
--- a place went on to another part of the part around its part
+-- a place went on to `part`, another part of the part around its part, at `index`
 pub record IsTurned (before now : Place) (index : ℕ) (part : Part) : Type 0 where
   pub ty : now.ty ≡ before.ty
   pub part_is : now.part ≡ part
@@ -24,7 +24,7 @@ pub record IsTurned (before now : Place) (index : ℕ) (part : Part) : Type 0 wh
   pub outer : now.outer.items ≡ before.outer.items
   pub path : (rest : List ℕ) (i : ℕ) → before.path.items ≡ rest ++ i ∷ [] → now.path.items ≡ rest ++ index ∷ []
 
--- a part follows the part of a place in the part around it
+-- `part`, at `index`, follows the part of `place` in the part around it
 pub record IsFollowing (g : GlobalLists) (elements_of : Elements) (place : Place) (index : ℕ) (part : Part) : Type 0 where
   pub outer : List Part
   pub path : List ℕ
