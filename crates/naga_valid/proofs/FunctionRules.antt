@@ -57,7 +57,7 @@ module _ (resolves : Resolves) (m : Module) (f : Function) where
   same_given : (a b : Result TypeResolution ResolveError) → Some a ≡ Some b → a ≡ b
   same_given a b e = same_Some a b e
 
-  -- so the arguments that typed expressions name exist
+  -- the arguments that typed expressions name exist
   pub typed_arguments_exist : (types : List TypeResolution) → FollowInOrder (type_in_order resolves m f) f.expressions types
       → (e i : ℕ) → e < length types → slice_get f.expressions e ≡ Some (form.FunctionArgument i) → i < length f.arguments
   typed_arguments_exist types follow e i within there =
@@ -140,7 +140,7 @@ module _ (s : FunctionSurroundings) where
     next_place : n ≡ length w.stages
     next_place = next_index accepts_all f.expressions (length w.stages) left n x more w.iterating e
 
-    -- it keeps its rule
+    -- the next expression keeps its rule
     pub one_allowed : (allowed now : ShaderStages) → IsRuleAt s types n (Ok allowed) → now.0 ≡ bit_and common.0 allowed.0 → Asked types now more
     one_allowed allowed now meant is =
         let as_stages : ℕ → ShaderStages = λ n. record { 0 = n } in
@@ -152,7 +152,7 @@ module _ (s : FunctionSurroundings) where
           are_common = ap as_stages (is ∙ ap (λ k. bit_and k allowed.0) (ap of w.are_common)) ∙ sym (one_more_common w.stages allowed);
         }
 
-    -- it breaks its rule, as the first
+    -- the next expression is the first that breaks its rule
     pub one_breach : (source : ExpressionError) → n ≤ length types → IsRuleAt s types n (Err source) → IsFirstBreach s types n source
     one_breach source typed meant = record { typed = typed; before = w.stages; as_many = sym next_place; rules = w.rules; broken = meant }
 
@@ -246,7 +246,7 @@ module _ (s : FunctionSurroundings) where
           let meant = allow.rules (length info.types) last.0 last.1 in
           absurd (omega (arith, slice_get_within f.expressions (length info.types) meant.0 meant.2, types.as_many))
 
-  -- this as an error
+  -- the error of the first expression that breaks its rule refuses the function
   pub breach_as_refuses : (types : List TypeResolution) (e : FunctionError) → AreTypesReached s types → IsFirstBreachAs s types e → RefusesFunction s e
   breach_as_refuses types (Expression_ place source) reached first = breach_refuses types place source reached first
   breach_as_refuses types OutOfMemory reached first = absurd first

@@ -17,7 +17,7 @@ twice false = refl
 pub AreNoted : List Override → ℕ → List Bool → Type 0
 AreNoted overrides count seen = (id : ℕ) → has_id seen id ≡ list_any (has_number id) (take count overrides)
 
--- of no override
+-- a set without numbers has exactly the numbers of no override
 pub none_noted : (overrides : List Override) (seen : List Bool) → HasNone seen → AreNoted overrides 0 seen
 unfolding AreNoted
 none_noted overrides seen none = none
@@ -33,7 +33,7 @@ module _ (overrides : List Override) (count : ℕ) (seen : List Bool) (noted : A
   number-is : (id : ℕ) (own : Option ℕ) → o.id ≡ own → has_number id o ≡ unwrap_or (option_map (λ (n : ℕ). id == n) own) false
   number-is id own is = ap (λ (i : Option ℕ). unwrap_or (option_map (λ (n : ℕ). id == n) i) false) is
 
-  -- of one override more: its number is taken exactly if it was noted before
+  -- one override more: its number is taken exactly if it was noted before
   pub one_checked : (new : List Bool) (is_duplicate : Bool) → IsChecked seen o.id new is_duplicate → (is_duplicate ≡ is_taken (take count overrides) o.id) × AreNoted overrides (count + 1) new
   unfolding AreNoted
   one_checked new is_duplicate checked = by_number o.id refl checked

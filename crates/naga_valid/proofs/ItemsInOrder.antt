@@ -49,7 +49,7 @@ module _ {X : Type 0} (rule : ℕ × X → Result (Unit {0}) ValidationError) (i
     result-is : (r : Result (Unit {0}) ValidationError) → rule (n, x) ≡ r → slice_get (results_of rule items) n ≡ Some r
     result-is r is = let here : 0 + n ≡ n = omega arith in at-index rule items 0 n x next_item ∙ ap (λ k. Some (rule (k, x))) here ∙ ap Some is
 
-    -- it is accepted
+    -- one more item is accepted
     pub one_more : rule (n, x) ≡ Ok tt → Checks (count + 1) more
     one_more accepted = record {
       done = w.done ++ tt ∷ [];
@@ -57,7 +57,7 @@ module _ {X : Type 0} (rule : ℕ × X → Result (Unit {0}) ValidationError) (i
       as_many_done = length-append w.done (tt ∷ []) ∙ ap (λ k. k + 1) w.as_many_done;
     }
 
-    -- it is refused, as the first
+    -- the next item is the first that is refused
     pub first_refused : (error : ValidationError) → rule (n, x) ≡ Err error → IsFirstError (results_of rule items) n error
     first_refused error is = refused items (results_of rule items) w.done left n x more error w.progress e (result-is (Err error) is)
 

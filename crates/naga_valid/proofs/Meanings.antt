@@ -33,7 +33,7 @@ allows stages = Ok stages
 abbrev pub refuses : ExpressionError → Meant
 refuses source = Err source
 
--- of alike conditions, both are broken or none
+-- two conditions on the same bool are both broken or none
 module _ {E : Type 0} where
   unless_alike : (b : Bool) (e f : E) → require b e ≡ None → require b f ≡ None
   unless_alike true e f h = refl

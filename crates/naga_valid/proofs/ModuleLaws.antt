@@ -39,7 +39,7 @@ module _ (m : Module) (settings : Settings) (infos : List TypeInfo) (valid : Are
   pub storage_by_leaves : IfSome (slice_get infos t) (λ (info : TypeInfo). IsForHosts info → HaveLeafAlignments g t × HasStorageByLeaves g t info)
   storage_by_leaves = of-info (slice_get infos t) _ (λ info at for_hosts. (have_alignments info at for_hosts, host-storage m settings.capabilities settings.resolved valid.layouts infos valid.accepted t info at for_hosts))
 
-  -- its uniform layout
+  -- the uniform layout of data that hosts may share
   pub uniform_by_leaves : IfSome (slice_get infos t) (λ (info : TypeInfo). IsForHosts info → HaveLeafAlignments g t × HasUniformByLeaves g infos t info)
   uniform_by_leaves = of-info (slice_get infos t) _ (λ info at for_hosts. (have_alignments info at for_hosts, host-uniform m settings.capabilities settings.resolved valid.layouts infos valid.accepted t info at for_hosts))
 

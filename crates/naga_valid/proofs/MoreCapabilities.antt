@@ -67,7 +67,7 @@ module _ {T : Type 0} (resolves : T → Resolves) (m : Module) (resolved : Bool)
   pub accepts-more : (infos : List TypeInfo) (lists : ModuleInfoLists) → Accepts (resolves less.typing) m (settings_of less resolved) infos lists → Accepts (resolves more.typing) m (settings_of more resolved) infos lists
   accepts-more infos lists a = record { facts = a.facts; accepted = accepted-more a.facts a.accepted; infos_are = a.infos_are; lists_are = a.lists_are }
 
-  -- and what it returns is the same
+  -- a validator with more capabilities returns the same as the other
   pub accepts-same : (infos more_infos : List TypeInfo) (lists more_lists : ModuleInfoLists) → Accepts (resolves less.typing) m (settings_of less resolved) infos lists
       → Accepts (resolves more.typing) m (settings_of more resolved) more_infos more_lists → (more_infos ≡ infos) × (more_lists ≡ lists)
   accepts-same infos more_infos lists more_lists a b =

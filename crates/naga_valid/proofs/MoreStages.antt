@@ -51,7 +51,7 @@ module _ {A : Type 0} (of : A → ℕ) (p : ℕ → Bool) where
   all-hold [] each = refl
   all-hold (item ∷ items) each = both_true (each zero item refl) (all-hold items (λ k. each (suc k)))
 
-  -- and of each if of all
+  -- what holds of all items holds of each
   one-holds : (items : List A) → list_all p (map of items) ≡ true → (k : ℕ) (a : A) → slice_get items k ≡ Some a → p (of a) ≡ true
   one-holds [] all k a at = cc at
   one-holds (item ∷ items) all zero a at = subst (λ a. p (of a) ≡ true) (same_Some item a at) (and_parts (p (of item)) (list_all p (map of items)) all).0

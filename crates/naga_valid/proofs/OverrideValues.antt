@@ -29,7 +29,7 @@ pub accepted-if : {E : Type 0} (error : E → ValidationError) (r : Result (Unit
 accepted-if error (Ok u) ok = refl
 accepted-if error (Err e) ok = cc (ok)
 
--- and the other way round
+-- an accepted result is reported as accepted
 pub reported-if : {E : Type 0} (error : E → ValidationError) (r : Result (Unit {0}) E) → r ≡ Ok tt → IsOk (reported error r)
 reported-if error (Ok u) ok = refl
 reported-if error (Err e) ok = cc (ok)
@@ -86,7 +86,7 @@ module _ (capabilities : Capabilities) (m : Module) (info : ModuleInfoLists) (ki
       (All-append IsOk constants _ (all-left IsOk constants overrides rest)
       (all-weaker (override_result true m info) (override_result false m info) m.overrides override-too (all-right IsOk constants overrides rest)))
 
--- and so are all facts of a module
+-- all facts of a module that is accepted if overrides have to have values are its facts if they needn't
 pub accepted-too : (resolves : Resolves) (m : Module) (settings : Settings) (facts : Facts) → IsAccepted resolves m (record settings { resolved = true }) facts → IsAccepted resolves m (record settings { resolved = false }) facts
 accepted-too resolves m settings facts accepted = record {
   known = record {

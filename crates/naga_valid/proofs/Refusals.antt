@@ -64,7 +64,7 @@ module _ (resolves : Resolves) (m : Module) (settings : Settings) where
       Of : List TypeLayout → Type 0
       Of layouts = AllAcceptedInOrder (types_rule (global_lists m) settings.capabilities settings.resolved layouts) m.types us
 
-  -- and so are all facts
+  -- the facts of a module are the only ones
   pub facts_once : (us vs : Facts) → AreTypesAndExpressionsAccepted resolves m settings us → AreTypesAndExpressionsAccepted resolves m settings vs → us ≡ vs
   facts_once us vs u v = record_once (infos_once us.infos vs.infos u.types v.types) (accepted_once (resolve_in_order resolves m) m.global_expressions us.resolutions vs.resolutions u.resolutions v.resolutions)
     where

@@ -33,7 +33,7 @@ module _ (m : Module) (capabilities : Capabilities) (resolved : Bool) (layouts :
   returns_ok i said =
       given_is ∙ ap Some (sym (⊎_elim (λ (e : Ok i ≡ type_rule known t ty.inner). e) (λ (h : (Ok i ≡ Err OutOfMemory) × NeedsMemory (type_rule known t ty.inner)). cc (h.0)) (returned (Ok i) said)))
 
-  -- and so is an error, but refused memory
+  -- an error that is returned is the rule's, unless it is refused memory
   pub returns_err : (e : TypeError) → ThisRule (Err e) → ¬ (e ≡ OutOfMemory) → given_at (types_rule (global_lists m) capabilities resolved layouts) m.types infos t ≡ Some (Err e)
   returns_err e said other =
       given_is ∙ ap Some (sym (⊎_elim

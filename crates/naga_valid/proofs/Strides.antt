@@ -34,7 +34,7 @@ module _ (resolves : Resolves) (m : Module) (settings : Settings) (infos : List 
   no_short_stride : Accepts resolves m settings infos lists → (t : ℕ) → HasNoShortStride (global_lists m) t
   no_short_stride a = let types = a.accepted.known.types in no-short_stride m settings.capabilities settings.resolved types.layouts a.facts.infos types.accepted
 
-  -- and a module is accepted exactly if it is where strides may be short, and has none
+  -- a module is accepted exactly if it is accepted where strides may be short, and has no short stride
   pub accepts-strides : Accepts resolves m settings infos lists ↔ (AcceptsBy (type_rule_with true) resolves m settings infos lists × ((t : ℕ) → HasNoShortStride (global_lists m) t))
   accepts-strides = (
     λ a. (by_types type_rule (type_rule_with true) (any-stride m settings.capabilities settings.resolved) a, no_short_stride a),

@@ -15,7 +15,7 @@ use Rattle.naga_valid.specs.declared.function.FunctionsError.{FunctionsError}
 abbrev pub Validation : Type 0
 Validation = Function → ModuleInfoLists → FunctionSurroundings
 
--- the module has a function or an entry point of this index
+-- the module `m` has this function or entry point
 abbrev pub IsThere : Module → Callable → Type 0
 IsThere m (callable.Function i) = i < length m.functions
 IsThere m (callable.EntryPoint i) = i < length m.entry_points

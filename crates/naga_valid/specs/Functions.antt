@@ -49,7 +49,7 @@ function_surroundings resolves math state resolved m f infos = record {
   infos = infos;
 }
 
--- what the validation of one of them depends on, once their types and kinds are known
+-- what the validation of an expression of a function depends on, once `types` and `kinds` of its expressions are known
 abbrev pub expression_surroundings : FunctionSurroundings → List TypeResolution → List ExpressionKind → ExpressionSurroundings
 expression_surroundings s types kinds = record {
   capabilities = s.capabilities;
@@ -62,7 +62,9 @@ expression_surroundings s types kinds = record {
   kinds = kinds;
 }
 
--- what a validator in this state validates an expression of a function by: whether overrides must have their values, the module, the function, what is known of the module, and the types and the kinds of the expressions
+-- what the validation of an expression of a function depends on under a validator with this `state`: whether overrides
+-- must have their values, the module, the function, what is known of the module, and the types and the kinds of the
+-- expressions
 abbrev pub surroundings_under : {T : Type 0} → State T → Bool → Module → Function → ModuleInfoLists → List TypeResolution → List ExpressionKind → ExpressionSurroundings
 surroundings_under state resolved m f infos types kinds = record {
   capabilities = state.capabilities.0;
@@ -75,12 +77,12 @@ surroundings_under state resolved m f infos types kinds = record {
   kinds = kinds;
 }
 
--- by these types, this is what the rule of the expression at a place says
+-- by `types`, the rule of the expression at `place` says `rule`
 abbrev pub IsRuleAt : FunctionSurroundings → List TypeResolution → ℕ → Result ShaderStages ExpressionError → Type 0
 IsRuleAt s types place rule =
     (x : Expression) × (kinds : List ExpressionKind) × (slice_get s.function.expressions place ≡ Some x) × AreKinds s.function.expressions kinds × IsRule s.math (expression_surroundings s types kinds) x rule
 
--- as many of the first expressions keep their rules, and these are the stages that may use each
+-- the expression at each index of `stages` keeps its rule, and the item of that index is the stages that may use it
 abbrev pub KeepRules : FunctionSurroundings → List TypeResolution → List ShaderStages → Type 0
 KeepRules s types stages = (place : ℕ) (allowed : ShaderStages) → slice_get stages place ≡ Some allowed → IsRuleAt s types place (Ok allowed)
 
@@ -88,7 +90,8 @@ KeepRules s types stages = (place : ℕ) (allowed : ShaderStages) → slice_get 
 abbrev pub common_stages : List ShaderStages → ShaderStages
 common_stages stages = record { 0 = fold bit_and all_stages (map (λ (allowed : ShaderStages). allowed.0) stages) }
 
--- a function is accepted, and this is known of it: each expression has its type and keeps its rule, and the stages that may use the function are those that may use each expression
+-- the function of `s` is accepted, and `info` is what is known of it: each expression has its type and keeps its rule,
+-- and the stages that may use the function are the stages that may use each expression
 pub record IsFunctionAccepted (s : FunctionSurroundings) (info : FunctionInfo) : Type 0 where
   pub types : AreFunctionTypes s.resolves s.«module» s.function info.types
   pub stages : List ShaderStages
@@ -96,21 +99,22 @@ pub record IsFunctionAccepted (s : FunctionSurroundings) (info : FunctionInfo) :
   pub rules : KeepRules s info.types stages
   pub common : info.available_stages ≡ common_stages stages
 
--- the expression after the expressions of these types has no type, for this reason, and is the first such
+-- the expression after the ones that have `types` is the first that has no type, and `error` is why
 abbrev pub IsFirstUntyped : FunctionSurroundings → List TypeResolution → ResolveError → Type 0
 IsFirstUntyped s types error =
     AreTypesBefore s.resolves s.«module» s.function (length types) types × IsUntyped s.resolves s.«module» s.function (length types) types error
 
--- the expressions have these types: all of them, or those before the first that has none
+-- `types` are the types of all expressions, or of the expressions before the first that has none
 abbrev pub AreTypesReached : FunctionSurroundings → List TypeResolution → Type 0
 AreTypesReached s types = AreFunctionTypes s.resolves s.«module» s.function types ⊎ ((error : ResolveError) × IsFirstUntyped s types error)
 
--- the expression at a place is refused: its rule says so, or allows some stages, and it has no type
+-- the expression at `place` is refused: its rule says so, or allows some stages, and it has no type
 pub data IsRefusedAt (s : FunctionSurroundings) (types : List TypeResolution) (place : ℕ) : ExpressionError → Type 0 where
   breaks_rule : (source : ExpressionError) → IsRuleAt s types place (Err source) → IsRefusedAt s types place source
   has_no_type : (allowed : ShaderStages) (error : ResolveError) → IsRuleAt s types place (Ok allowed) → length types ≡ place → IsFirstUntyped s types error → IsRefusedAt s types place (Type_ error)
 
--- the expression at a place is the first that is refused: those before it have types and keep their rules
+-- the expression at `place` is the first that is refused, with the error `source`: the expressions before it have types
+-- and keep their rules
 pub record IsFunctionRefusal (s : FunctionSurroundings) (place : ℕ) (source : ExpressionError) : Type 0 where
   pub types : List TypeResolution
   pub reached : AreTypesReached s types
@@ -120,12 +124,12 @@ pub record IsFunctionRefusal (s : FunctionSurroundings) (place : ℕ) (source : 
   pub rules : KeepRules s types before
   pub refused : IsRefusedAt s types place source
 
--- a function is refused with this error, and isn't accepted
+-- the function of `s` is refused with this error, and isn't accepted
 abbrev pub RefusesFunction : FunctionSurroundings → FunctionError → Type 0
 RefusesFunction s (Expression_ place source) = IsFunctionRefusal s place source × ((info : FunctionInfo) → ¬ (IsFunctionAccepted s info))
 RefusesFunction s OutOfMemory = ⊥
 
--- each function whose result an expression of a function is has an index below this
+-- each function whose result is an expression of the function `f` has an index below `count`
 abbrev pub CallsBefore : Function → ℕ → Type 0
 CallsBefore f count = (e called : ℕ) → slice_get f.expressions e ≡ Some (form.CallResult called) → called < count
 

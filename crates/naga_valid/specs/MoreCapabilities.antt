@@ -20,12 +20,13 @@ pub record IsUsableByMore (less more : FunctionInfo) : Type 0 where
   pub types : more.types ≡ less.types
   pub stages : IsTrue (has more.available_stages.0 less.available_stages.0)
 
--- as many functions are known, and of each of them this holds
+-- as many functions are known by `more` as by `less`, and no fewer stages may use each
 pub record AreAllUsableByMore (less more : List FunctionInfo) : Type 0 where
   pub as_many : length more ≡ length less
   pub each : (k : ℕ) (a b : FunctionInfo) → slice_get less k ≡ Some a → slice_get more k ≡ Some b → IsUsableByMore a b
 
--- the same is known of a module, but for the stages of its functions and entry points, of which there are no fewer
+-- by `more` the same is known of a module as by `less`, except that no fewer stages may use its functions and entry
+-- points
 pub record KnowsMoreStages (less more : ModuleInfoLists) : Type 0 where
   pub functions : AreAllUsableByMore less.functions more.functions
   pub entry_points : AreAllUsableByMore less.entry_points more.entry_points

@@ -33,14 +33,15 @@ pub record State (T : Type 0) : Type 0 where
 abbrev pub settings_of : {T : Type 0} → State T → Bool → Settings
 settings_of state resolved = record { flags = state.flags; capabilities = state.capabilities; resolved = resolved }
 
--- the stages that may use subgroups: with one capability vertices, with the other fragments and the stages that run in workgroups
+-- the stages that may use subgroup operations: with `SUBGROUP_VERTEX_STAGE` vertex shaders, with `SUBGROUP` fragment
+-- shaders and the stages that run in workgroups
 abbrev pub stages_with : ℕ → ℕ
 stages_with capabilities =
     bit_or
     (if has capabilities SUBGROUP_VERTEX_STAGE then VERTEX else 0)
     (if has capabilities SUBGROUP then union_of (FRAGMENT ∷ COMPUTE_LIKE ∷ []) else 0)
 
--- the operations that they may use: all, with a capability
+-- the subgroup operations that stages may use: all with the capability `SUBGROUP`, and else none
 abbrev pub operations_with : ℕ → ℕ
 operations_with capabilities = if has capabilities SUBGROUP then all_subgroup_operations else 0
 

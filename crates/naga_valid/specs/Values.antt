@@ -33,7 +33,7 @@ use Rattle.naga_valid.specs.declared.error.ValidationError.TheVariants.{ConstExp
 abbrev pub is_constructible : ModuleInfoLists → ℕ → Boolean
 is_constructible info t = unwrap_or (option_map (λ (f : TypeFlags). has f.0 CONSTRUCTIBLE) (slice_get info.type_flags t)) false
 
--- whether a global expression has this type
+-- whether the global expression of index `e` has the type of index `t`
 abbrev pub has_type : Module → ModuleInfoLists → ℕ → ℕ → Boolean
 has_type m info t e = is_of m.types t (resolution_in (slice_get info.const_expression_types e))
 
@@ -78,7 +78,7 @@ is_override_type (Some (RayQuery vertex_return)) = false
 is_override_type (Some (BindingArray base size)) = false
 is_override_type None = false
 
--- whether an override has this number
+-- whether the override `o` has the number `id`
 abbrev pub has_number : ℕ → OverrideItem → Boolean
 has_number id o = unwrap_or (option_map (λ (own : ℕ). id == own) o.id) false
 
@@ -139,7 +139,7 @@ value_results capabilities resolved m info kinds =
     ++ (results_of (constant_result m info kinds) m.constants
     ++ results_of (override_result resolved m info) m.overrides)
 
--- these are the results of all values, by the kinds of the global expressions
+-- `results` are the results of all values, by the kinds of the global expressions
 abbrev pub AreValueResults : Capabilities → Boolean → Module → ModuleInfoLists → List (Result (Unit {0}) ValidationError) → Type 0
 AreValueResults capabilities resolved m info results =
     (kinds : List ExpressionKind) × AreKinds m.global_expressions kinds × (results ≡ value_results capabilities resolved m info kinds)

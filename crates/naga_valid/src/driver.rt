@@ -104,7 +104,7 @@ impl Model for Settings {
     ghost inverse = { λ s. record { flags = s.flags; capabilities = s.capabilities; overrides_resolved = s.resolved } };
 }
 
-/// The stages that may use subgroups, as the capabilities say.
+/// The stages that may use subgroup operations under these capabilities.
 fn stages_with(capabilities: Capabilities) -> ShaderStages
     ensures { result ≡ record { 0 = state.stages_with capabilities.0 } }
 {
@@ -119,7 +119,7 @@ fn stages_with(capabilities: Capabilities) -> ShaderStages
     stages
 }
 
-/// What may be done in subgroups, as the capabilities say.
+/// The subgroup operations that are allowed under these capabilities.
 fn operations_with(capabilities: Capabilities) -> SubgroupOperationSet
     ensures { result ≡ record { 0 = state.operations_with capabilities.0 } }
 {
@@ -177,7 +177,7 @@ impl<T: Typing> Validator<T> {
         }
     }
 
-    /// Has these stages use subgroups, and no others.
+    /// Lets these stages use subgroup operations, and no others.
     pub fn subgroup_stages(&mut self, stages: ShaderStages) -> &mut Self
         ensures set { result.now ≡ record self.old { subgroup_stages = stages } }
         ensures same { result.ghost_name ≡ self.entry.ghost_name }
@@ -331,7 +331,7 @@ impl<T: Typing> Validator<T> {
         Ok(mod_info)
     }
 
-    /// Whether a scalar has a good width under the capabilities, and whether immediates may hold it.
+    /// Checks that the capabilities allow the width of a scalar, and returns whether immediates may hold it.
     ///
     /// # Errors
     ///
@@ -342,7 +342,7 @@ impl<T: Typing> Validator<T> {
         check_width(self.capabilities, scalar)
     }
 
-    /// Whether a literal has a good width under the capabilities.
+    /// Checks that the capabilities allow the width of a literal.
     ///
     /// # Errors
     ///

@@ -372,7 +372,7 @@ impl<T: Typing> Validator<T> {
     ///
     /// # Errors
     ///
-    /// That it is refused, or that memory was.
+    /// The error of the function or entry point that is refused, or `OutOfMemory` if memory was refused.
     fn validate_next(
         &self,
         module: &Module,

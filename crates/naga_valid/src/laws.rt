@@ -84,9 +84,8 @@ pub fn leaves_at_length<T: Typing>(
         → AreSeparate (global_lists «module».now) length ty (first + length * stride) }
 {}
 
-/// What the rule on strides keeps out, and that alone: a module is accepted exactly if it would be accepted where
-/// an array may have any stride, and no array in it has a stride below the size of its elements. What is known of
-/// it is the same.
+/// What the rule on strides refuses: a module is accepted exactly if it would be accepted where an array may have any
+/// stride, and no array in it has a stride below the size of its elements. What is known of it is the same.
 ///
 /// So of a module from elsewhere, whose arrays have room for their elements, nothing is refused by this rule.
 pub fn strides<T: Typing>(module: &Module, validator: &Validator<T>, resolved: bool)
@@ -97,14 +96,14 @@ pub fn strides<T: Typing>(module: &Module, validator: &Validator<T>, resolved: b
         × ((t : ℕ) → HasNoShortStride (global_lists «module».now) t)) }
 {}
 
-/// When a type can stand in storage buffers, by its leaves. The leaf alignment of a type is the
+/// When a type has a storage layout, by its leaves. The leaf alignment of a type is the
 /// greatest alignment that a leaf of it has if each array is read with one element. The type has a
 /// storage layout exactly if, for itself and all types inside it, each offset of a member is a
 /// multiple of the leaf alignment of the member's type, each span of the leaf alignment of the struct, and each
 /// stride of the leaf alignment of the elements; the layout is then its leaf alignment.
 ///
 /// It holds of types with the flags `DATA` and `HOST_SHAREABLE`; these and all types inside them have
-/// leaf alignments. Which error stands in the place of a layout isn't said.
+/// leaf alignments. Which error a type without a layout has isn't promised.
 pub fn storage_ok<T: Typing>(
     module: &Module,
     validator: &Validator<T>,
@@ -116,7 +115,7 @@ pub fn storage_ok<T: Typing>(
         → HaveLeafAlignments (global_lists «module».now) ty × HasStorageByLeaves (global_lists «module».now) ty info) }
 {}
 
-/// When a type can stand in uniform buffers, by its leaves. The uniform alignment of a type is its
+/// When a type has a uniform layout, by its leaves. The uniform alignment of a type is its
 /// leaf alignment, as in `storage_ok`, but at least 16 for structs and arrays. The type has a uniform
 /// layout exactly if these hold of itself and of all types inside it; the layout is then its uniform
 /// alignment.
@@ -129,7 +128,7 @@ pub fn storage_ok<T: Typing>(
 ///   alignment of the array.
 ///
 /// It holds of types with the flags `DATA` and `HOST_SHAREABLE`; these and all types inside them have
-/// leaf alignments. Which error stands in the place of a layout isn't said.
+/// leaf alignments. Which error a type without a layout has isn't promised.
 pub fn uniform_ok<T: Typing>(
     module: &Module,
     validator: &Validator<T>,

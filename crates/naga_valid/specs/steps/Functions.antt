@@ -14,7 +14,7 @@ use Rattle.naga_valid.specs.Functions.{AreTypesReached, CallsBefore, FunctionSur
 use Rattle.naga_valid.specs.declared.function.FunctionError.{FunctionError}
 use Rattle.naga_valid.specs.declared.function.FunctionError.TheVariants.{Expression, OutOfMemory}
 
--- the rules of a function's expressions can be checked, by these types
+-- the rules of the expressions of a function can be checked by `types`
 pub record CanCheckRules (s : FunctionSurroundings) (types : List TypeResolution) : Type 0 where
   pub handles : HandlesAccepted s.«module»
   pub in_function : ExpressionReferencesOk s.«module» s.function
@@ -31,14 +31,15 @@ AreFoundKinds xs kinds = (kinds ≡ []) ⊎ AreKinds xs kinds
 abbrev pub SufficeFor : List Expression_ → Expression_ → List ExpressionKind → Type 0
 SufficeFor xs x kinds = (kind_operands x ≡ []) ⊎ AreKinds xs kinds
 
--- all expressions, or at least one more than have types, keep their rules, and have these stages in common
+-- all expressions, or at least one more than have types, keep their rules, and `common` are the stages that may use
+-- each of these
 pub record AllowInCommon (s : FunctionSurroundings) (types : List TypeResolution) (common : ShaderStages) : Type 0 where
   pub stages : List ShaderStages
   pub enough : (length stages ≡ length s.function.expressions) ⊎ (length types < length stages)
   pub rules : KeepRules s types stages
   pub are_common : common ≡ common_stages stages
 
--- the expression at a place is the first that breaks its rule
+-- the expression at `place` is the first that breaks its rule, with the error `source`
 pub record IsFirstBreach (s : FunctionSurroundings) (types : List TypeResolution) (place : ℕ) (source : ExpressionError) : Type 0 where
   pub typed : place ≤ length types
   pub before : List ShaderStages
@@ -46,7 +47,7 @@ pub record IsFirstBreach (s : FunctionSurroundings) (types : List TypeResolution
   pub rules : KeepRules s types before
   pub broken : IsRuleAt s types place (Err source)
 
--- this as an error
+-- the error names the first expression that breaks its rule
 abbrev pub IsFirstBreachAs : FunctionSurroundings → List TypeResolution → FunctionError → Type 0
 IsFirstBreachAs s types (Expression place source) = IsFirstBreach s types place source
 IsFirstBreachAs s types OutOfMemory = ⊥

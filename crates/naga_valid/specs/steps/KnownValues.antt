@@ -20,16 +20,16 @@ pub record AreFilled (m : Module) (info : ModuleInfoLists) : Type 0 where
   pub types : length info.const_expression_types ≡ length m.global_expressions
   pub exist : All (TypesExist m.types) info.const_expression_types
 
--- the kinds of its global expressions are known too
+-- besides what `AreFilled` says, `kinds` has a kind for each global expression of the module
 pub record AreFilledWithKinds (m : Module) (info : ModuleInfoLists) (kinds : List ExpressionKind) : Type 0 where
   pub filled : AreFilled m info
   pub kinds_are : length kinds ≡ length m.global_expressions
 
--- an error is the first of some results
+-- `e` is the first error among `results`
 abbrev pub IsFirstValueError : List (Result (Unit {0}) ValidationError) → ValidationError → Type 0
 IsFirstValueError results e = (place : ℕ) × IsFirstError results place e
 
--- an error is the error of the first global expression that has no type
+-- `e` is the error of the first global expression that has no type
 pub record IsFirstUnresolved (resolves : Resolves) (m : Module) (e : ValidationError) : Type 0 where
   pub handle : ℕ
   pub error : ResolveError
