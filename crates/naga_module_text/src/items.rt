@@ -13,8 +13,8 @@ use std::alloc::Global;
 /// The number of items for which an arena has room.
 pub const MOST_ITEMS: usize = u32::MAX as usize;
 
-/// The most words that follow the word for what a line adds, unless a line can have any number of them: those of
-/// `sample`. Only so many are listed of a line.
+/// The most words that follow the word for what a line adds, unless a line can have any number of them: `sample` has as
+/// many. Only so many are listed of a line.
 pub const MOST_WORDS: usize = 9;
 
 /// What words say, if they say something.

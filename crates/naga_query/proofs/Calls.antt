@@ -46,7 +46,7 @@ module _ (count : ℕ) where
       subst (All IsExpressionBelow) (sym are)
       (All-append IsExpressionBelow called [] (All-map IsExpressionBelow to.Expression (a ∷ after_first) (all-of (λ e. IsExpressionBelow (to.Expression e)) (a ∷ after_first) (λ e names. (e, refl, All-contains IsBelow (a ∷ after_first) e arguments names)))) (All-nil IsExpressionBelow))
 
--- it can be resolved by types that exist
+-- a call can be resolved by types that exist
 pub can_resolve_call : (m : Module) (x : Expression) (types : List ℕ) → HandlesAccepted m → All (λ t. t < length m.types) types
     → AreExpressionsBelow (length types) (expression_references x) → CanResolve m x (map resolution.Handle types)
 can_resolve_call m x types handles exist below =

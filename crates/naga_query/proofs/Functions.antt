@@ -13,7 +13,7 @@ use Rattle.naga_types.proofs.LayoutParts.{contains-place}
 use Rattle.naga_valid.specs.Functions.{IsFunctionReady, AreFunctionsReadyInOrder}
 
 module _ (m : Module) (f : Function) (n : ℕ) where
-  -- its references are right if the handles of the module are
+  -- the references of the function are right if the handles of the module are
   pub function_ok : HandlesAccepted m → IsFunctionAt m f n → FunctionReferencesOk m f
   function_ok handles (inl at) = function_references_ok m f (Contains-append_left m.functions _ f (contains-place m.functions n f at)) handles
   function_ok handles (inr (i, e, at, is, all)) =
@@ -25,7 +25,7 @@ module _ (m : Module) (f : Function) (n : ℕ) where
   preceding_within (inl at) = let within = slice_get_within m.functions n f at in omega (arith, within)
   preceding_within (inr (i, e, at, is, all)) = omega (arith, all)
 
-  -- it can be validated once those that precede it are known
+  -- the function can be validated once those that precede it are known
   pub ready_at : AreFunctionsReadyInOrder m → IsFunctionAt m f n → IsFunctionReady m f n
   ready_at in_order (inl at) = in_order.functions n f at
   ready_at in_order (inr (i, e, at, is, all)) =

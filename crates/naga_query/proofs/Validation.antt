@@ -55,7 +55,7 @@ module _ (s : ExpressionSurroundings) (place : ℕ) (known : CanValidateIn s.«m
   unfolding operands
   no_operands i = refl
 
-  -- so can an argument
+  -- an argument can be validated at the place
   ready_argument : (i : ℕ) → IsReady s place (form.FunctionArgument i)
   ready_argument i = record {
     sound = sound;

@@ -247,7 +247,7 @@ impl Answering {
         self.add_line(line)
     }
 
-    /// Writes a line back that is no part of a result, unless it is a query. That one is returned.
+    /// Writes back a line that is not a part of a result, unless it is a query, which is returned.
     fn add_other(&mut self, line: &str) -> Result<Option<Asked>, AllocError> {
         self.is_noted = false;
         if query_in(line).is_none() {

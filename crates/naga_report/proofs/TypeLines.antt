@@ -69,7 +69,7 @@ info_is text infos n more s = ap (λ l. slice_get l n) s.whole ∙ ap (slice_get
 pub within : (text : List ℕ) (infos : List TypeInfo) (left : List (ℕ × «Type»)) (n : ℕ) (t : «Type») (more : List (ℕ × «Type»)) → IsWritten text infos left → left ≡ (n, t) ∷ more → n < length infos
 within text infos left n t more w e = let s = next text infos left n t more w e in slice_get_within infos n s.info (info_is text infos n more s)
 
--- its line is written
+-- the line of the next type is written
 pub written : (text now : List ℕ) (infos : List TypeInfo) (left : List (ℕ × «Type»)) (n : ℕ) (t : «Type») (more : List (ℕ × «Type»)) (info : TypeInfo)
     → IsWritten text infos left → left ≡ (n, t) ∷ more → slice_get infos n ≡ Some info → now ≡ text ++ type_line n info → IsWritten now infos more
 written text now infos left n t more info w e at is =

@@ -70,14 +70,14 @@ unreadable_text n = codes "line " ++ (decimal n ++ codes " not readable\n")
 abbrev pub settings_in : Contents → Settings
 settings_in contents = record { flags = contents.flags; capabilities = contents.capabilities; resolved = contents.resolved }
 
--- a text is a report on contents, of this kind
+-- `text` is a report on `contents`, of the kind of the outcome
 abbrev pub IsReportOn : Contents → List ℕ → Outcome → Type 0
 IsReportOn contents text Accepted = (facts : Facts) × IsAccepted plain_resolves contents.«module» (settings_in contents) facts × (text ≡ accepted_text facts.infos)
 IsReportOn contents text Refused =
     (text ≡ refused_memory_text) ⊎ ((e : ValidationError) × Refuses plain_resolves contents.«module» (settings_in contents) e × (text ≡ refused_text e))
 IsReportOn contents text Unreadable = ⊥
 
--- a text is a report on an input, of this kind: on what the input says, or on its first unreadable line
+-- `text` is a report on `input`, of the kind `outcome`: on what the input says, or on its first unreadable line
 pub data IsReport (input text : List ℕ) (outcome : Outcome) : Type 0 where
   readable : (contents : Contents) → IsText (lines_of input) contents → IsReportOn contents text outcome → IsReport input text outcome
   unreadable : (n : ℕ) → IsFirstUnreadable (lines_of input) n → text ≡ unreadable_text n → outcome ≡ Unreadable → IsReport input text outcome

@@ -7,15 +7,15 @@ use Rattle.naga_report.specs.declared.report.Outcome.TheVariants.{Accepted, Refu
 use Rattle.naga_report.specs.declared.run.RunFault.{RunFault}
 use Rattle.naga_report.specs.declared.run.RunFault.TheVariants as fault
 
--- the bytes grew by a report on the input, of this kind
+-- the bytes of a writer grew from `old` to `new` by a report on `input`, of the kind `outcome`
 abbrev pub Reports : List ℕ → Outcome → Option (List ℕ) → Option (List ℕ) → Type 0
 Reports input outcome old new = (text : List ℕ) × IsReport input text outcome × Appends old new text
 
--- the bytes grew by the beginning of a text
+-- the bytes of a writer grew from `old` to `new` by a beginning of `text`
 abbrev pub AppendsFront : List ℕ → Option (List ℕ) → Option (List ℕ) → Type 0
 AppendsFront text old new = (n : ℕ) × Appends old new (take n text)
 
--- the bytes grew by the beginning of a report on the input
+-- the bytes of a writer grew from `old` to `new` by a beginning of a report on `input`
 abbrev pub BeginsReport : List ℕ → Option (List ℕ) → Option (List ℕ) → Type 0
 BeginsReport input old new = (text : List ℕ) × (outcome : Outcome) × IsReport input text outcome × AppendsFront text old new
 

@@ -31,7 +31,7 @@ binding_again ps (Some (Location location (Some blend_src))) h =
     by_parts (binding_parts (Some (Location location (Some blend_src)))) ps (λ ps. binding_of ps ≡ Some (Some (Location location (Some blend_src)))) h (λ l e b f. rw (e, f) refl)
 binding_again ps (Some (BuiltIn value)) h = by_parts (binding_parts (Some (BuiltIn value))) ps (λ ps. binding_of ps ≡ Some (Some (BuiltIn value))) h (λ w f. absurd f)
 
--- so is a member
+-- a member is read of pieces that write it, and of each such list of pieces
 pieces_found : (ps : List (List ℕ)) (m : StructMember) → member_in ps ≡ Some m → (m.name ≡ None) × Matches (handle m.ty ∷ u32_word m.offset ∷ binding_parts m.binding) ps
 pieces_found (t ∷ o ∷ rest) m h =
     option_and_then_some _ (handle_of t) m h λ ty e h.

@@ -44,7 +44,7 @@ size_found w size h = option_and_then_some size_at (number_up_to 4 w) size h λ 
 pub size_again : (w : List ℕ) (size : VectorSize) → number_up_to 4 w ≡ Some (components size) → size_of w ≡ Some size
 size_again w size h = ap (λ n. n >>= size_at) h ∙ size_at_again size
 
--- and so is the size of a value pointer
+-- the size of a value pointer is read of a word that writes its number, and of each such word
 pointed_size_at_found : (n : ℕ) (size : Option VectorSize) → pointed_size_at n ≡ Some size → n ≡ pointed_components size
 pointed_size_at_found n size h =
     by_number (λ (size : Option VectorSize). n ≡ pointed_components size) (n == 0) _ _ size h (eqb-true n 0) (λ h.
@@ -62,7 +62,7 @@ pointed_size_found w size h = option_and_then_some pointed_size_at (number_up_to
 pub pointed_size_again : (w : List ℕ) (size : Option VectorSize) → number_up_to 4 w ≡ Some (pointed_components size) → pointed_size_of w ≡ Some size
 pointed_size_again w size h = ap (λ n. n >>= pointed_size_at) h ∙ pointed_size_at_again size
 
--- and so has the size of a cooperative matrix
+-- the size of a cooperative matrix is read of a word that writes its number, and of each such word
 cooperative_size_at_found : (n : ℕ) (size : CooperativeSize) → cooperative_size_at n ≡ Some size → n ≡ cooperative_components size
 cooperative_size_at_found n size h =
     let P = λ (size : CooperativeSize). n ≡ cooperative_components size in
@@ -167,14 +167,14 @@ module _ {A : Type 0} (reader : List ℕ → Option A) where
       ] in
       passed_by _ _ _ no_minus ∙ ap (λ read. read >>= (λ a. Some (Some a))) h
 
--- so is a handle that may be absent
+-- a handle that may be absent is read of a word that writes it or of a minus, and of each such word
 pub optional_handle_found : (w : List ℕ) (index : Option ℕ) → optional_of handle_of w ≡ Some index → optional handle index w
 optional_handle_found w index h = optional_found handle_of w index h
 
 pub optional_handle_again : (w : List ℕ) (index : Option ℕ) → optional handle index w → optional_of handle_of w ≡ Some index
 optional_handle_again w index h = optional_again handle_of (λ n e. no_digit largest_handle minus [] n refl e) w index h
 
--- and a number that may be
+-- a number that may be absent is read of a word that writes it or of a minus, and of each such word
 pub optional_number_found : (w : List ℕ) (n : Option ℕ) → optional_of (number_up_to largest_u16) w ≡ Some n → optional (number largest_u16) n w
 optional_number_found w n h = optional_found (number_up_to largest_u16) w n h
 

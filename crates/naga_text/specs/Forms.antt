@@ -26,7 +26,7 @@ use Rattle.naga_text.specs.declared.line.Line.TheVariants.{Flags, Capabilities, 
 abbrev pub Part : Type 1
 Part = List ℕ → Type 0
 
--- this very word
+-- the word of these bytes
 abbrev pub word : List ℕ → Part
 word bytes = λ w. w ≡ bytes
 
@@ -175,6 +175,6 @@ form (Constant ty init) = word (codes "const") ∷ handle ty ∷ handle init ∷
 form (Override ty init id) = word (codes "override") ∷ handle ty ∷ optional handle init ∷ optional (number largest_u16) id ∷ []
 form (Doc ty member) = word (codes "doc") ∷ handle ty ∷ handle member ∷ []
 
--- the words are a line that says this
+-- `words` are the words of a line that says `line`
 abbrev pub IsForm : List (List ℕ) → Line → Type 0
 IsForm words line = Matches (form line) words

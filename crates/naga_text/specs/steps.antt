@@ -1,4 +1,4 @@
--- What the private functions say of their steps.
+-- What only private functions promise one another.
 pub mod LineForms
 pub mod Lines
 pub mod SoFar

@@ -17,7 +17,7 @@ use naga_ir::list::List;
 use naga_ir::tags::ExpressionTag;
 use std::alloc::Global;
 
-/// The most words that stand after the form of an expression other than `compose`: those of a binary operation.
+/// The most words after the form of an expression other than `compose`: a binary operation has as many.
 const MOST_WORDS: usize = 3;
 
 fn literal_expression(words: &[&[u8]]) -> Option<Expression>

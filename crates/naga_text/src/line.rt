@@ -66,7 +66,7 @@ fn all_capabilities() -> u64
     Capabilities::all().bits()
 }
 
-/// The most words that stand after a keyword other than `type` and `expr`: those of an override.
+/// The most words after a keyword other than `type` and `expr`: an override has as many.
 const MOST_WORDS: usize = 3;
 
 fn flags(words: &[&[u8]]) -> Option<Line>

@@ -15,7 +15,7 @@ use naga_ir::OutOfMemory;
 use naga_ir::types::{Scalar, TypeInner};
 use std::alloc::Global;
 
-/// The most words that stand after the form of a type other than `struct`: those of a cooperative matrix.
+/// The most words after the form of a type other than `struct`: a cooperative matrix has as many.
 const MOST_WORDS: usize = 5;
 
 fn scalar(kind_word: &[u8], width_word: &[u8]) -> Option<Scalar>

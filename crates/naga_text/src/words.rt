@@ -110,7 +110,7 @@ pub fn role(word: &[u8]) -> Option<CooperativeRole>
     )
 }
 
-/// An address space. That of storage can be read and written.
+/// An address space. Storage can be read and written.
 pub fn space(word: &[u8]) -> Option<AddressSpace>
     ensures { result ≡ chosen spaces word.now }
 {

@@ -20,7 +20,7 @@ IsSetOnce old value new set = MatchOption old ((set ≡ true) × (new ≡ Some v
 abbrev pub CanAdd : List «Type» → «Type» → Type 0
 CanAdd old t = (¬ (Contains old t)) × (length old < largest_u32)
 
--- a type was added that could be, or it can't be added
+-- a type made of `inner` was added, which could be added, or it can't be
 abbrev pub IsNewType : List «Type» → TypeInner → List «Type» → Bool → Type 0
 IsNewType old inner new added =
     let t : «Type» = record { name = None; inner = inner } in
@@ -48,7 +48,8 @@ finished read = record {
   resolved = unwrap_or read.resolved false;
 }
 
--- after lines that say the old, one line more is consistent with them and makes them say the new, or is not, whatever follows
+-- after lines that say `old`, the line `line` is consistent with them and makes them say `new`, or is not, whatever
+-- follows
 abbrev pub IsAdded : ContentsSoFar → Line_ → ContentsSoFar → Bool → Type 0
 IsAdded old line new added = (said : List Line_) → AreConsistent said → old ≡ so_far said →
     MatchBool added (AreConsistent (said ++ line ∷ []) × (new ≡ so_far (said ++ line ∷ []))) ((after : List Line_) → ¬ (AreConsistent (said ++ line ∷ [] ++ after)))
@@ -57,22 +58,23 @@ IsAdded old line new added = (said : List Line_) → AreConsistent said → old 
 abbrev pub AreAdded : ContentsSoFar → List (List ℕ) → ContentsSoFar → Bool → Type 0
 AreAdded old words new added = MatchOption (line_of words) (added ≡ false) (λ line. IsAdded old line new added)
 
--- the lines of a text so far say this
+-- `read` is what `lines`, the lines of a text so far, say
 pub record ReadSoFar (lines : List (List ℕ)) (read : ContentsSoFar) : Type 0 where
   pub said : List Line_
   pub forms : AreForms lines said
   pub consistent : AreConsistent said
   pub contents_are : read ≡ so_far said
 
--- no text that begins with these lines can be read
+-- no text that begins with `lines` can be read
 abbrev pub CannotBegin : List (List ℕ) → Type 0
 CannotBegin lines = (after : List (List ℕ)) → ¬ (IsReadable (lines ++ after))
 
--- after lines that say the old, one line more makes them say the new, or no text can begin so
+-- after lines that say `old`, the line `line` makes them say `new`, or no text can begin with them
 abbrev pub IsReadNext : ContentsSoFar → List ℕ → ContentsSoFar → Bool → Type 0
 IsReadNext old line new read = (lines : List (List ℕ)) → ReadSoFar lines old → MatchBool read (ReadSoFar (lines ++ line ∷ []) new) (CannotBegin (lines ++ line ∷ []))
 
--- the contents are what the lines say, or the line is the first up to which they can't be read, unless memory ran out
+-- the contents are what `lines` say, or the number is of the first line by which they can't be read, unless memory was
+-- refused
 abbrev pub AreRead : List (List ℕ) → Result Contents TextError → Type 0
 AreRead lines (Ok contents) = IsText lines contents
 AreRead lines (Err (Line n)) = IsFirstUnreadable lines n × (¬ (IsReadable lines))
