@@ -2,7 +2,7 @@
 //!
 //! `naga_bench JOB COUNT SEED` does a job on so many inputs, which follow from the seed, and prints how many of
 //! them were accepted and refused and a digest of all results. `naga_bench check` does each job on a few small
-//! inputs, and prints the numbers alone.
+//! inputs, and prints only the numbers.
 #![tactic(auto)]
 
 mod awkward;

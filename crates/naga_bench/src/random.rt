@@ -53,7 +53,7 @@ impl Places {
     pub fn new(random: &mut Random) -> Places {
         Places {
             first: random.below(1_000_000),
-            // Prime to 10, so that no number below a limit that has the factors 2 and 5 alone comes twice.
+            // Prime to 10, so that no number below a limit whose only prime factors are 2 and 5 comes twice.
             step: 10 * random.below(100_000) + 3,
         }
     }

@@ -6,7 +6,7 @@ use naga_valid::{ExpressionTag, Handle};
 /// How many expressions are kept.
 const KEPT: usize = 8;
 
-/// The last eight expressions of one type. Operands are taken from these, as those of real shaders mostly are.
+/// The last eight expressions of one type. Operands are taken from these, as operands of real shaders mostly are.
 #[derive(Clone, Copy)]
 pub struct Ring {
     items: [Handle<ExpressionTag>; KEPT],

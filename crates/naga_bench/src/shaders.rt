@@ -59,7 +59,7 @@ pub fn new_validator(alloc: Global) -> Validator<FullTyping> {
     Validator::with_typing(alloc, flags, Capabilities::default(), FullTyping)
 }
 
-/// Adds why a type has no layout, by its fields and not as text: so a digest takes little time beside a validation.
+/// Adds why a type has no layout, by its fields and not as text, so that a digest takes little of the time.
 fn add_disalignment(digest: &mut Digest, reason: Disalignment) {
     match reason {
         Disalignment::ArrayStride { stride, alignment } => {

@@ -91,7 +91,7 @@ override 0 1 7
 override 0 - 7
 ";
 
-/// What is right to say of a module.
+/// What the result for a module has to be.
 #[derive(Clone, Copy, PartialEq)]
 enum Verdict {
     /// It is accepted, with so many types.
@@ -148,8 +148,8 @@ fn is_out_of_memory(
     Ok(false)
 }
 
-/// Validates the module twice. Of the two calls one may be out of memory, and the other then says what a fresh
-/// validator says.
+/// Validates the module twice. Of the two calls one may be out of memory, and the other then returns what a fresh
+/// validator returns.
 fn validate_twice(
     alloc: Global,
     memory: &mut Memory,

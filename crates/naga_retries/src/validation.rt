@@ -118,8 +118,8 @@ fn is_out_of_memory(validator: &mut Validator, module: &Module) -> Result<bool, 
     Ok(false)
 }
 
-/// Validates the module twice. Of the two calls one may be out of memory, and the other then says what a fresh
-/// validator says.
+/// Validates the module twice. Of the two calls one may be out of memory, and the other then returns what a fresh
+/// validator returns.
 fn validate_twice(alloc: Global, memory: &mut Memory, module: &Module) -> Result<(), Wrong> {
     let flags = ValidationFlags::default();
     let mut validator = Validator::new(alloc, flags, Capabilities::default());

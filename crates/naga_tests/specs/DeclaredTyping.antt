@@ -21,7 +21,7 @@ declared_resolves m (form.Compose ty components) earlier = plain_resolves m (for
 declared_resolves m (form.Splat size value) earlier = plain_resolves m (form.Splat size value) earlier
 declared_resolves m _ earlier = Err NotResolvable
 
--- everything that such a type refers to exists
+-- everything that a type which `DeclaredTyping` resolves refers to exists
 exist : (m : Module) (x : Expression) (earlier : List TypeResolution) (r : TypeResolution) → CanResolve m x earlier → declared_resolves m x earlier ≡ Ok r → ResolutionExists (global_lists m) r
 unfolding declared_resolves
 exist m (form.Literal value) earlier r can is = plain_lawful.exist m (form.Literal value) earlier r can is
@@ -32,7 +32,7 @@ exist m (form.Compose ty components) earlier r can is = plain_lawful.exist m (fo
 exist m (form.Splat size value) earlier r can is = plain_lawful.exist m (form.Splat size value) earlier r can is
 exist m _ earlier r can is = cc
 
--- and the type is proper
+-- each type that `DeclaredTyping` resolves is proper
 proper : (m : Module) (x : Expression) (earlier : List TypeResolution) (r : TypeResolution) → CanResolve m x earlier → declared_resolves m x earlier ≡ Ok r → IsProperResolution r
 unfolding declared_resolves
 proper m (form.Literal value) earlier r can is = plain_lawful.proper m (form.Literal value) earlier r can is
@@ -43,7 +43,7 @@ proper m (form.Compose ty components) earlier r can is = plain_lawful.proper m (
 proper m (form.Splat size value) earlier r can is = plain_lawful.proper m (form.Splat size value) earlier r can is
 proper m _ earlier r can is = cc
 
--- and the typing is never out of memory
+-- `DeclaredTyping` is never out of memory
 decided : (m : Module) (x : Expression) (earlier : List TypeResolution) → CanResolve m x earlier → declared_resolves m x earlier ≡ Err OutOfMemory → ⊥
 unfolding declared_resolves
 decided m (form.Literal value) earlier can is = plain_lawful.decided m (form.Literal value) earlier can is
@@ -54,7 +54,7 @@ decided m (form.Compose ty components) earlier can is = plain_lawful.decided m (
 decided m (form.Splat size value) earlier can is = plain_lawful.decided m (form.Splat size value) earlier can is
 decided m _ earlier can is = cc
 
--- it is a lawful typing
+-- `DeclaredTyping` is a lawful typing
 pub declared_lawful : IsLawful declared_resolves
 unfolding declared_resolves
 declared_lawful = record {

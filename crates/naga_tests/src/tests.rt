@@ -79,7 +79,7 @@ pub(crate) fn assert_same<T: Debug + PartialEq>(rt: &impl Abort, got: &T, want: 
     assert!(rt; *got == *want, "{got:?}, and not {want:?}");
 }
 
-/// The same for one row of a table.
+/// Makes sure that a value of one row of a table is as wanted.
 pub(crate) fn assert_same_for<R: Debug, T: Debug + PartialEq>(
     rt: &impl Abort,
     row: &R,

@@ -12,7 +12,7 @@ use naga_typing::context::to_ctx;
 use naga_typing::typifier::TypeResolution;
 use std::process::Abort;
 
-/// What is said of components of a type of a module.
+/// The result of `validate_compose` for a type of a module and components of these types.
 fn said_of(
     rt: &(impl AllocGlobal + Abort),
     module: &Module,

@@ -123,7 +123,7 @@ fn kinds_of(
     ExpressionKindTracker::from_arena(alloc, &module.global_expressions)
 }
 
-/// What is said of the global expression of an index, by an info of its module.
+/// The result of validating the global expression of an index, by an info of its module.
 fn said_of(
     rt: &(impl AllocGlobal + Abort),
     module: &Module,
@@ -146,7 +146,7 @@ fn said_of(
     validate_const_expression(ctx, Handle::new(index), to_ctx(module), info, &kinds)
 }
 
-/// Makes sure of what is said of global expressions, by index.
+/// Makes sure of the results of validating global expressions, by index.
 fn assert_said(
     rt: &(impl AllocGlobal + Abort),
     overrides_resolved: bool,

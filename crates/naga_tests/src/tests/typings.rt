@@ -1,4 +1,4 @@
-//! A typing besides those of `naga_typing`, and the types that any typing resolves, by its laws.
+//! A typing besides the two of `naga_typing`, and the types that any typing resolves, by its laws.
 
 ghost use Rattle.naga_ir.specs.Handles.{HandlesAccepted};
 
