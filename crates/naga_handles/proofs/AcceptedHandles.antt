@@ -153,7 +153,7 @@ module _ (m : Module) (h : HandlesAccepted m) where
   walk-fault-breaks e (not_gated t n k u is le names past) = let lt : u < t = h.gates t n k u is le names in omega (arith, lt, past)
   walk-fault-breaks e (not_visited r v lacks) = lacks (visited-there r v)
 
-  -- nor with any handle
+  -- nothing is wrong with any handle
   handle-fault-breaks : (e : InvalidHandleError) → IsHandleFault m e → ⊥
   handle-fault-breaks e (on_walk _ w) = walk-fault-breaks e w
   handle-fault-breaks e (forward_in_module s t pair le) = let lt : place_of t < place_of s = h.back s t pair in omega (arith, lt, le)
@@ -163,7 +163,7 @@ module _ (m : Module) (h : HandlesAccepted m) where
       All-contains (λ (c : ℕ × List (List ℕ)). c.0 < length m.entry_points) m.doc_comments.entry_points (place, lines) h.exist.documented_entry_points among in
       omega (arith, lt, past)
 
-  -- nor at all
+  -- nothing is wrong at all
   nothing-wrong : (fault : ValidationFault) → IsFault m fault → ⊥
   nothing-wrong fault (invalid e w) = handle-fault-breaks e w
   nothing-wrong fault (missing_member t k lines x among at lacks) =

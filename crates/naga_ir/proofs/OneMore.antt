@@ -132,7 +132,7 @@ abbrev pub IsWhole : List «Type» → ℕ → List ℕ → List ℕ → Type 0
 IsWhole types spans hashes links =
     (spans ≡ length types) × (length types ≤ largest_u32) × AllDistinct types × AreFirstHashes hashes types × LinksGoOn links (length types) × AllReached links types
 
--- it holds of equal fields
+-- `IsWhole` holds of equal fields
 pub whole_alike : (types all : List «Type») (spans count : ℕ) (hashes now links new : List ℕ) → all ≡ types → count ≡ spans → now ≡ hashes → new ≡ links → IsWhole types spans hashes links → IsWhole all count now new
 whole_alike types all spans count hashes now links new e f g h whole =
     subst
@@ -140,7 +140,7 @@ whole_alike types all spans count hashes now links new e f g h whole =
     (sym e)
     (subst (λ n. IsWhole types n now new) (sym f) (subst (λ hs. IsWhole types spans hs new) (sym g) (subst (λ ls. IsWhole types spans hashes ls) (sym h) whole)))
 
--- it holds with one more type that the others lack, at the end of its path
+-- `IsWhole` holds with one more type that the others lack, at the end of its path
 pub whole_with : (types : List «Type») (spans : ℕ) (hashes links : List ℕ) (ty : «Type») (i : ℕ)
     → IsWhole types spans hashes links
     → length types < largest_u32

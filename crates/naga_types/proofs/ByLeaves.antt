@@ -38,7 +38,7 @@ module _ (g : GlobalLists) where
         impossible : is_leaf inner ≡ false → ⊥
         impossible e = cc (e, one)
 
-    -- nor an array
+    -- a leaf is not an array
     pub leaf-no_array : {P : Type 0} (inner : TypeInner) (base : ℕ) (size : ArraySize) (stride : ℕ) → inner_at g t ≡ Some inner → is_leaf inner ≡ true → inner_at g t ≡ Some (Array base size stride) → P
     leaf-no_array inner base size stride at one is = absurd (impossible (ap is_leaf (same_Some inner (Array base size stride) (sym at ∙ is))))
       where

@@ -201,7 +201,7 @@ module _ (s : Surroundings) (t base : ℕ) (size : ArraySize) (stride : ℕ) (i 
   element_sized =
       has-trans (flags_at s base) element_flags SIZED (unless-kept (has (flags_at s base) element_flags) _ (none_stands (array_checks false s t base size stride) 0 _ array_kept refl)) refl
 
-  -- which the stride is not below
+  -- the stride of an array is not below the size of its elements
   pub element_fits : size_at s base ≤ stride
   element_fits = leb-true (size_at s base) stride (unless-kept (leb (size_at s base) stride) _ (none_stands (array_checks false s t base size stride) 1 _ array_kept refl))
 

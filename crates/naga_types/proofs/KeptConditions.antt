@@ -17,7 +17,7 @@ pub granted-none : {A E : Type 0} (o : Option E) (a b : A) → ok_unless o a ≡
 granted-none None a b h = refl
 granted-none (Some e) a b h = cc h
 
--- both
+-- what is granted is the value, and breaks no condition
 pub granted_ok : {A E : Type 0} (o : Option E) (a b : A) → ok_unless o a ≡ Ok b → (o ≡ None) × (a ≡ b)
 granted_ok o a b h = (granted-none o a b h, granted-value o a b h)
 

@@ -222,7 +222,7 @@ module _ (w : CheckedTypes) (n : ℕ) where
             let sized = earlier_sized s t members span (info_of w t) struct_is k m at (omega (arith, behind, within)) in
             sized_ends q.offset sized (members_follow s t members span (info_of w t) struct_is for_hosts (i - suc k) k i m q (omega (arith, behind)) at there)
 
-        -- and ends where a struct ends that ends in an array
+        -- a member ends where a struct ends that ends in an array
         member_ends_at_last : (front : List StructMember) (q : StructMember) (b stride : ℕ) → members ≡ front ++ q ∷ [] → inner_at w.lists q.ty ≡ Some (Array b Dynamic stride) → EndsBy HasLimit part (q.offset + n * stride)
         member_ends_at_last front q b stride same last =
             let within = slice_get_within members k m at in
@@ -262,7 +262,7 @@ module _ (w : CheckedTypes) (n : ℕ) where
       subst (λ p. IsPlaced IsShared al t p) split.2 (member_place t shared members span form i split.0 split.1)
   placed_by_form t _ i part shared form at = cc at
 
-  -- they end where the type ends
+  -- the parts of a type end where the type ends
   ends_by_form : (t : ℕ) (inner : TypeInner) (i limit : ℕ) (part : Part) → IsShared t → HasLimit t limit → inner_at w.lists t ≡ Some inner → parts_of inner i ≡ Some part → EndsBy HasLimit part limit
   ends_by_form t (Array base size stride) i limit part shared ends form at =
       subst (λ l. EndsBy HasLimit part l) (sym (array_limit t shared base size stride form limit ends))

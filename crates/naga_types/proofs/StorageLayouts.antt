@@ -134,7 +134,7 @@ module _ (w : CheckedTypes) where
       (leaf-alignment w p earlier its, subst (IsExact p) (sym (known_is w t j p before)) (below n p (omega (arith, before, under)) earlier its)))
       (host-form (known w t j) t (info_of w t) for_hosts j.ty.inner j.by_rule)
 
-  -- so it is of all data that hosts may share
+  -- the storage layout of all data that hosts may share is exact
   pub storage-exactly : (t : ℕ) → t < length w.infos → IsForHosts (info_of w t) → StorageIsExactly w.lists w.capabilities w.resolved w.layouts t (in_storage (info_of w t))
   storage-exactly t within for_hosts = below (suc t) t (omega arith) within for_hosts
 

@@ -73,7 +73,7 @@ module _ (m : Module) (capabilities : Capabilities) (resolved : Bool) (layouts :
       subst (λ bytes. bytes ≤ stride) (sym (size_laid_out g layouts laid_out.each_type references base found.0 found.1))
       (none k k base size stride itself (ap (option_map (λ (ty : «Type»). ty.inner)) at ∙ ap Some is))
 
-  -- and what is accepted there is accepted, if no stride is short
+  -- what is accepted where strides may be short is accepted if no stride is short
   pub strides-fit : HaveNoShortStrides → AreTypesAcceptedBy (type_rule_with true) m capabilities resolved layouts infos → AreTypesAccepted m capabilities resolved layouts infos
   strides-fit none h = record {
     laid_out = h.laid_out;

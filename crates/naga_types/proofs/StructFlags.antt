@@ -18,7 +18,7 @@ use Rattle.naga_types.specs.Surroundings.{Surroundings, flags_at}
 pub has-first : (a b flags : ℕ) → has (bit_and a b) flags ≡ true → has a flags ≡ true
 has-first a b flags h = (and_parts (has a flags) (has b flags) (sym (has-bit_and a b flags) ∙ h)).0
 
--- nor that its second lacks
+-- an intersection has no flags that its second set lacks
 pub has-second : (a b flags : ℕ) → has (bit_and a b) flags ≡ true → has b flags ≡ true
 has-second a b flags h = (and_parts (has a flags) (has b flags) (sym (has-bit_and a b flags) ∙ h)).1
 

@@ -69,7 +69,7 @@ module _ (s : Surroundings) (t : ℕ) (members : List StructMember) (span : ℕ)
   abbrev all_kept : (first (struct_checks s members span) ≡ None) × (struct_info s t members span ≡ i)
   all_kept = granted_ok (first (struct_checks s members span)) (struct_info s t members span) i is
 
-  -- its flags are those by its members
+  -- the flags of the struct are the flags by its members
   pub flags_are : i.flags.0 ≡ struct_flags s members
   flags_are = ap (λ (x : TypeInfo). x.flags.0) (sym all_kept.1)
 

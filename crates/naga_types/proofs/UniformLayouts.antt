@@ -192,7 +192,7 @@ module _ (w : CheckedTypes) where
       })
       (host-form (known w t j) t (info_of w t) for_hosts j.ty.inner j.by_rule)
 
-  -- so it is of all data that hosts may share
+  -- the uniform layout of all data that hosts may share is exact
   pub uniform-exactly : (t : ℕ) → t < length w.infos → IsForHosts (info_of w t) → UniformIsExactly w.lists w.capabilities w.resolved w.layouts w.infos t (in_uniform (info_of w t))
   uniform-exactly t within for_hosts = below (suc t) t (omega arith) within for_hosts
 

@@ -93,7 +93,7 @@ by_number = record {
   infos = shared (scalar_flags Float) 4 ∷ [];
 }
 
--- and the type is refused, since a stride of 4 is the least
+-- an array of numbers with stride 0 is refused, since a stride of 4 is the least
 pub no-stride-is-refused : type_rule by_number 4 (Array 0 Dynamic 0) ≡ Err (InvalidArrayStride 0 4)
 no-stride-is-refused = refl
 

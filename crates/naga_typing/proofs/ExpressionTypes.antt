@@ -67,7 +67,7 @@ module _ (m : Module) where
     pub index : n ≡ length earlier
     index = next_place m m.global_expressions earlier left n x more r e
 
-    -- which is its index
+    -- the index of the next global expression is the number that it comes with
     pub there : slice_get m.global_expressions n ≡ Some x
     there = ap (slice_get m.global_expressions) index ∙ next_there m m.global_expressions earlier left n x more r e
 

@@ -18,7 +18,7 @@ module _ {X E : Type 0} (accepts : X → Result (Unit {0}) E) (items : List X) w
   abbrev results : List (Result (Unit {0}) E)
   results = map accepts items
 
-  -- so many items are accepted, and these are left, each with its index
+  -- `count` items are accepted, and `left` are left, each with its index
   pub record Iterating (count : ℕ) (left : List (ℕ × X)) : Type 0 where
     done : List (Unit {0})
     progress : Progress items results done left
@@ -32,11 +32,11 @@ module _ {X E : Type 0} (accepts : X → Result (Unit {0}) E) (items : List X) w
     pub next_item : slice_get items n ≡ Some x
     next_item = stands items results w.done left n x more w.progress e
 
-    -- which is the number of the items so far
+    -- the index of the next item is the number of the items so far
     pub next_index : n ≡ count
     next_index = number items results w.done left n x more w.progress e ∙ w.as_many
 
-    -- its result
+    -- the result of the next item
     pub next_result : (r : Result (Unit {0}) E) → accepts x ≡ r → slice_get results n ≡ Some r
     next_result r is = slice_get-map accepts items n ∙ ap (option_map accepts) next_item ∙ ap Some is
 
@@ -67,7 +67,7 @@ module _ {X E : Type 0} (accepts : X → Result (Unit {0}) E) (items : List X) w
     pub all_accepted : All IsOk results
     all_accepted = accepted_ok results w.done all
 
-    -- and counted
+    -- if no item is left, `count` is the number of items
     pub all_counted : count ≡ length items
     all_counted = let ok : Unit {0} → Result (Unit {0}) E = λ u. Ok u in sym w.as_many ∙ sym (ap length all ∙ length-map w.done ok) ∙ same
 

@@ -18,7 +18,7 @@ module _ (g : GlobalLists) where
   inside-both t u _ outer (element v base size stride h is) = element v base size stride (inside-both t u v outer h) is
   inside-both t u _ outer (member v members span m h is has_m) = member v members span m (inside-both t u v outer h) is has_m
 
-  -- so what holds of all inside a type holds of all inside one that is inside it
+  -- what holds of all types inside a type holds of all types inside one that is inside it
   pub all-further_inside : (P : ℕ → Type 0) (t u : ℕ) → IsInside g t u → AllInside P t → AllInside P u
   all-further_inside P t u outer all v h = all v (inside-both t u v outer h)
 

@@ -127,7 +127,7 @@ open-no_other (suc (suc i) ∷ path) leaf h = cc h
 abbrev EndsBy : ℕ → List ℕ × LeafBytes → Type 0
 EndsBy limit l = end_of l.1 ≤ limit
 
--- they end where the three strides end
+-- the leaves of the number and three vectors end where the three strides end
 pub open-ends : (path : List ℕ) (leaf : LeafBytes) → leaf_at open_ended (elements open_ended 3) 3 path ≡ Some leaf → end_of leaf ≤ 64
 open-ends path leaf h =
     All-contains (EndsBy 64) open_leaves (path, leaf)
@@ -147,11 +147,11 @@ sized_by = record {
   expressions = Literal (U32 3) ∷ [];
 }
 
--- their leaves if it says three
+-- the leaves of the numbers, if the override says three
 abbrev sized_leaves : Leaves
 sized_leaves = (0 ∷ [], bytes 0 4 4) ∷ (1 ∷ [], bytes 16 4 4) ∷ (2 ∷ [], bytes 32 4 4) ∷ []
 
--- they have these leaves
+-- the numbers have these leaves
 pub sized-leaves : (n : ℕ) → HasLeaves sized_by n 1 sized_leaves
 unfolding leaf_at
 sized-leaves n = refl
@@ -186,7 +186,7 @@ unsized-alignment = alignment-of_array unsized 1 0 (Pending 0) 16 4 refl (alignm
 abbrev crowded : GlobalLists
 crowded = of_types (float ∷ Array 0 (one_and 1) 0 ∷ [])
 
--- both leaves begin at byte 0
+-- both leaves of the two numbers in one place begin at byte 0
 pub crowded-leaves : (n : ℕ) → HasLeaves crowded n 1 ((0 ∷ [], bytes 0 4 4) ∷ (1 ∷ [], bytes 0 4 4) ∷ [])
 unfolding leaf_at
 crowded-leaves n = refl

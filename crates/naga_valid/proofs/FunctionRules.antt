@@ -209,7 +209,7 @@ module _ (s : FunctionSurroundings) where
       let refusal : IsFirstErrorInOrder (type_in_order s.resolves m f) f.expressions (length types) error = record { before = types; as_many = refl; follow = before.follow; refused = untyped.1 } in
       refused_not_accepted (type_in_order s.resolves m f) f.expressions info.types (length types) error refusal accepted.types
 
-  -- nor if one breaks its rule
+  -- if an expression breaks its rule, the function isn't accepted
   breach_not_accepted : (types : List TypeResolution) (place : ℕ) (source : ExpressionError) → AreFunctionTypes s.resolves m f types → IsRuleAt s types place (refuses source) → (info : FunctionInfo) → IsFunctionAccepted s info → ⊥
   breach_not_accepted types place source all broken info accepted =
       let same = accepted_once (type_in_order s.resolves m f) f.expressions info.types types accepted.types all in

@@ -28,7 +28,7 @@ accepted_unless (Ok u) other = refl
 accepted_unless (Err e) other = absurd (other e refl)
 
 module _ {X : Type 0} (rule : ℕ × X → Result (Unit {0}) ValidationError) (items : List X) where
-  -- so many items are accepted, and these are left, each with its index
+  -- `count` items are accepted, and `left` are left, each with its index
   pub record Checks (count : ℕ) (left : List (ℕ × X)) : Type 0 where
     done : List (Unit {0})
     progress : Progress items (results_of rule items) done left
@@ -42,7 +42,7 @@ module _ {X : Type 0} (rule : ℕ × X → Result (Unit {0}) ValidationError) (i
     pub next_item : slice_get items n ≡ Some x
     next_item = stands items (results_of rule items) w.done left n x more w.progress e
 
-    -- which is the number of the items so far
+    -- the index of the next item is the number of the items so far
     pub next_index : n ≡ count
     next_index = number items (results_of rule items) w.done left n x more w.progress e ∙ w.as_many_done
 
