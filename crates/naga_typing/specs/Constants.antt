@@ -1,6 +1,7 @@
 -- Index constants: expressions that give a number of elements or the index of one, known when a shader is compiled.
-use Rattle.std.specs.Prelude.{◌==◌, ◌||◌, ◌<◌, ℕ, ℤ, pos, negsuc, zero, suc, Bool as Boolean, false, List, Option, Some, None, Result, Ok, Err, slice_get, length, All, ⊤, if◌then◌else◌}
+use Rattle.std.specs.Prelude.{◌==◌, ◌||◌, ◌<◌, ℕ, ℤ, pos, negsuc, zero, suc, Bool as Boolean, false, List, Option, Some, None, Result, Ok, Err, option_and_then, slice_get, length, All, ⊤, if◌then◌else◌}
 use Rattle.std.specs.List.{flat_map}
+use Rattle.std.specs.Option.{option_map_or}
 use Rattle.naga_ir.specs.Handles.{initialiser_of}
 use Rattle.naga_ir.specs.ItemReferences.{GlobalLists, expression_references}
 use Rattle.naga_ir.specs.declared.expression.Expression.{Expression}
@@ -66,15 +67,10 @@ zero_index (form.AccelerationStructure vertex_return) = Err NonConst
 zero_index (form.RayQuery vertex_return) = Err NonConst
 zero_index (form.BindingArray base size) = Err NonConst
 
--- the index that the zero of a type of a list gives
-abbrev pub zero_index_at : Option «Type» → Result ℕ ConstValueError
-zero_index_at None = Err NonConst
-zero_index_at (Some t) = zero_index t.inner
-
 -- the index that an expression gives by itself: a constant gives none
 abbrev pub unnamed_index_of : List «Type» → Expression → Result ℕ ConstValueError
 unnamed_index_of types (expression.Literal value) = literal_index value
-unnamed_index_of types (expression.ZeroValue ty) = zero_index_at (slice_get types ty)
+unnamed_index_of types (expression.ZeroValue ty) = option_map_or (λ (t : «Type»). zero_index t.inner) (slice_get types ty) (Err NonConst)
 unnamed_index_of types (expression.Constant c) = Err NonConst
 unnamed_index_of types (expression.Override o) = Err NonConst
 unnamed_index_of types (expression.Compose ty components) = Err NonConst
@@ -113,14 +109,9 @@ abbrev pub unnamed_index : List «Type» → Option Expression → Result ℕ Co
 unnamed_index types None = Err NonConst
 unnamed_index types (Some x) = unnamed_index_of types x
 
--- the index that the initialiser of a constant gives
-abbrev pub named_index : GlobalLists → Option Constant → Result ℕ ConstValueError
-named_index g None = Err NonConst
-named_index g (Some c) = unnamed_index g.types (slice_get g.expressions c.init)
-
 -- the index that an expression gives: for a constant the index of its initialiser, unless that is a constant again
 abbrev pub index_of : GlobalLists → Option Expression → Result ℕ ConstValueError
-index_of g (Some (expression.Constant c)) = named_index g (slice_get g.constants c)
+index_of g (Some (expression.Constant c)) = option_map_or (λ (d : Constant). unnamed_index g.types (slice_get g.expressions d.init)) (slice_get g.constants c) (Err NonConst)
 index_of g x = unnamed_index g.types x
 
 -- a count is an index above 0
@@ -129,14 +120,9 @@ count_of_index (Ok zero) = None
 count_of_index (Ok (suc n)) = Some (suc n)
 count_of_index (Err e) = None
 
--- the count that an initialiser gives, if there is one
-abbrev pub count_of_initialiser : GlobalLists → Option ℕ → Option ℕ
-count_of_initialiser g None = None
-count_of_initialiser g (Some e) = count_of_index (index_of g (slice_get g.expressions e))
-
 -- the count that an override gives by its initialiser
 abbrev pub override_count : GlobalLists → ℕ → Option ℕ
-override_count g o = count_of_initialiser g (initialiser_of (slice_get g.overrides o))
+override_count g o = option_and_then (λ e. count_of_index (index_of g (slice_get g.expressions e))) (initialiser_of (slice_get g.overrides o))
 
 -- what is referred to exists if it is a type, a constant or an override
 abbrev pub NamedItemExists : GlobalLists → Reference → Type 0

@@ -1,5 +1,6 @@
 -- The types of expressions.
 use Rattle.std.specs.Prelude.{◌≡◌, ◌<◌, ◌⊎◌, ℕ, List, Option, Some, None, All, Contains, length, option_and_then, option_map, slice_get, ⊤}
+use Rattle.std.specs.Option.{option_map_or}
 use Rattle.naga_ir.specs.ItemReferences.{GlobalLists}
 use Rattle.naga_ir.specs.Parts.{parts}
 use Rattle.naga_ir.specs.TypeWords.{IsNoStruct, IsStruct}
@@ -87,14 +88,9 @@ pointer_to base space (form.AccelerationStructure vertex_return) = form.Pointer 
 pointer_to base space (form.RayQuery vertex_return) = form.Pointer base space
 pointer_to base space (form.BindingArray base_of_base size) = form.Pointer base space
 
--- a pointer to a type of a list, as it is compared
-abbrev pub pointer_to_found : ℕ → AddressSpace → Option TypeInner → TypeInner
-pointer_to_found base space None = form.Pointer base space
-pointer_to_found base space (Some x) = pointer_to base space x
-
--- a type as it is compared: pointers as `pointer_to_found` says, and other types as they are
+-- a type as it is compared: pointers as `pointer_to` says, and other types as they are
 abbrev pub canonical : List «Type» → TypeInner → TypeInner
-canonical types (form.Pointer base space) = pointer_to_found base space (inner_in types (Handle base))
+canonical types (form.Pointer base space) = option_map_or (pointer_to base space) (inner_in types (Handle base)) (form.Pointer base space)
 canonical types (form.Scalar scalar) = form.Scalar scalar
 canonical types (form.Vector size scalar) = form.Vector size scalar
 canonical types (form.Matrix columns rows scalar) = form.Matrix columns rows scalar

@@ -64,20 +64,11 @@ fn declared(ty: Option<Handle<TypeTag>>) -> Result<TypeResolution, ResolveError>
 fn reference_to(ty: Handle<TypeTag>, space: AddressSpace) -> TypeResolution
     ensures { result ≡ spec.reference_to ty space }
 {
-    match space {
-        AddressSpace::Handle => TypeResolution::Handle(ty),
-        AddressSpace::Function
-        | AddressSpace::Private
-        | AddressSpace::WorkGroup
-        | AddressSpace::Uniform
-        | AddressSpace::Storage { .. }
-        | AddressSpace::Immediate
-        | AddressSpace::TaskPayload
-        | AddressSpace::RayPayload
-        | AddressSpace::IncomingRayPayload => {
-            TypeResolution::Value(TypeInner::Pointer { base: ty, space })
-        }
+    // A resource is not in memory, so a reference to it is not a pointer.
+    if matches!(space, AddressSpace::Handle) {
+        return TypeResolution::Handle(ty);
     }
+    TypeResolution::Value(TypeInner::Pointer { base: ty, space })
 }
 
 /// The type of the result of a function, if it has one.
@@ -188,22 +179,11 @@ pub(crate) fn part_in(
 fn loaded(base: Handle<TypeTag>, target: &TypeInner) -> Result<TypeResolution, ResolveError>
     ensures { result ≡ spec.loaded base target.now }
 {
-    match *target {
-        TypeInner::Atomic(of) => scalar(of),
-        TypeInner::Scalar(_)
-        | TypeInner::Vector { .. }
-        | TypeInner::Matrix { .. }
-        | TypeInner::CooperativeMatrix { .. }
-        | TypeInner::Pointer { .. }
-        | TypeInner::ValuePointer { .. }
-        | TypeInner::Array { .. }
-        | TypeInner::Struct { .. }
-        | TypeInner::Image { .. }
-        | TypeInner::Sampler { .. }
-        | TypeInner::AccelerationStructure { .. }
-        | TypeInner::RayQuery { .. }
-        | TypeInner::BindingArray { .. } => Ok(TypeResolution::Handle(base)),
+    // Atomics are not values: loading one gives its scalar.
+    if let TypeInner::Atomic(of) = *target {
+        return scalar(of);
     }
+    Ok(TypeResolution::Handle(base))
 }
 
 /// The type of what is loaded through a pointer.
@@ -245,22 +225,10 @@ pub(crate) fn load_of(
 fn image_parts(inner: &TypeInner) -> Option<(ImageDimension, ImageClass)>
     ensures { result ≡ spec.image_parts inner.now }
 {
-    match *inner {
-        TypeInner::Image { dim, class, .. } => Some((dim, class)),
-        TypeInner::Scalar(_)
-        | TypeInner::Vector { .. }
-        | TypeInner::Matrix { .. }
-        | TypeInner::CooperativeMatrix { .. }
-        | TypeInner::Atomic(_)
-        | TypeInner::Pointer { .. }
-        | TypeInner::ValuePointer { .. }
-        | TypeInner::Array { .. }
-        | TypeInner::Struct { .. }
-        | TypeInner::Sampler { .. }
-        | TypeInner::AccelerationStructure { .. }
-        | TypeInner::RayQuery { .. }
-        | TypeInner::BindingArray { .. } => None,
-    }
+    let TypeInner::Image { dim, class, .. } = *inner else {
+        return None;
+    };
+    Some((dim, class))
 }
 
 /// The type of a vector of four scalars of a kind, of four bytes each.

@@ -139,18 +139,10 @@ fn push_reference(
         types.old types.new result }
     ensures refused { OnErr result (types.new ≡ types.old) }
 {
-    match variable.space {
-        AddressSpace::Handle => push_declared(types, variable.ty),
-        AddressSpace::Function
-        | AddressSpace::Private
-        | AddressSpace::WorkGroup
-        | AddressSpace::Uniform
-        | AddressSpace::Storage { .. }
-        | AddressSpace::Immediate
-        | AddressSpace::TaskPayload
-        | AddressSpace::RayPayload
-        | AddressSpace::IncomingRayPayload => push_pointer(types, variable.ty, variable.space),
+    if matches!(variable.space, AddressSpace::Handle) {
+        return push_declared(types, variable.ty);
     }
+    push_pointer(types, variable.ty, variable.space)
 }
 
 /// Adds the type of a pointer to a part of what a pointer in an address space points to: at a constant index, or
@@ -227,22 +219,12 @@ fn push_load(
     ensures refused { OnErr result (types.new ≡ types.old) }
 {
     match *operand(module, types.as_slice(), pointer) {
-        TypeInner::Pointer { base, .. } => match module.types[base].inner {
-            TypeInner::Atomic(scalar) => push_scalar(types, scalar),
-            TypeInner::Scalar(_)
-            | TypeInner::Vector { .. }
-            | TypeInner::Matrix { .. }
-            | TypeInner::CooperativeMatrix { .. }
-            | TypeInner::Pointer { .. }
-            | TypeInner::ValuePointer { .. }
-            | TypeInner::Array { .. }
-            | TypeInner::Struct { .. }
-            | TypeInner::Image { .. }
-            | TypeInner::Sampler { .. }
-            | TypeInner::AccelerationStructure { .. }
-            | TypeInner::RayQuery { .. }
-            | TypeInner::BindingArray { .. } => push_declared(types, base),
-        },
+        TypeInner::Pointer { base, .. } => {
+            if let TypeInner::Atomic(scalar) = module.types[base].inner {
+                return push_scalar(types, scalar);
+            }
+            push_declared(types, base)
+        }
         TypeInner::ValuePointer {
             size: Some(size),
             scalar,

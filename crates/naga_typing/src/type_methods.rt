@@ -40,7 +40,7 @@ fn element_count(size: ArraySize, gctx: GlobalCtx<'_>) -> u32
 {
     match size {
         ArraySize::Constant(count) => count.get(),
-        // No member or element is sized by an override, so no other size depends on this.
+        // In an accepted module no member or element is sized by an override, so no other size depends on this.
         ArraySize::Pending(override_) => override_count(override_, gctx).unwrap_or(0),
         // A buffer that is bound to such an array has room for one element at least.
         ArraySize::Dynamic => 1,
