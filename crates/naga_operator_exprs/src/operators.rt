@@ -4,6 +4,7 @@ ghost use Rattle.std.specs.Prelude.{◌≡◌, ◌↔◌, ◌<◌, IsTrue, Ok, l
 ghost use Rattle.naga_info.specs.Results.{IsRuleResult};
 ghost use Rattle.naga_info.specs.Stages as stages;
 ghost use Rattle.naga_info.specs.Surroundings.{AreSound, surroundings};
+ghost use Rattle.naga_ir.specs.TypeWords.{vector_size_and_scalar};
 ghost use Rattle.naga_operator_exprs.specs.Operators as rule;
 ghost use Rattle.naga_types.specs.Checks.{ok_unless};
 
@@ -42,10 +43,10 @@ pub fn validate_unary(
     requires expr { expr < length context.info.now.types }
     ensures { result ≡ rule.unary_rule (surroundings context.entry) op expr }
 {
-    match context.type_of(expr).vector_size_and_scalar() {
-        Some((_, scalar)) if takes(op, scalar.kind) => Ok(every_stage()),
-        Some(_) | None => Err(ExpressionError::InvalidUnaryOperandType(op, expr)),
+    if !admits_unary(context, op, expr) {
+        return Err(ExpressionError::InvalidUnaryOperandType(op, expr));
     }
+    Ok(every_stage())
 }
 
 /// Whether every stage may use an operator on one value: whether `validate_unary` accepts it. It makes no
@@ -77,13 +78,11 @@ fn chooses_size(condition: Option<VectorSize>, value: Option<VectorSize>) -> boo
 }
 
 /// Whether a condition of one type chooses between values of another.
-fn chooses(
-    condition: Option<(Option<VectorSize>, Scalar)>,
-    value: Option<(Option<VectorSize>, Scalar)>,
-) -> bool
-    ensures { result ≡ rule.chooses condition value }
+fn chooses(condition: &TypeInner, value: &TypeInner) -> bool
+    ensures { result ≡ rule.chooses (vector_size_and_scalar condition.now) (vector_size_and_scalar value.now) }
 {
-    match (condition, value) {
+    let shape = condition.vector_size_and_scalar();
+    match (shape, value.vector_size_and_scalar()) {
         (Some((condition_size, scalar)), Some((value_size, _))) => {
             scalar.kind == ScalarKind::Bool && chooses_size(condition_size, value_size)
         }
@@ -121,8 +120,7 @@ pub fn validate_select(
             reject: reject_type.try_clone()?,
         });
     }
-    let shape = condition_type.vector_size_and_scalar();
-    if !chooses(shape, accept_type.vector_size_and_scalar()) {
+    if !chooses(condition_type, accept_type) {
         return Err(ExpressionError::SelectConditionNotABool {
             actual: condition_type.try_clone()?,
         });
@@ -148,11 +146,7 @@ pub fn admits_select(
         ≡ Ok stages.every_stage) }
 {
     let accept_type = context.type_of(accept);
-    if accept_type != context.type_of(reject) {
-        return false;
-    }
-    let shape = context.type_of(condition).vector_size_and_scalar();
-    chooses(shape, accept_type.vector_size_and_scalar())
+    accept_type == context.type_of(reject) && chooses(context.type_of(condition), accept_type)
 }
 
 /// The stages that may use a derivative (WGSL "Derivative Built-in Functions"): fragments.
@@ -270,14 +264,10 @@ pub fn validate_as(
     requires expr { expr < length context.info.now.types }
     ensures { result ≡ rule.as_rule (surroundings context.entry) expr kind convert }
 {
-    let Some(scalar) = cast_scalar(context.type_of(expr)) else {
+    if !admits_as(context, expr, kind, convert) {
         return Err(ExpressionError::InvalidCastArgument);
-    };
-    let target = converted(scalar, kind, convert);
-    match check_width(context.capabilities, target) {
-        Ok(_) => Ok(every_stage()),
-        Err(_) => Err(ExpressionError::InvalidCastArgument),
     }
+    Ok(every_stage())
 }
 
 /// Whether every stage may use a conversion: whether `validate_as` accepts it. It makes no `ExpressionError`, so it
