@@ -1,6 +1,6 @@
 //! The rules of accesses to parts of values, and of swizzles.
 
-ghost use Rattle.std.specs.Prelude.{◌≡◌, ◌↔◌, ◌<◌, ℕ, IsTrue, Ok, is_none, length};
+ghost use Rattle.std.specs.Prelude.{◌≡◌, ◌↔◌, ◌<◌, ℕ, IsTrue, Ok, is_none, length, option_map};
 ghost use Rattle.naga_exprs.specs.Accesses as rule;
 ghost use Rattle.naga_exprs.specs.Accesses.{IsAccessRule, access_index_rule};
 ghost use Rattle.naga_exprs.specs.Vectors as vectors;
@@ -9,6 +9,7 @@ ghost use Rattle.naga_ir.specs.Handles.{GlobalReferencesOk};
 ghost use Rattle.naga_ir.specs.ItemReferences.{global_lists};
 ghost use Rattle.naga_info.specs.Stages as stages;
 ghost use Rattle.naga_info.specs.Surroundings.{AreSound, surroundings};
+ghost use Rattle.naga_info.specs.declared.expression_error.ExpressionError.TheVariants as refusal;
 ghost use Rattle.naga_types.specs.Checks.{ok_unless};
 ghost use Rattle.naga_typing.specs.Context.{ReferencesExist};
 ghost use Rattle.naga_typing.specs.Index.{IsLength};
@@ -32,23 +33,15 @@ fn has_parts(inner: &TypeInner) -> bool
     ensures { result ≡ rule.has_parts inner.now }
 {
     // naga takes any pointer: what it leads to only matters for a constant index.
-    match inner {
+    matches!(
+        inner,
         TypeInner::Vector { .. }
-        | TypeInner::Matrix { .. }
-        | TypeInner::Array { .. }
-        | TypeInner::BindingArray { .. }
-        | TypeInner::Pointer { .. }
-        | TypeInner::ValuePointer { size: Some(_), .. } => true,
-        TypeInner::ValuePointer { size: None, .. }
-        | TypeInner::Scalar(_)
-        | TypeInner::CooperativeMatrix { .. }
-        | TypeInner::Atomic(_)
-        | TypeInner::Struct { .. }
-        | TypeInner::Image { .. }
-        | TypeInner::Sampler { .. }
-        | TypeInner::AccelerationStructure { .. }
-        | TypeInner::RayQuery { .. } => false,
-    }
+            | TypeInner::Matrix { .. }
+            | TypeInner::Array { .. }
+            | TypeInner::BindingArray { .. }
+            | TypeInner::Pointer { .. }
+            | TypeInner::ValuePointer { size: Some(_), .. }
+    )
 }
 
 /// How many elements of a value can be indexed, by whether overrides must have their values.
@@ -69,6 +62,17 @@ fn indexable_length(
     }
 }
 
+/// Whether a constant index is below the length of its base, if that is known.
+fn is_within(value: u32, length: Result<IndexableLength, IndexableLengthError>) -> bool
+    ensures { (base : ℕ) → result ≡ is_none (rule.index_error base value length) }
+{
+    match length {
+        Ok(IndexableLength::Known(known)) => value < known,
+        Ok(IndexableLength::Pending | IndexableLength::Dynamic) => true,
+        Err(_) => false,
+    }
+}
+
 /// Checks that an index is below the length of its base, if that is known.
 fn check_within(
     base: Handle<ExpressionTag>,
@@ -77,12 +81,11 @@ fn check_within(
 ) -> Result<(), ExpressionError>
     ensures { result ≡ ok_unless (rule.index_error base value length) tt }
 {
-    match length? {
-        IndexableLength::Known(known) if value >= known => {
-            Err(ExpressionError::IndexOutOfBounds(base, value))
-        }
-        IndexableLength::Known(_) | IndexableLength::Pending | IndexableLength::Dynamic => Ok(()),
+    if is_within(value, length) {
+        return Ok(());
     }
+    length?;
+    Err(ExpressionError::IndexOutOfBounds(base, value))
 }
 
 /// Checks what an index is as a constant, if it is one.
@@ -136,17 +139,6 @@ pub fn validate_access(
     let constant = get_const_val_from(index, &context.function.expressions, gctx);
     check_constant(base, index, length, constant)?;
     Ok(every_stage())
-}
-
-/// Whether a constant index is below the length of its base, if that is known.
-fn is_within(value: u32, length: Result<IndexableLength, IndexableLengthError>) -> bool
-    ensures { (base : ℕ) → result ≡ is_none (rule.index_error base value length) }
-{
-    match length {
-        Ok(IndexableLength::Known(known)) => value < known,
-        Ok(IndexableLength::Pending | IndexableLength::Dynamic) => true,
-        Err(_) => false,
-    }
 }
 
 /// Whether every stage may use an access at an index that is computed: whether `validate_access` accepts it.
@@ -274,19 +266,17 @@ fn component_index(component: SwizzleComponent) -> u8
     }
 }
 
-/// Checks that a vector of this size has each of some components.
-fn check_components(
-    size: VectorSize,
-    components: &[SwizzleComponent],
-) -> Result<(), ExpressionError>
-    ensures { result ≡ ok_unless (vectors.first_lacking size components.now) tt }
+/// The first of some components that a vector of this size lacks.
+fn first_lacking(size: VectorSize, components: &[SwizzleComponent]) -> Option<SwizzleComponent>
+    ensures { option_map (λ component. refusal.InvalidSwizzleComponent component size) result
+        ≡ vectors.first_lacking size components.now }
 {
     for component in components {
         if component_index(*component) >= size.components() {
-            return Err(ExpressionError::InvalidSwizzleComponent(*component, size));
+            return Some(*component);
         }
     }
-    Ok(())
+    None
 }
 
 /// The stages that may use a swizzle (WGSL "Vector Access Expression").
@@ -314,20 +304,12 @@ pub fn validate_swizzle(
         return Err(ExpressionError::InvalidVectorType(vector));
     };
     let taken = usize::from(size.components());
-    check_components(*vector_size, &pattern[..taken])?;
-    Ok(every_stage())
-}
-
-/// Whether a vector of this size has each of some components.
-fn has_components(size: VectorSize, components: &[SwizzleComponent]) -> bool
-    ensures { result ≡ is_none (vectors.first_lacking size components.now) }
-{
-    for component in components {
-        if size.components() <= component_index(*component) {
-            return false;
+    match first_lacking(*vector_size, &pattern[..taken]) {
+        Some(component) => {
+            Err(ExpressionError::InvalidSwizzleComponent(component, *vector_size))
         }
+        None => Ok(every_stage()),
     }
-    true
 }
 
 /// Whether every stage may use a swizzle: whether `validate_swizzle` accepts it. It makes no
@@ -347,7 +329,7 @@ pub(crate) fn admits_swizzle(
         TypeInner::Vector {
             size: vector_size,
             ..
-        } => has_components(*vector_size, &pattern[..usize::from(size.components())]),
+        } => first_lacking(*vector_size, &pattern[..usize::from(size.components())]).is_none(),
         _ => false,
     }
 }

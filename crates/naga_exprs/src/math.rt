@@ -1,11 +1,12 @@
 //! The rule of mathematical functions.
 
-ghost use Rattle.std.specs.Prelude.{◌≡◌, ◌↔◌, ◌≤◌, IsTrue, None, Ok, length, map};
+ghost use Rattle.std.specs.Prelude.{◌≡◌, ◌↔◌, ◌≤◌, IsTrue, None, Ok, length, map, option_map};
 ghost use Rattle.naga_ir.specs.declared.expression.Expression.TheVariants as form;
 ghost use Rattle.naga_exprs.specs.Math as rule;
 ghost use Rattle.naga_exprs.specs.Math.{argument_checks, first_argument_error, math_rule, math_typing};
 ghost use Rattle.naga_info.specs.Stages as stages;
 ghost use Rattle.naga_info.specs.Surroundings.{IsReadySomewhere, surroundings};
+ghost use Rattle.naga_info.specs.declared.expression_error.ExpressionError.TheVariants as refusal;
 ghost use Rattle.naga_types.specs.Checks.{ok_unless, first_error_or};
 
 use bitflags::Flags;
@@ -47,26 +48,25 @@ fn check_capability(capabilities: Capabilities, fun: MathFunction) -> Result<(),
     Ok(())
 }
 
-/// Checks that a function takes each of some arguments, which have these types.
-fn check_arguments<T: Typing>(
+/// The first of some arguments, with its index, that a function doesn't take. The arguments have these types.
+fn first_refused<T: Typing>(
     typing: &T,
     fun: MathFunction,
     arguments: &[Handle<ExpressionTag>],
     types: &[&TypeInner],
-) -> Result<(), ExpressionError>
+) -> Option<(u32, Handle<ExpressionTag>)>
     requires typed { length arguments.now ≡ length types.now }
     requires few { length arguments.now ≤ 4 }
-    ensures { result ≡ ok_unless (first_argument_error
-        (math_typing (T.accepts_types typing.now) (T.least_arguments typing.now)) fun (map (λ t. t.now) types.now)
-        arguments.now) tt }
+    ensures { option_map (λ refused. refusal.InvalidArgumentType fun refused.0 refused.1) result
+        ≡ first_argument_error (math_typing (T.accepts_types typing.now) (T.least_arguments typing.now)) fun
+        (map (λ t. t.now) types.now) arguments.now }
 {
     for (index, argument) in arguments.iter().enumerate() {
         if !typing.accepts(fun, &types[..index + 1]) {
-            let index = index as u32;
-            return Err(ExpressionError::InvalidArgumentType(fun, index, *argument));
+            return Some((index as u32, *argument));
         }
     }
-    Ok(())
+    None
 }
 
 /// The stages that may use a function of these arguments, which have these types.
@@ -82,7 +82,9 @@ fn validate_arguments<T: Typing>(
         (argument_checks (math_typing (T.accepts_types typing.now) (T.least_arguments typing.now)) fun
         (map (λ t. t.now) types.now) arguments.now) stages.every_stage }
 {
-    check_arguments(typing, fun, arguments, types)?;
+    if let Some((index, argument)) = first_refused(typing, fun, arguments, types) {
+        return Err(ExpressionError::InvalidArgumentType(fun, index, argument));
+    }
     // The arguments decide which overloads are left, and with them how many are required.
     if types.len() < typing.min_arguments(fun, types) {
         return Err(ExpressionError::WrongArgumentCount(fun));
@@ -137,28 +139,6 @@ pub fn validate_math<T: Typing>(
     }
 }
 
-/// Whether a function takes each of some arguments, which have these types.
-fn accepts_each<T: Typing>(
-    typing: &T,
-    fun: MathFunction,
-    arguments: &[Handle<ExpressionTag>],
-    types: &[&TypeInner],
-) -> bool
-    requires typed { length arguments.now ≡ length types.now }
-    requires few { length arguments.now ≤ 4 }
-    ensures { IsTrue result ↔ (first_argument_error
-        (math_typing (T.accepts_types typing.now) (T.least_arguments typing.now)) fun (map (λ t. t.now) types.now)
-        arguments.now ≡ None) }
-{
-    for (index, _) in arguments.iter().enumerate() {
-        let accepted = typing.accepts(fun, &types[..index + 1]);
-        if !accepted {
-            return false;
-        }
-    }
-    true
-}
-
 /// Whether every stage may use a function of these arguments, which have these types.
 fn admits_arguments<T: Typing>(
     typing: &T,
@@ -172,7 +152,8 @@ fn admits_arguments<T: Typing>(
         (argument_checks (math_typing (T.accepts_types typing.now) (T.least_arguments typing.now)) fun
         (map (λ t. t.now) types.now) arguments.now) stages.every_stage ≡ Ok stages.every_stage) }
 {
-    accepts_each(typing, fun, arguments, types) && typing.min_arguments(fun, types) <= types.len()
+    first_refused(typing, fun, arguments, types).is_none()
+        && typing.min_arguments(fun, types) <= types.len()
 }
 
 /// Whether every stage may use a mathematical function: whether `validate_math` accepts it. It makes no

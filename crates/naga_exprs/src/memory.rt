@@ -23,25 +23,12 @@ fn can_load(context: FunctionContext<'_>, inner: &TypeInner) -> bool
     requires exist { ReferencesExist (global_lists context.«module».now) inner.now }
     ensures { result ≡ rule.can_load (surroundings context.entry) inner.now }
 {
-    match inner {
-        TypeInner::Pointer { base, .. } => {
-            let loadable = TypeFlags::SIZED.union(TypeFlags::DATA);
-            context.type_flags(*base).contains(loadable)
-        }
-        TypeInner::ValuePointer { .. } => true,
-        TypeInner::Scalar(_)
-        | TypeInner::Vector { .. }
-        | TypeInner::Matrix { .. }
-        | TypeInner::CooperativeMatrix { .. }
-        | TypeInner::Atomic(_)
-        | TypeInner::Array { .. }
-        | TypeInner::Struct { .. }
-        | TypeInner::Image { .. }
-        | TypeInner::Sampler { .. }
-        | TypeInner::AccelerationStructure { .. }
-        | TypeInner::RayQuery { .. }
-        | TypeInner::BindingArray { .. } => false,
+    if let TypeInner::Pointer { base, .. } = inner {
+        let loadable = TypeFlags::SIZED.union(TypeFlags::DATA);
+        return context.type_flags(*base).contains(loadable);
     }
+    // A value pointer always leads to a scalar or a vector.
+    matches!(inner, TypeInner::ValuePointer { .. })
 }
 
 /// The stages that may use a load (WGSL "Load Rule").
@@ -57,7 +44,7 @@ pub fn validate_load(
     requires pointer { pointer < length context.info.now.types }
     ensures { result ≡ load_rule (surroundings context.entry) pointer }
 {
-    if !can_load(context, context.type_of(pointer)) {
+    if !admits_load(context, pointer) {
         return Err(ExpressionError::InvalidPointerType(pointer));
     }
     Ok(every_stage())
@@ -77,22 +64,13 @@ pub(crate) fn admits_load(context: FunctionContext<'_>, pointer: Handle<Expressi
 fn is_dynamic_array(inner: &TypeInner) -> bool
     ensures { result ≡ rule.is_dynamic_array (Some inner.now) }
 {
-    match inner {
-        TypeInner::Array { size, .. } => matches!(size, ArraySize::Dynamic),
-        TypeInner::Scalar(_)
-        | TypeInner::Vector { .. }
-        | TypeInner::Matrix { .. }
-        | TypeInner::CooperativeMatrix { .. }
-        | TypeInner::Atomic(_)
-        | TypeInner::Pointer { .. }
-        | TypeInner::ValuePointer { .. }
-        | TypeInner::Struct { .. }
-        | TypeInner::Image { .. }
-        | TypeInner::Sampler { .. }
-        | TypeInner::AccelerationStructure { .. }
-        | TypeInner::RayQuery { .. }
-        | TypeInner::BindingArray { .. } => false,
-    }
+    matches!(
+        inner,
+        TypeInner::Array {
+            size: ArraySize::Dynamic,
+            ..
+        }
+    )
 }
 
 /// The stages that may use the length of a runtime-sized array (WGSL "arrayLength").

@@ -18,23 +18,11 @@ use naga_ir::types::{AddressSpace, TypeInner};
 fn is_ray_query(inner: &TypeInner, vertices: bool) -> bool
     ensures { result ≡ rule.is_ray_query vertices (Some inner.now) }
 {
-    match inner {
-        // A query that returns vertices may be read without them, but not the other way round.
-        TypeInner::RayQuery { vertex_return } => *vertex_return || !vertices,
-        TypeInner::Scalar(_)
-        | TypeInner::Vector { .. }
-        | TypeInner::Matrix { .. }
-        | TypeInner::CooperativeMatrix { .. }
-        | TypeInner::Atomic(_)
-        | TypeInner::Pointer { .. }
-        | TypeInner::ValuePointer { .. }
-        | TypeInner::Array { .. }
-        | TypeInner::Struct { .. }
-        | TypeInner::Image { .. }
-        | TypeInner::Sampler { .. }
-        | TypeInner::AccelerationStructure { .. }
-        | TypeInner::BindingArray { .. } => false,
-    }
+    let TypeInner::RayQuery { vertex_return } = inner else {
+        return false;
+    };
+    // A query that returns vertices may be read without them, but not the other way round.
+    *vertex_return || !vertices
 }
 
 /// Whether a type is a pointer to a ray query of the function.

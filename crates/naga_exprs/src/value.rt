@@ -53,7 +53,7 @@ pub fn validate_zero_value(
     requires exists { ty < length context.«module».now.types }
     ensures { result ≡ rule.zero_value_rule (surroundings context.entry) ty }
 {
-    if !context.type_flags(ty).contains(TypeFlags::CONSTRUCTIBLE) {
+    if !admits_zero_value(context, ty) {
         return Err(ExpressionError::InvalidZeroValue(ty));
     }
     Ok(every_stage())
@@ -123,10 +123,10 @@ pub fn validate_splat(
     requires value { value < length context.info.now.types }
     ensures { result ≡ rule.splat_rule (surroundings context.entry) value }
 {
-    match context.type_of(value).vector_size_and_scalar() {
-        Some((None, _)) => Ok(every_stage()),
-        Some((Some(_), _)) | None => Err(ExpressionError::InvalidSplatType(value)),
+    if !admits_splat(context, value) {
+        return Err(ExpressionError::InvalidSplatType(value));
     }
+    Ok(every_stage())
 }
 
 /// Whether every stage may use a splat: whether `validate_splat` accepts it. It makes no
@@ -153,7 +153,7 @@ pub fn validate_function_argument(
 ) -> Result<ShaderStages, ExpressionError>
     ensures { result ≡ rule.argument_rule (surroundings context.entry) index }
 {
-    if index as usize >= context.function.arguments.len() {
+    if !admits_function_argument(context, index) {
         return Err(ExpressionError::FunctionArgumentDoesntExist(index));
     }
     Ok(every_stage())

@@ -1,7 +1,0 @@
-use Rattle.std.proofs.Common.{◌≡◌, drop}
-use Rattle.naga_exprs.proofs.access.check_components.Given as goal
-use Rattle.naga_exprs.specs.Vectors.{first_lacking}
-
--- the components that are left lack the same as all
-abbrev pub invariant-loop-component : goal.invariant-loop-component
-invariant-loop-component l = first_lacking l.size (drop l.component-index l.components) ≡ first_lacking l.size l.components
