@@ -15,7 +15,7 @@ ghost use Rattle.naga_valid.specs.steps.Functions.{AllowInCommon, AreFoundKinds,
 
 use crate::driver::Validator;
 use bitflags::Flags;
-use naga_exprs::expression::admits_expression;
+use naga_exprs::expression::{admits_expression, validate_expression};
 use naga_flags::flags::ShaderStages;
 use naga_info::context::every_stage;
 use naga_info::expression_error::ExpressionError;
@@ -262,16 +262,7 @@ impl<T: Typing> Validator<T> {
                 stages = stages.intersection(every_stage());
                 continue;
             }
-            match self.validate_expression(
-                overrides_resolved,
-                handle,
-                expression,
-                function,
-                module,
-                info,
-                mod_info,
-                &kinds,
-            ) {
+            match validate_expression(self.alloc, &self.typing, context, expression) {
                 Ok(allowed) => stages = stages.intersection(allowed),
                 Err(ExpressionError::OutOfMemory) => return Err(FunctionError::OutOfMemory),
                 Err(source) => return Err(FunctionError::Expression { handle, source }),

@@ -3,11 +3,11 @@ use Rattle.bitflags.specs.Sets.{known_from}
 use Rattle.naga_flags.specs.declared.flags.ShaderStages.{ShaderStages}
 use Rattle.naga_info.specs.declared.expression_error.ExpressionError.TheVariants as refusal
 use Rattle.naga_valid.proofs.FunctionRules.{all_asked, allowed_at, at_place, ready_next, enough_asked, next_there, none_asked, one_allowed, one_breach, refused_at}
-use Rattle.naga_exprs.specs.ExpressionRule.{IsRule}
+use Rattle.naga_exprs.specs.ExpressionRule.{IsExpressionResult, IsRule}
 use Rattle.naga_exprs.specs.Math.{math_typing}
 use Rattle.naga_info.specs.Stages.{every_stage}
 use Rattle.naga_info.specs.Surroundings.{IsReady, surroundings}
-use Rattle.naga_valid.proofs.Meanings.{allows}
+use Rattle.naga_valid.proofs.Meanings.{allows, refuses}
 use Rattle.naga_valid.specs.Functions.{expression_surroundings, function_surroundings}
 use Rattle.naga_valid.proofs.driver.Validator.validate_rules.Goals as goal
 use Rattle.naga_valid.proofs.driver.Validator.validate_rules.Goals.{in-None, in-Some+then-index-len}
@@ -31,11 +31,10 @@ validate_expression-requires g c =
     let s = function_surroundings (g.T.Typing.resolves state.typing) (record { accepts = g.T.Typing.accepts_types state.typing; least_arguments = g.T.Typing.least_arguments state.typing }) state c.args.overrides_resolved c.args.module.now c.args.function.now c.args.mod_info.now.lists in
     let types = c.args.info.now.types in
     let typed : c.in-Some.handle ≤ length types = omega (arith, c.if-index-len.false, c.index.ensures.value, c.len.ensures) in
-    record {
-      ready =
-          ready_next s types c.find_kinds.new.kinds c.in-Some.handle c.in-Some.expression.now c.requires c.in_ok-find_kinds.ensures.suffice
-          (next_there s types _ _ _ _ _ c.loop-handle.invariant.asked c.in-Some.ensures.steps) typed;
-    }
+    let ready =
+    ready_next s types c.find_kinds.new.kinds c.in-Some.handle c.in-Some.expression.now c.requires c.in_ok-find_kinds.ensures.suffice
+    (next_there s types _ _ _ _ _ c.loop-handle.invariant.asked c.in-Some.ensures.steps) typed in
+    record { ready = (c.in-Some.handle, subst (λ s. IsReady s c.in-Some.handle c.in-Some.expression.now) (sym c.context-context.ensures) ready) }
 
 pub admits_expression-requires : goal.admits_expression-requires
 admits_expression-requires g c =
@@ -72,11 +71,14 @@ loop-handle-preserved g c =
     let state = c.args.self.now in
     let s = function_surroundings (g.T.Typing.resolves state.typing) (record { accepts = g.T.Typing.accepts_types state.typing; least_arguments = g.T.Typing.least_arguments state.typing }) state c.args.overrides_resolved c.args.module.now c.args.function.now c.args.mod_info.now.lists in
     let types = c.args.info.now.types in
-    let at = next_there s types _ _ _ c.in-Some.expression.now _ c.loop-handle.invariant.asked c.in-Some.ensures.steps in
+    let x = c.in-Some.expression.now in
+    let at = next_there s types _ _ _ x _ c.loop-handle.invariant.asked c.in-Some.ensures.steps in
+    let by_typing = subst (λ state. IsExpressionResult (math_typing (g.T.Typing.accepts_types state.typing) (g.T.Typing.least_arguments state.typing)) (surroundings c.context-context.result) x (allows c.in-Ok.allowed)) c.self.view_is c.in-Ok.ensures in
+    let told = subst (λ around. IsExpressionResult s.math around x (allows c.in-Ok.allowed)) c.context-context.ensures by_typing in
     record {
       asked =
-          one_allowed s types c.loop-handle.stages _ c.in-Some.handle c.in-Some.expression.now _ c.loop-handle.invariant.asked c.in-Some.ensures.steps c.in-Ok.allowed c.intersection-stages-in-Ok.result
-          (allowed_at s types c.find_kinds.new.kinds c.in-Some.handle c.in-Some.expression.now c.in_ok-find_kinds.ensures.suffice at c.in-Ok.allowed c.in-Ok.ensures)
+          one_allowed s types c.loop-handle.stages _ c.in-Some.handle x _ c.loop-handle.invariant.asked c.in-Some.ensures.steps c.in-Ok.allowed c.intersection-stages-in-Ok.result
+          (allowed_at s types c.find_kinds.new.kinds c.in-Some.handle x c.in_ok-find_kinds.ensures.suffice at c.in-Ok.allowed told)
           (c.intersection-stages-in-Ok.ensures tt);
       found = c.in_ok-find_kinds.ensures.found;
     }
@@ -86,11 +88,14 @@ returns-in-Err g c =
     let state = c.args.self.now in
     let s = function_surroundings (g.T.Typing.resolves state.typing) (record { accepts = g.T.Typing.accepts_types state.typing; least_arguments = g.T.Typing.least_arguments state.typing }) state c.args.overrides_resolved c.args.module.now c.args.function.now c.args.mod_info.now.lists in
     let types = c.args.info.now.types in
-    let at = next_there s types _ _ _ c.in-Some.expression.now _ c.loop-handle.invariant.asked c.in-Some.ensures.steps in
+    let x = c.in-Some.expression.now in
+    let at = next_there s types _ _ _ x _ c.loop-handle.invariant.asked c.in-Some.ensures.steps in
+    let by_typing = subst (λ state. IsExpressionResult (math_typing (g.T.Typing.accepts_types state.typing) (g.T.Typing.least_arguments state.typing)) (surroundings c.context-context.result) x (refuses c.in-Err.source)) c.self.view_is c.in-Err.ensures in
+    let told = subst (λ around. IsExpressionResult s.math around x (refuses c.in-Err.source)) c.context-context.ensures by_typing in
     let typed : c.in-Some.handle ≤ length types = omega (arith, c.if-index-len.false, c.index.ensures.value, c.len.ensures) in
     let other : c.in-Err.source ≡ refusal.OutOfMemory → ⊥ = search rules in
-    inr (one_breach s types c.loop-handle.stages _ c.in-Some.handle c.in-Some.expression.now _ c.loop-handle.invariant.asked c.in-Some.ensures.steps c.in-Err.source typed
-    (refused_at s types c.find_kinds.new.kinds c.in-Some.handle c.in-Some.expression.now c.in_ok-find_kinds.ensures.suffice at c.in-Err.source other c.in-Err.ensures))
+    inr (one_breach s types c.loop-handle.stages _ c.in-Some.handle x _ c.loop-handle.invariant.asked c.in-Some.ensures.steps c.in-Err.source typed
+    (refused_at s types c.find_kinds.new.kinds c.in-Some.handle x c.in_ok-find_kinds.ensures.suffice at c.in-Err.source other told))
 
 pub returns : goal.returns
 returns g c =
