@@ -122,6 +122,37 @@ fn nothing_is_known_of_an_empty_module(rt: HostRuntime) -> Result<(), Fail> {
     Ok(())
 }
 
+/// A number, and an array of such that an override sizes.
+const SIZED_BY_OVERRIDE: &str = "type scalar uint 4
+expr zero 0
+override 0 0 -
+type array 0 o0 4";
+
+/// What is known of that module, as it is shown.
+const KNOWN: &str = "ModuleInfo { type_flags: [\
+    TypeFlags(DATA | SIZED | COPY | IO_SHAREABLE | HOST_SHAREABLE | CREATION_RESOLVED | ARGUMENT | CONSTRUCTIBLE), \
+    TypeFlags(DATA | SIZED | COPY | HOST_SHAREABLE | ARGUMENT)], \
+    functions: [], entry_points: [], const_expression_types: [Handle([0])] }";
+
+/// A copy of what is known of a module, as it is shown.
+fn shown_copy(alloc: Global, module: &Module) -> Result<String, Fail> {
+    let info = validator_under(alloc, Capabilities::default()).validate(module)?;
+    let copy = info.try_clone()?;
+    Ok(format!(in alloc; "{copy:?}")?)
+}
+
+#[test]
+fn what_is_known_of_a_module_is_copied(rt: HostRuntime) -> Result<(), Fail> {
+    let shown = with_text(
+        &rt,
+        rt.alloc(),
+        SIZED_BY_OVERRIDE,
+        |module| shown_copy(rt.alloc(), module),
+    )?;
+    assert_same(&rt, &shown.as_str(), &KNOWN);
+    Ok(())
+}
+
 /// Adds a type of floating-point numbers of this width.
 fn add_float(
     rt: &impl Abort,
