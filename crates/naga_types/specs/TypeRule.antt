@@ -129,11 +129,11 @@ array_info s handle base size stride =
     }
 
 -- the dimension is `D3`
-abbrev pub is_solid : ImageDimension → Boolean
-is_solid D3 = true
-is_solid D1 = false
-is_solid D2 = false
-is_solid Cube = false
+abbrev pub is_3d : ImageDimension → Boolean
+is_3d D3 = true
+is_3d D1 = false
+is_3d D2 = false
+is_3d Cube = false
 
 -- the dimension is `Cube`
 abbrev pub is_cube : ImageDimension → Boolean
@@ -160,7 +160,7 @@ is_external (image.Storage format access) = false
 -- not arrayed, and need another capability
 abbrev pub image_checks : ℕ → ImageDimension → Boolean → ImageClass → List (Option TypeError)
 image_checks capabilities dim arrayed class =
-    require (not (arrayed && is_solid dim)) (UnsupportedImageType dim arrayed class) ∷
+    require (not (arrayed && is_3d dim)) (UnsupportedImageType dim arrayed class) ∷
     when (arrayed && is_cube dim) (capability_error capabilities CUBE_ARRAY_TEXTURES) ∷
     when (is_external class) (require (is_2d dim && not arrayed) (UnsupportedImageType dim arrayed class)) ∷
     when (is_external class) (capability_error capabilities TEXTURE_EXTERNAL) ∷
