@@ -1,7 +1,7 @@
 -- Types that keep their rule by the infos of the types before them.
 use Rattle.std.proofs.Common.{◌≡◌, ◌<◌, ◌≤◌, ⊎_elim, ℕ, Bool, true, false, List, [], ◌∷◌, ◌++◌, Some, None, Ok, Contains, length, slice_get, take, refl, sym, ap, subst, ◌∙◌, arith, length-append}
 use Rattle.std.specs.Prelude.{leb}
-use Rattle.std.specs.Option.{option_map, unwrap_or}
+use Rattle.std.specs.Option.{option_map, option_map_or, unwrap_or}
 use Rattle.std.proofs.lemmas.Bool.{and_parts, cases_lt, leb-true}
 use Rattle.std.proofs.lemmas.List.{length-take, length-take-le, take_all}
 use Rattle.std.proofs.lemmas.Option.{same_Some, slice_get_within}
@@ -30,7 +30,7 @@ use Rattle.naga_types.proofs.LeafPlaces.{map_some}
 use Rattle.naga_types.specs.AcceptedTypes.{AreTypesAccepted, surroundings_by, types_rule}
 use Rattle.naga_types.specs.FormFlags.{array_flags, element_flags}
 use Rattle.naga_types.specs.Checks.{first}
-use Rattle.naga_types.specs.Surroundings.{Surroundings, flags_at, info_at, info_in, size_at, size_in}
+use Rattle.naga_types.specs.Surroundings.{Surroundings, flags_at, info_at, info_in, size_at}
 use Rattle.naga_types.specs.TypeRule.{array_checks, array_info, type_rule}
 use Rattle.naga_types.specs.declared.info.TypeInfo.{TypeInfo}
 use Rattle.naga_typing.proofs.Layouts.{layout_by_parts}
@@ -123,9 +123,9 @@ accepted_types m capabilities resolved layouts infos accepted =
 
 -- the size in the layout of a type is the type's
 pub size_laid_out : (g : GlobalLists) (layouts : List TypeLayout) → AreLayouts g layouts → GlobalReferencesOk g → (t : ℕ) (ty : «Type») → slice_get g.types t ≡ Some ty
-    → size_in (slice_get layouts t) ≡ size_at_index g t
+    → option_map_or (λ (layout : TypeLayout). layout.size) (slice_get layouts t) 0 ≡ size_at_index g t
 size_laid_out g layouts laid_out references t ty at =
-    ap size_in (layout_by_parts g layouts laid_out references t ty at) ∙ ap (λ o. unwrap_or (option_map (size_of g) (option_map (λ (ty : «Type»). ty.inner) o)) 0) (sym at)
+    ap (λ o. option_map_or (λ (layout : TypeLayout). layout.size) o 0) (layout_by_parts g layouts laid_out references t ty at) ∙ ap (λ o. unwrap_or (option_map (size_of g) (option_map (λ (ty : «Type»). ty.inner) o)) 0) (sym at)
 
 module _ (w : CheckedTypes) where
   -- the info of a type

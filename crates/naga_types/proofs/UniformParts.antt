@@ -1,6 +1,6 @@
 -- When structs have uniform layouts, by their members.
 use Rattle.std.proofs.Common.{◌≡◌, ◌+◌, ◌≤◌, ℕ, zero, suc, true, max, List, [], ◌∷◌, Option, Some, None, Ok, map, slice_get, refl, sym, subst, ap, ◌∙◌, arith}
-use Rattle.std.specs.Option.{option_map}
+use Rattle.std.specs.Option.{option_and_then, option_map}
 use Rattle.std.specs.Prelude.{leb}
 use Rattle.std.proofs.lemmas.Bool.{le-leb, leb-true}
 use Rattle.naga_flags.specs.Bits.{SIZED}
@@ -12,7 +12,7 @@ use Rattle.naga_ir.specs.declared.types.TypeInner.TheVariants.{Struct}
 use Rattle.naga_types.proofs.KeptConditions.{first-none, granted-none, granted-value, last-none, neither, none-first, none-last, unless-kept}
 use Rattle.naga_types.proofs.LayoutParts.{IsWhole, span-kept, span-whole}
 use Rattle.naga_types.specs.Checks.{first, ok_unless, require}
-use Rattle.naga_types.specs.Layouts.{form_of, greatest_alignment, in_uniform, last_padding_error, member_layout_errors, min_uniform, end_after_struct_before, padding_error, end_after_struct, rounded_up, saturated, unsized_error, unsized_errors, span_error, uniform_layout_of}
+use Rattle.naga_types.specs.Layouts.{greatest_alignment, in_uniform, last_padding_error, member_layout_errors, min_uniform, end_after_struct_before, padding_error, end_after_struct, rounded_up, saturated, unsized_error, unsized_errors, span_error, uniform_layout_of}
 use Rattle.naga_types.specs.Surroundings.{Surroundings, flags_at, form_at, form_in}
 use Rattle.naga_types.specs.declared.error.Disalignment.{Disalignment}
 use Rattle.naga_types.specs.declared.error.Disalignment.TheVariants.{MemberOffsetAfterStruct, UnsizedMember}
@@ -52,7 +52,7 @@ module _ (s : Surroundings) (t : ℕ) (members : List StructMember) (span : ℕ)
       let kept : end_after_struct_before s members (suc i) ≤ next.offset = leb-true (end_after_struct_before s members (suc i)) next.offset
       (unless-kept (leb (end_after_struct_before s members (suc i)) next.offset) (t, MemberOffsetAfterStruct (saturated (suc i)) next.offset (saturated (end_after_struct_before s members (suc i))))
       (none-last (padding_error s t members) members none (suc i) next next_at)) in
-      let its : end_after_struct_before s members (suc i) ≡ m.offset + rounded_up room = ap (λ o. end_after_struct o (form_of s o)) m_at ∙ ap (end_after_struct (Some m)) (form-at s m.ty ∙ is) in
+      let its : end_after_struct_before s members (suc i) ≡ m.offset + rounded_up room = ap (λ o. end_after_struct o (option_and_then (λ (p : StructMember). form_at s p.ty) o)) m_at ∙ ap (end_after_struct (Some m)) (form-at s m.ty ∙ is) in
       subst (λ n. n ≤ next.offset) its kept
 
   room_kept : RoomIsLeft → (i : ℕ) (m : StructMember) → slice_get members i ≡ Some m → end_after_struct_before s members i ≤ m.offset
@@ -64,7 +64,7 @@ module _ (s : Surroundings) (t : ℕ) (members : List StructMember) (span : ℕ)
       by_form p p_at (Some (Struct inside room)) is = left j p m inside room p_at at (sym (form-at s p.ty) ∙ is)
       by_form p p_at (Some _) is = omega arith
 
-      by_member : (found : Option StructMember) → slice_get members j ≡ found → end_after_struct found (form_of s found) ≤ m.offset
+      by_member : (found : Option StructMember) → slice_get members j ≡ found → end_after_struct found (option_and_then (λ (p : StructMember). form_at s p.ty) found) ≤ m.offset
       by_member None none = omega arith
       by_member (Some p) p_at = by_form p p_at (form_at s p.ty) refl
 

@@ -1,6 +1,7 @@
 -- The rule of composing.
 use Rattle.std.specs.Prelude.{◌==◌, ◌&&◌, ℕ, Bool as Boolean, false, List, [], ◌∷◌, Option, Some, None, Result, length, map, slice_get, sum_by}
 use Rattle.std.specs.List.{enumerate_from}
+use Rattle.std.specs.Option.{option_map_or}
 use Rattle.naga_ir.specs.Sizes.{components}
 use Rattle.naga_ir.specs.contracts.types.ScalarPartialEq.TheImpl as of_scalar
 use Rattle.naga_ir.specs.contracts.types.VectorSizePartialEq.TheImpl as of_size
@@ -78,11 +79,6 @@ is_vector_of rows scalar None = false
 abbrev pub is_of : List «Type» → ℕ → TypeResolution → Boolean
 is_of types t r = are_same types (Handle t) r
 
--- whether `r` is of the type of a member, if there is one
-abbrev pub is_of_member : List «Type» → Option StructMember → TypeResolution → Boolean
-is_of_member types (Some m) r = is_of types m.ty r
-is_of_member types None r = false
-
 -- the error, unless the component `at.1` fits at its place, `at.0`
 abbrev pub component_type_error : (ℕ × TypeResolution → Boolean) → ℕ × TypeResolution → Option ComposeError
 component_type_error fits at = require (fits at) (ComponentType (saturated at.0))
@@ -109,7 +105,7 @@ compose_checks types t (Some (Matrix columns rows scalar)) given =
 compose_checks types t (Some (Array base (Constant count) stride)) given =
     component_count_error (length given) count.value ∷ first_component_type_error (λ at. is_of types base at.1) given ∷ []
 compose_checks types t (Some (Struct members span)) given =
-    component_count_error (length given) (length members) ∷ first_component_type_error (λ at. is_of_member types (slice_get members at.0) at.1) given ∷ []
+    component_count_error (length given) (length members) ∷ first_component_type_error (λ at. option_map_or (λ (m : StructMember). is_of types m.ty at.1) (slice_get members at.0) false) given ∷ []
 compose_checks types t (Some (Array base (Pending over) stride)) given = Some (Type_ t) ∷ []
 compose_checks types t (Some (Array base Dynamic stride)) given = Some (Type_ t) ∷ []
 compose_checks types t (Some (Scalar scalar)) given = Some (Type_ t) ∷ []

@@ -1,5 +1,5 @@
 -- The layouts of structs in an address space.
-use Rattle.std.specs.Prelude.{◌==◌, ◌+◌, ◌-◌, ◌*◌, ◌/◌, ◌%◌, leb, max, min, ℕ, zero, suc, List, [], ◌∷◌, Option, Some, None, Result, Ok, Err, map, slice_get}
+use Rattle.std.specs.Prelude.{◌==◌, ◌+◌, ◌-◌, ◌*◌, ◌/◌, ◌%◌, leb, max, min, ℕ, zero, suc, List, [], ◌∷◌, Option, Some, None, Result, Ok, Err, map, option_and_then, slice_get}
 use Rattle.std.specs.List.{enumerate_from}
 use Rattle.std.specs.Option.{option_or}
 use Rattle.std.specs.Result.{result_unwrap_or}
@@ -88,11 +88,6 @@ end_after_struct (Some m) (Some (form.RayQuery vertex_return)) = 0
 end_after_struct (Some m) (Some (form.BindingArray base size)) = 0
 end_after_struct (Some m) None = 0
 
--- the type of a member, if there is one
-abbrev pub form_of : Surroundings → Option StructMember → Option TypeInner
-form_of s (Some m) = form_at s m.ty
-form_of s None = None
-
 -- the member before the one at a place
 abbrev pub before : List StructMember → ℕ → Option StructMember
 before members zero = None
@@ -100,7 +95,7 @@ before members (suc i) = slice_get members i
 
 -- the first byte that may follow the member before the one at a place, and 0 if no struct is before it
 abbrev pub end_after_struct_before : Surroundings → List StructMember → ℕ → ℕ
-end_after_struct_before s members i = end_after_struct (before members i) (form_of s (before members i))
+end_after_struct_before s members i = end_after_struct (before members i) (option_and_then (λ (m : StructMember). form_at s m.ty) (before members i))
 
 -- the error of a member that begins in the room of the struct before it
 abbrev pub padding_error : Surroundings → ℕ → List StructMember → ℕ × StructMember → Option (ℕ × Disalignment)

@@ -1,5 +1,5 @@
 -- The rule of structs.
-use Rattle.std.specs.Prelude.{◌==◌, ◌+◌, ◌-◌, ◌&&◌, ◌||◌, not, leb, ltb, ℕ, Bool as Boolean, true, false, List, [], ◌∷◌, Option, Some, None, Result, bit_and, bit_or, fold, is_some, length, map, take, unwrap_or, if◌then◌else◌}
+use Rattle.std.specs.Prelude.{◌==◌, ◌+◌, ◌-◌, ◌&&◌, ◌||◌, not, leb, ltb, ℕ, Bool as Boolean, true, false, List, [], ◌∷◌, Option, Some, None, Result, bit_and, bit_or, fold, is_some, length, map, option_map, take, unwrap_or, if◌then◌else◌}
 use Rattle.std.specs.List.{enumerate_from, list_any}
 use Rattle.std.specs.Result.{result_err}
 use Rattle.naga_flags.specs.Bits.{DUAL_SOURCE_BLENDING, HOST_SHAREABLE, IO_SHAREABLE, SIZED, all_type_flags}
@@ -114,33 +114,23 @@ member_errors s members span = map (member_error s members span) (enumerate_from
 abbrev pub other_location : List StructMember → Option ℕ
 other_location members = last (map (λ (m : StructMember). location_of m.binding) members)
 
--- the error of a location in a struct with sources of blending
-abbrev pub no_location : Option ℕ → Option VaryingError
-no_location None = None
-no_location (Some location) = Some (InvalidBlendSrcWithOtherBindings location)
-
 -- the checks of the two sources, by their types: both are there or none, no member has another location, they have one type, and stages may share it
 abbrev pub pair_checks : Surroundings → List StructMember → Option ℕ → Option ℕ → List (Option VaryingError)
 pair_checks s members None None = []
 pair_checks s members (Some t) None = Some (IncompleteBlendSrcUsage 0) ∷ []
 pair_checks s members None (Some u) = Some (IncompleteBlendSrcUsage 1) ∷ []
 pair_checks s members (Some t) (Some u) =
-    no_location (other_location members) ∷
+    option_map InvalidBlendSrcWithOtherBindings (other_location members) ∷
     require (are_same s.lists.types (Handle t) (Handle u)) (BlendSrcOutputTypeMismatch t u) ∷
     require (has (flags_at s t) IO_SHAREABLE) (NotIOShareableType t) ∷
     []
-
--- an error on sources of blending is one of the struct
-abbrev pub of_pair : Option VaryingError → Option TypeError
-of_pair None = None
-of_pair (Some e) = Some (InvalidBlendSrc e)
 
 -- the conditions of a struct: there are members, each keeps its own conditions, and the sources of blending keep theirs
 abbrev pub struct_checks : Surroundings → List StructMember → ℕ → List (Option TypeError)
 struct_checks s members span =
     require (not (length members == 0)) EmptyStruct ∷
     first (member_errors s members span) ∷
-    of_pair (first (pair_checks s members (source_type 0 members) (source_type 1 members))) ∷
+    option_map InvalidBlendSrc (first (pair_checks s members (source_type 0 members) (source_type 1 members))) ∷
     []
 
 -- what all members may be used for, and structs at all

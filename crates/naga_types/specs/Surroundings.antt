@@ -1,5 +1,6 @@
 -- What the rule of a type depends on.
 use Rattle.std.specs.Prelude.{ℕ, Bool, List, Option, Some, None, Ok, slice_get}
+use Rattle.std.specs.Option.{option_map_or}
 use Rattle.naga_ir.specs.ItemReferences.{GlobalLists}
 use Rattle.naga_ir.specs.declared.types.«Type».{«Type»}
 use Rattle.naga_ir.specs.declared.types.TypeInner.{TypeInner}
@@ -47,11 +48,6 @@ form_in None = None
 abbrev pub form_at : Surroundings → ℕ → Option TypeInner
 form_at s t = form_in (slice_get s.lists.types t)
 
--- the size in a layout, in bytes, and 0 if there is none
-abbrev pub size_in : Option TypeLayout → ℕ
-size_in (Some layout) = layout.size
-size_in None = 0
-
 -- the size of the type at a place, in bytes
 abbrev pub size_at : Surroundings → ℕ → ℕ
-size_at s t = size_in (slice_get s.layouts t)
+size_at s t = option_map_or (λ (layout : TypeLayout). layout.size) (slice_get s.layouts t) 0
