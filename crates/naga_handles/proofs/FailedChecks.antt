@@ -17,7 +17,7 @@ use Rattle.naga_ir.specs.FirstError.{ChecksEach}
 use Rattle.naga_ir.proofs.FirstError.{error-from-checks}
 use Rattle.naga_handles.specs.steps.OtherItems.{IsHandleRefusal}
 use Rattle.naga_handles.specs.declared.error.ValidationFault.{ValidationFault}
-use Rattle.naga_handles.specs.Faults.{IsFault, IsHandleFault, IsNoFunction, PlainReference, forward_in_module, in_entry_point, invalid, missing, missing_member, no_entry_point, not_there, of_constant, of_override, other, plain_references}
+use Rattle.naga_handles.specs.Faults.{IsFault, IsHandleFault, IsNotFunction, PlainReference, forward_in_module, in_entry_point, invalid, missing, missing_member, no_entry_point, not_there, of_constant, of_override, other, plain_references}
 use Rattle.naga_handles.specs.Faults as faults
 use Rattle.naga_handles.specs.steps.ItemChecks.{IsResult, IsEntryPointResult, IsMemberResult, Check, NoMember, all_filter_checks, code_checks, documented_references, entry_point_checks, expression_checks, filter_checks, function_checks, checks, module_checks, numbered_checks, valued_references}
 use Rattle.naga_handles.specs.steps.Checks.{of_expression, of_filter, of_function}
@@ -59,7 +59,7 @@ plain-among : (f : Function) → All (Contains (function_references f)) (plain_r
 plain-among f = all-plain (Contains (function_references f)) f (All-contains_itself (function_references f))
 
 -- a function of the module names something else than a function that is missing
-refused-no_function : (m : Module) (f : Function) (r : Reference) → Contains m.functions f → Contains (plain_references f) r → IsNoFunction r
+refused-no_function : (m : Module) (f : Function) (r : Reference) → Contains m.functions f → Contains (plain_references f) r → IsNotFunction r
     → Refused m (check (function_counts m f) (of_function None) r)
 refused-no_function m f r among h free = refused-missing m (function_counts m f) r (faults.in_function f r among h free)
 

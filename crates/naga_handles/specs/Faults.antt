@@ -65,23 +65,23 @@ abbrev pub plain_references : Function → List Reference
 plain_references f = references_with named_references f
 
 -- the reference is not to a function
-abbrev pub IsNoFunction : Reference → Type 0
-IsNoFunction (to.Function f) = ⊥
-IsNoFunction (to.Type_ t) = Unit {0}
-IsNoFunction (to.Constant c) = Unit {0}
-IsNoFunction (to.Override o) = Unit {0}
-IsNoFunction (to.GlobalVariable v) = Unit {0}
-IsNoFunction (to.Expression e) = Unit {0}
-IsNoFunction (to.LocalVariable v) = Unit {0}
-IsNoFunction (to.DiagnosticFilterNode d) = Unit {0}
-IsNoFunction (to.Emit range) = Unit {0}
+abbrev pub IsNotFunction : Reference → Type 0
+IsNotFunction (to.Function f) = ⊥
+IsNotFunction (to.Type_ t) = Unit {0}
+IsNotFunction (to.Constant c) = Unit {0}
+IsNotFunction (to.Override o) = Unit {0}
+IsNotFunction (to.GlobalVariable v) = Unit {0}
+IsNotFunction (to.Expression e) = Unit {0}
+IsNotFunction (to.LocalVariable v) = Unit {0}
+IsNotFunction (to.DiagnosticFilterNode d) = Unit {0}
+IsNotFunction (to.Emit range) = Unit {0}
 
 -- the other references that only have to exist, with the counts of items that they can name; the references of a function to functions go back instead
 pub data PlainReference (m : Module) : Counts → Reference → Type 0 where
   of_constant : (r : Reference) → Contains (flat_map constant_references m.constants) r → PlainReference m (module_counts m) r
   of_override : (r : Reference) → Contains (flat_map override_references m.overrides) r → PlainReference m (module_counts m) r
   other : (r : Reference) → Contains (other_references m) r → PlainReference m (module_counts m) r
-  in_function : (f : Function) (r : Reference) → Contains m.functions f → Contains (plain_references f) r → IsNoFunction r → PlainReference m (function_counts m f) r
+  in_function : (f : Function) (r : Reference) → Contains m.functions f → Contains (plain_references f) r → IsNotFunction r → PlainReference m (function_counts m f) r
   in_entry_point : (p : EntryPoint) (r : Reference) → Contains m.entry_points p → Contains (plain_references p.function) r → PlainReference m (function_counts m p.function) r
 
 -- what may be wrong with a module's handles and ranges

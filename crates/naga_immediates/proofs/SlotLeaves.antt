@@ -7,7 +7,7 @@ use Rattle.naga_immediates.specs.Slots.{IsSetOf, HasPart, HasSlot, SharesByte, U
 use Rattle.naga_immediates.specs.Slots.HasPart.{itself, in_member}
 use Rattle.naga_immediates.specs.declared.immediates.ImmediateSlots.{ImmediateSlots}
 use Rattle.naga_ir.specs.ItemReferences.{GlobalLists}
-use Rattle.naga_ir.specs.TypeWords.{IsNoStruct}
+use Rattle.naga_ir.specs.TypeWords.{IsNotStruct}
 use Rattle.naga_ir.specs.declared.types.ArraySize.{ArraySize}
 use Rattle.naga_ir.specs.declared.types.StructMember.{StructMember}
 use Rattle.naga_ir.specs.declared.types.TypeInner.{TypeInner}
@@ -18,8 +18,8 @@ use Rattle.naga_typing.specs.Layout.{size_of}
 use Rattle.naga_typing.specs.Leaves.{Elements, IsInside, IsLeafAlignment, LeafBytes, Part, elements, inner_at, is_leaf, leaf_at, moved, one_each, part_at, itself as inside_itself, member as inside_member}
 
 -- a type is not an array
-abbrev IsNoArray : TypeInner → Type 0
-IsNoArray inner = (base : ℕ) (size : ArraySize) (stride : ℕ) → inner ≡ Array base size stride → ⊥
+abbrev IsNotArray : TypeInner → Type 0
+IsNotArray inner = (base : ℕ) (size : ArraySize) (stride : ℕ) → inner ≡ Array base size stride → ⊥
 
 -- a type that has a part and is not an array is a struct
 pub record IsStructOf (inner : TypeInner) : Type 0 where
@@ -27,25 +27,25 @@ pub record IsStructOf (inner : TypeInner) : Type 0 where
   pub span : ℕ
   pub is : inner ≡ Struct members span
 
-struct_by_part : (el : Elements) (inner : TypeInner) (i : ℕ) (part : Part) → IsNoArray inner → part_at el inner i ≡ Some part → IsStructOf inner
+struct_by_part : (el : Elements) (inner : TypeInner) (i : ℕ) (part : Part) → IsNotArray inner → part_at el inner i ≡ Some part → IsStructOf inner
 struct_by_part el (Struct members span) i part other is = record { members = members; span = span; is = refl }
 struct_by_part el (Array base size stride) i part other is = absurd (other base size stride refl)
 struct_by_part el _ i part other is = absurd (none-some part is)
 
 -- a leaf is not a struct
-leaf_is_plain : (inner : TypeInner) → is_leaf inner ≡ true → IsNoStruct inner
+leaf_is_plain : (inner : TypeInner) → is_leaf inner ≡ true → IsNotStruct inner
 leaf_is_plain (Struct members span) is = absurd cc
 leaf_is_plain _ is = tt
 
-no_struct : (inner : TypeInner) → IsNoStruct inner → IsStructOf inner → ⊥
-no_struct inner plain s = subst IsNoStruct s.is plain
+no_struct : (inner : TypeInner) → IsNotStruct inner → IsStructOf inner → ⊥
+no_struct inner plain s = subst IsNotStruct s.is plain
 
 module _ (g : GlobalLists) (whole : ℕ) (aligned : (u : ℕ) → IsInside g whole u → (a : ℕ) × IsLeafAlignment g u a) (no_array : HasNoArray g whole) where
-  array_free : (t : ℕ) (inner : TypeInner) → IsInside g whole t → inner_at g t ≡ Some inner → IsNoArray inner
+  array_free : (t : ℕ) (inner : TypeInner) → IsInside g whole t → inner_at g t ≡ Some inner → IsNotArray inner
   array_free t inner in_whole is base size stride e = no_array t base size stride in_whole (is ∙ ap Some e)
 
   -- what is inside and no struct is a leaf
-  leaf_inside : (t : ℕ) (inner : TypeInner) → IsInside g whole t → inner_at g t ≡ Some inner → IsNoStruct inner → is_leaf inner ≡ true
+  leaf_inside : (t : ℕ) (inner : TypeInner) → IsInside g whole t → inner_at g t ≡ Some inner → IsNotStruct inner → is_leaf inner ≡ true
   leaf_inside t inner in_whole is plain = let a = (aligned t in_whole).1 in by_path a.path a.leaf a.stands
     where
       by_path : (path : List ℕ) (leaf : LeafBytes) → leaf_at g one_each t path ≡ Some leaf → is_leaf inner ≡ true

@@ -21,7 +21,7 @@ use Rattle.naga_ir.specs.ItemReferences.{GlobalLists, type_references}
 use Rattle.naga_ir.specs.declared.reference.Reference.TheVariants as to
 use Rattle.naga_ir.proofs.PartLemmas.{members_are}
 use Rattle.naga_ir.specs.Parts.{parts}
-use Rattle.naga_ir.specs.TypeWords.{IsNoStruct}
+use Rattle.naga_ir.specs.TypeWords.{IsNotStruct}
 use Rattle.naga_ir.specs.declared.types.«Type».{«Type»}
 use Rattle.naga_ir.specs.declared.types.StructMember.{StructMember}
 use Rattle.naga_ir.specs.declared.types.TypeInner.{TypeInner}
@@ -43,13 +43,13 @@ module _ (g : GlobalLists) where
     pub has : HasPart g inner (at + m.offset) part first
 
   part_of_struct : (whole : TypeInner) (members : List StructMember) (span at : ℕ) (part : TypeInner) (first : ℕ) → whole ≡ Struct members span → HasPart g whole at part first → InMember members at part first
-  part_of_struct _ members span _ _ _ e (itself inner at plain) = absurd (subst IsNoStruct e plain)
+  part_of_struct _ members span _ _ _ e (itself inner at plain) = absurd (subst IsNotStruct e plain)
   part_of_struct _ members span _ _ _ e (in_member members′ span′ at m inner part first is_member is_its has) =
       let same : members′ ≡ members = cc in
       record { m = m; inner = inner; is_member = subst (λ ms. Contains ms m) same is_member; is_its = is_its; has = has }
 
   -- a value that is not a struct is its own only part
-  part_of_other : (whole : TypeInner) (at : ℕ) (part : TypeInner) (first : ℕ) → IsNoStruct whole → HasPart g whole at part first → (part ≡ whole) × (first ≡ at)
+  part_of_other : (whole : TypeInner) (at : ℕ) (part : TypeInner) (first : ℕ) → IsNotStruct whole → HasPart g whole at part first → (part ≡ whole) × (first ≡ at)
   part_of_other _ _ _ _ plain (itself inner at other) = (refl, refl)
   part_of_other _ _ _ _ plain (in_member members span at m inner part first is_member is_its has) = absurd plain
 
@@ -66,7 +66,7 @@ module _ (g : GlobalLists) where
       past_all first size from (byte, a, b, c, d) = omega arith
 
   -- a value that is not a struct uses the slots of its bytes
-  pub used_by_other : (inner : TypeInner) (at k : ℕ) → IsNoStruct inner → UsesSlot g inner at k ↔ SharesByte at (size_of g inner) k
+  pub used_by_other : (inner : TypeInner) (at k : ℕ) → IsNotStruct inner → UsesSlot g inner at k ↔ SharesByte at (size_of g inner) k
   used_by_other inner at k plain = (there, back)
     where
       there : UsesSlot g inner at k → SharesByte at (size_of g inner) k
@@ -158,7 +158,7 @@ module _ (g : GlobalLists) where
       }
 
   -- a value that is not a struct is added at once
-  pub other_added : (t : ℕ) (inner : TypeInner) (at : ℕ) (old slots new : ImmediateSlots) → inner_at g t ≡ Some inner → IsNoStruct inner → IsSetOf (SharesByte at (size_of g inner)) slots
+  pub other_added : (t : ℕ) (inner : TypeInner) (at : ℕ) (old slots new : ImmediateSlots) → inner_at g t ≡ Some inner → IsNotStruct inner → IsSetOf (SharesByte at (size_of g inner)) slots
       → new ≡ record { 0 = bit_or old.0 slots.0 } → AddsSlotsOf g t at old new
   other_added t inner at old slots new is_its plain exactly e =
       subst (AddsSlotsOf g t at old) (sym e) record {
@@ -168,7 +168,7 @@ module _ (g : GlobalLists) where
       }
 
 -- a value without members is not a struct
-pub plain : (inner : TypeInner) → ((members : List StructMember) (span : ℕ) → inner ≡ Struct members span → ⊥) → IsNoStruct inner
+pub plain : (inner : TypeInner) → ((members : List StructMember) (span : ℕ) → inner ≡ Struct members span → ⊥) → IsNotStruct inner
 plain (Struct members span) h = h members span refl
 plain _ h = tt
 

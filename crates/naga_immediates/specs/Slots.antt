@@ -7,7 +7,7 @@ use Rattle.naga_ir.specs.ItemReferences.{GlobalLists}
 use Rattle.naga_ir.specs.declared.expression.Expression.{Expression}
 use Rattle.naga_ir.specs.declared.expression.Expression.TheVariants.{AccessIndex, GlobalVariable}
 use Rattle.naga_ir.specs.declared.ir.GlobalVariable.{GlobalVariable as Variable}
-use Rattle.naga_ir.specs.TypeWords.{IsNoStruct}
+use Rattle.naga_ir.specs.TypeWords.{IsNotStruct}
 use Rattle.naga_ir.specs.declared.types.«Type».{«Type»}
 use Rattle.naga_ir.specs.declared.types.AddressSpace.{AddressSpace}
 use Rattle.naga_ir.specs.declared.types.AddressSpace.TheVariants as space
@@ -49,7 +49,7 @@ IsSetOf P slots = (k : ℕ) → HasSlot slots k ↔ ((k < slot_count) × P k)
 
 -- a part of a value that is not a struct, reached only through members of structs: its `TypeInner` and its first byte, if the value begins at byte `at`
 pub data HasPart (g : GlobalLists) : TypeInner → ℕ → TypeInner → ℕ → Type 0 where
-  itself : (inner : TypeInner) (at : ℕ) → IsNoStruct inner → HasPart g inner at inner at
+  itself : (inner : TypeInner) (at : ℕ) → IsNotStruct inner → HasPart g inner at inner at
   in_member : (members : List StructMember) (span at : ℕ) (m : StructMember) (inner part : TypeInner) (first : ℕ) → Contains members m → inner_at g m.ty ≡ Some inner → HasPart g inner (at + m.offset) part first → HasPart g (Struct members span) at part first
 
 -- a value of type `inner` that begins at byte `at` uses slot `k`: a part of it shares a byte with the slot

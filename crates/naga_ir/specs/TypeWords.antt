@@ -59,21 +59,21 @@ IsStruct (RayQuery vertex_return) = ⊥
 IsStruct (BindingArray base size) = ⊥
 
 -- `inner` is not a struct
-abbrev pub IsNoStruct : TypeInner → Type 0
-IsNoStruct (Scalar scalar) = ⊤
-IsNoStruct (Vector size scalar) = ⊤
-IsNoStruct (Matrix columns rows scalar) = ⊤
-IsNoStruct (CooperativeMatrix columns rows scalar role) = ⊤
-IsNoStruct (Atomic scalar) = ⊤
-IsNoStruct (Pointer base space) = ⊤
-IsNoStruct (ValuePointer size scalar space) = ⊤
-IsNoStruct (Array base size stride) = ⊤
-IsNoStruct (Struct members span) = ⊥
-IsNoStruct (Image dim arrayed class) = ⊤
-IsNoStruct (Sampler comparison) = ⊤
-IsNoStruct (AccelerationStructure vertex_return) = ⊤
-IsNoStruct (RayQuery vertex_return) = ⊤
-IsNoStruct (BindingArray base size) = ⊤
+abbrev pub IsNotStruct : TypeInner → Type 0
+IsNotStruct (Scalar scalar) = ⊤
+IsNotStruct (Vector size scalar) = ⊤
+IsNotStruct (Matrix columns rows scalar) = ⊤
+IsNotStruct (CooperativeMatrix columns rows scalar role) = ⊤
+IsNotStruct (Atomic scalar) = ⊤
+IsNotStruct (Pointer base space) = ⊤
+IsNotStruct (ValuePointer size scalar space) = ⊤
+IsNotStruct (Array base size stride) = ⊤
+IsNotStruct (Struct members span) = ⊥
+IsNotStruct (Image dim arrayed class) = ⊤
+IsNotStruct (Sampler comparison) = ⊤
+IsNotStruct (AccelerationStructure vertex_return) = ⊤
+IsNotStruct (RayQuery vertex_return) = ⊤
+IsNotStruct (BindingArray base size) = ⊤
 
 -- the type that a pointer points to, if it has a handle
 abbrev pub pointer_base : TypeInner → Option ℕ

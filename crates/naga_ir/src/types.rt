@@ -2,7 +2,7 @@
 
 ghost use Rattle.std.specs.Prelude.{◌≡◌, IfOk, IsOk};
 ghost use Rattle.naga_ir.specs.Sizes.{components, cooperative_components, is_numeric};
-ghost use Rattle.naga_ir.specs.TypeWords.{IsNoStruct, is_mipmapped, is_multisampled, pointer_base, scalar_of, vector_size_and_scalar};
+ghost use Rattle.naga_ir.specs.TypeWords.{IsNotStruct, is_mipmapped, is_multisampled, pointer_base, scalar_of, vector_size_and_scalar};
 
 use naga_arena::handle::Handle;
 use naga_arena::list::List;
@@ -451,7 +451,7 @@ impl TypeInner {
     /// `OutOfMemory` if memory was refused.
     pub fn try_clone(&self) -> Result<TypeInner, OutOfMemory>
         ensures copy { IfOk result (λ copy. copy ≡ self.now) }
-        ensures no_struct { IsNoStruct self.now → IsOk result }
+        ensures no_struct { IsNotStruct self.now → IsOk result }
     {
         Ok(self.clone()?)
     }

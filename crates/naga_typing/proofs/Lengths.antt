@@ -11,13 +11,13 @@ use Rattle.naga_ir.specs.declared.types.TypeInner.TheVariants.{Pointer}
 use Rattle.naga_typing.proofs.Existence.{references_exist}
 use Rattle.naga_typing.proofs.Pointers.{nearer, pointer_base_exists, pointers_left}
 use Rattle.naga_typing.specs.Context.{ReferencesExist}
-use Rattle.naga_typing.specs.Index.{IsLength, IsNoPointer, LengthOfArray, PointsTo, itself, length_of, pointed_to}
+use Rattle.naga_typing.specs.Index.{IsLength, IsNotPointer, LengthOfArray, PointsTo, itself, length_of, pointed_to}
 use Rattle.naga_typing.specs.declared.index.IndexableLength.{IndexableLength}
 use Rattle.naga_typing.specs.declared.index.IndexableLengthError.{IndexableLengthError}
 
 module _ (types : List «Type») where
   -- a type that is not a pointer leads only to itself
-  leads_to_itself : (x y : TypeInner) → IsNoPointer x → PointsTo types x y → x ≡ y
+  leads_to_itself : (x y : TypeInner) → IsNotPointer x → PointsTo types x y → x ≡ y
   leads_to_itself _ _ none (itself x n) = refl
   leads_to_itself _ _ none (pointed_to base space t x at h) = absurd none
 
@@ -26,7 +26,7 @@ module _ (types : List «Type») where
 
   -- a pointer leads where its base does
   leads_by_base : (base : ℕ) (space : AddressSpace) (t : «Type») (x y : TypeInner) → x ≡ Pointer base space → slice_get types base ≡ Some t → PointsTo types x y → PointsTo types t.inner y
-  leads_by_base base space t _ _ e at (itself x none) = absurd (subst IsNoPointer e none)
+  leads_by_base base space t _ _ e at (itself x none) = absurd (subst IsNotPointer e none)
   leads_by_base base space t _ _ e at (pointed_to b s u y found h) =
       subst (λ (v : «Type»). PointsTo types v.inner y) (same_Some u t (sym found ∙ ap (slice_get types) (same_base b base s space e) ∙ at)) h
 

@@ -14,7 +14,7 @@ use Rattle.naga_ir.specs.declared.types.TypeInner.TheVariants.{Pointer}
 use Rattle.naga_ir.proofs.ReferencesOfItems.{parts_come_before}
 use Rattle.naga_typing.proofs.Existence.{references_exist}
 use Rattle.naga_typing.specs.Context.{ReferencesExist}
-use Rattle.naga_typing.specs.Index.{IsNoPointer, PointsTo, itself, pointed_to}
+use Rattle.naga_typing.specs.Index.{IsNotPointer, PointsTo, itself, pointed_to}
 
 -- one more than the index that a pointer points to, and 0 for other types
 abbrev pub pointers_left : TypeInner → ℕ
@@ -58,5 +58,5 @@ module _ (g : GlobalLists) where
             let back : b < base = parts_come_before g ok base t b at (subst (λ i. Contains (parts i) b) (sym is) (parts_of_pointer b s)) in omega (arith, back)
         by_form _ is = omega arith
 
-  pub end : (from now : TypeInner) → Following from now → IsNoPointer now → PointsTo g.types from now
+  pub end : (from now : TypeInner) → Following from now → IsNotPointer now → PointsTo g.types from now
   end from now f none = f.leads now (itself now none)

@@ -3,7 +3,7 @@ use Rattle.std.proofs.Common.{◌≡◌, ◌==◌, ◌&&◌, ◌↔◌, ◌⊎�
 use Rattle.std.proofs.lemmas.Bool.Decides.{Decides-and, Decides-eqb, Decides-like, Decides-or, same_from_decides}
 use Rattle.std.proofs.lemmas.Option.{same_Some}
 use Rattle.naga_ir.proofs.SameInner.{inner_decides}
-use Rattle.naga_ir.specs.TypeWords.{IsNoStruct, IsStruct}
+use Rattle.naga_ir.specs.TypeWords.{IsNotStruct, IsStruct}
 use Rattle.naga_ir.specs.contracts.types.TypeInnerPartialEq.TheImpl as of_inner
 use Rattle.naga_ir.specs.declared.types.«Type».{«Type»}
 use Rattle.naga_ir.specs.declared.types.TypeInner.{TypeInner}
@@ -17,7 +17,7 @@ struct_decides : (x : TypeInner) → Decides (is_struct x) (IsStruct x)
 struct_decides (Struct members span) = (λ _. tt, λ _. refl)
 struct_decides _ = (λ e. absurd (true≢false (sym e)), λ h. absurd h)
 
-no_struct_decides : (x : TypeInner) → Decides (not (is_struct x)) (IsNoStruct x)
+no_struct_decides : (x : TypeInner) → Decides (not (is_struct x)) (IsNotStruct x)
 no_struct_decides (Struct members span) = (λ e. absurd (true≢false (sym e)), λ h. absurd h)
 no_struct_decides _ = (λ _. tt, λ _. refl)
 
@@ -73,7 +73,7 @@ same_decides types lhs rhs = found_decides types lhs rhs _ _
 pub same_types : (types : List «Type») (lhs rhs : TypeResolution) (result : Bool) → IsTrue result ↔ AreSameTypes types lhs rhs → result ≡ are_same types lhs rhs
 same_types types lhs rhs result says = same_from_decides result (are_same types lhs rhs) says (same_decides types lhs rhs)
 
-struct_or_not : (x : TypeInner) → IsStruct x ⊎ IsNoStruct x
+struct_or_not : (x : TypeInner) → IsStruct x ⊎ IsNotStruct x
 struct_or_not (Struct members span) = inl tt
 struct_or_not _ = inr tt
 
@@ -81,6 +81,6 @@ struct_or_not _ = inr tt
 pub one_handle_is_same : (types : List «Type») (lhs rhs : TypeResolution) (x : TypeInner) → inner_in types lhs ≡ Some x → AreOneHandle lhs rhs → AreSameTypes types lhs rhs
 one_handle_is_same types lhs rhs x at one = (x, x, at, ap (inner_in types) (one.2 ∙ sym one.1) ∙ at, same (struct_or_not x))
   where
-    same : IsStruct x ⊎ IsNoStruct x → AreSameInners types lhs rhs x x
+    same : IsStruct x ⊎ IsNotStruct x → AreSameInners types lhs rhs x x
     same (inl is) = inl (is, is, one)
     same (inr is) = inr (is, is, refl)

@@ -15,25 +15,25 @@ use Rattle.naga_typing.specs.declared.index.IndexableLengthError.{IndexableLengt
 use Rattle.naga_typing.specs.declared.index.IndexableLengthError.TheVariants.{TypeNotIndexable, InvalidArrayLength}
 
 -- `inner` is not a pointer to a type of the module
-abbrev pub IsNoPointer : TypeInner → Type 0
-IsNoPointer (Pointer base space) = ⊥
-IsNoPointer (Scalar scalar) = ⊤
-IsNoPointer (Vector size scalar) = ⊤
-IsNoPointer (Matrix columns rows scalar) = ⊤
-IsNoPointer (CooperativeMatrix columns rows scalar role) = ⊤
-IsNoPointer (Atomic scalar) = ⊤
-IsNoPointer (ValuePointer size scalar space) = ⊤
-IsNoPointer (Array base size stride) = ⊤
-IsNoPointer (Struct members span) = ⊤
-IsNoPointer (Image dim arrayed class) = ⊤
-IsNoPointer (Sampler comparison) = ⊤
-IsNoPointer (AccelerationStructure vertex_return) = ⊤
-IsNoPointer (RayQuery vertex_return) = ⊤
-IsNoPointer (BindingArray base size) = ⊤
+abbrev pub IsNotPointer : TypeInner → Type 0
+IsNotPointer (Pointer base space) = ⊥
+IsNotPointer (Scalar scalar) = ⊤
+IsNotPointer (Vector size scalar) = ⊤
+IsNotPointer (Matrix columns rows scalar) = ⊤
+IsNotPointer (CooperativeMatrix columns rows scalar role) = ⊤
+IsNotPointer (Atomic scalar) = ⊤
+IsNotPointer (ValuePointer size scalar space) = ⊤
+IsNotPointer (Array base size stride) = ⊤
+IsNotPointer (Struct members span) = ⊤
+IsNotPointer (Image dim arrayed class) = ⊤
+IsNotPointer (Sampler comparison) = ⊤
+IsNotPointer (AccelerationStructure vertex_return) = ⊤
+IsNotPointer (RayQuery vertex_return) = ⊤
+IsNotPointer (BindingArray base size) = ⊤
 
 -- a type leads through any number of pointers to a type that is not a pointer
 pub data PointsTo (types : List «Type») : TypeInner → TypeInner → Type 0 where
-  itself : (x : TypeInner) → IsNoPointer x → PointsTo types x x
+  itself : (x : TypeInner) → IsNotPointer x → PointsTo types x x
   pointed_to : (base : ℕ) (space : AddressSpace) (t : «Type») (x : TypeInner) → slice_get types base ≡ Some t → PointsTo types t.inner x → PointsTo types (Pointer base space) x
 
 -- the length of an array before overrides have their values

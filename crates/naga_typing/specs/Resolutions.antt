@@ -3,7 +3,7 @@ use Rattle.std.specs.Prelude.{◌≡◌, ◌<◌, ◌⊎◌, ℕ, List, Option, 
 use Rattle.std.specs.Option.{option_map_or}
 use Rattle.naga_ir.specs.ItemReferences.{GlobalLists}
 use Rattle.naga_ir.specs.Parts.{parts}
-use Rattle.naga_ir.specs.TypeWords.{IsNoStruct, IsStruct}
+use Rattle.naga_ir.specs.TypeWords.{IsNotStruct, IsStruct}
 use Rattle.naga_ir.specs.declared.types.«Type».{«Type»}
 use Rattle.naga_ir.specs.declared.types.AddressSpace.{AddressSpace}
 use Rattle.naga_ir.specs.declared.types.TypeInner.{TypeInner}
@@ -112,7 +112,7 @@ AreOneHandle lhs rhs = (t : ℕ) × (lhs ≡ Handle t) × (rhs ≡ Handle t)
 -- `x` and `y`, the types of `lhs` and `rhs`, are the same: structs if they have the same handle, other types if they
 -- are equal as they are compared
 abbrev pub AreSameInners : List «Type» → TypeResolution → TypeResolution → TypeInner → TypeInner → Type 0
-AreSameInners types lhs rhs x y = (IsStruct x × IsStruct y × AreOneHandle lhs rhs) ⊎ (IsNoStruct x × IsNoStruct y × (canonical types x ≡ canonical types y))
+AreSameInners types lhs rhs x y = (IsStruct x × IsStruct y × AreOneHandle lhs rhs) ⊎ (IsNotStruct x × IsNotStruct y × (canonical types x ≡ canonical types y))
 
 -- `lhs` and `rhs` are of the same type
 abbrev pub AreSameTypes : List «Type» → TypeResolution → TypeResolution → Type 0

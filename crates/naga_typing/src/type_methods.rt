@@ -8,7 +8,7 @@ ghost use Rattle.naga_typing.specs.Constants as constants;
 ghost use Rattle.naga_typing.specs.Context.{ReferencesExist, lists_of};
 ghost use Rattle.naga_typing.specs.Layout as spec;
 ghost use Rattle.naga_typing.specs.Layout.{SizeFits, size_of};
-ghost use Rattle.naga_typing.specs.steps.Layout.{IsNoArray};
+ghost use Rattle.naga_typing.specs.steps.Layout.{IsNotArray};
 ghost use Rattle.naga_ir.specs.ItemReferences.{GlobalLists};
 
 use crate::context::{GlobalCtx, get_const_val_from};
@@ -58,7 +58,7 @@ pub(crate) fn array_size(size: ArraySize, stride: u32, gctx: GlobalCtx<'_>) -> u
 
 /// The size of a value that is not an array, in bytes.
 pub(crate) fn size_unless_array(inner: &TypeInner) -> u32
-    ensures { IsNoArray inner.now → (g : GlobalLists) → result ≡ size_of g inner.now }
+    ensures { IsNotArray inner.now → (g : GlobalLists) → result ≡ size_of g inner.now }
 {
     match inner {
         TypeInner::Scalar(scalar) | TypeInner::Atomic(scalar) => u32::from(scalar.width),

@@ -1,7 +1,7 @@
 //! The types of expressions, and whether two types are the same.
 
 ghost use Rattle.std.specs.Prelude.{◌≡◌, ◌↔◌, List, IfOk, IsFalse, IsOk, IsTrue, OnErr, Some, unwrap_or};
-ghost use Rattle.naga_ir.specs.TypeWords.{IsNoStruct, IsStruct};
+ghost use Rattle.naga_ir.specs.TypeWords.{IsNotStruct, IsStruct};
 ghost use Rattle.naga_ir.specs.declared.types.«Type».{«Type»};
 ghost use Rattle.naga_typing.specs.ErrorNames.{resolve_error_name};
 ghost use Rattle.naga_typing.specs.Resolutions as spec;
@@ -162,7 +162,7 @@ fn are_one_handle(lhs: &TypeResolution, rhs: &TypeResolution) -> bool
 /// Whether `inner` is a struct.
 fn is_struct(inner: &TypeInner) -> bool
     ensures yes { IsTrue result ↔ IsStruct inner.now }
-    ensures no { IsFalse result ↔ IsNoStruct inner.now }
+    ensures no { IsFalse result ↔ IsNotStruct inner.now }
 {
     matches!(inner, TypeInner::Struct { .. })
 }

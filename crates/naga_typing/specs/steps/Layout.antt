@@ -6,21 +6,21 @@ use Rattle.naga_ir.specs.declared.types.TypeInner.TheVariants.{Scalar, Vector, M
 use Rattle.naga_typing.specs.declared.layouter.TypeLayout.{TypeLayout}
 
 -- `inner` is not an array
-abbrev pub IsNoArray : TypeInner → Type 0
-IsNoArray (Array base size stride) = ⊥
-IsNoArray (Scalar scalar) = ⊤
-IsNoArray (Vector size scalar) = ⊤
-IsNoArray (Matrix columns rows scalar) = ⊤
-IsNoArray (CooperativeMatrix columns rows scalar role) = ⊤
-IsNoArray (Atomic scalar) = ⊤
-IsNoArray (Pointer base space) = ⊤
-IsNoArray (ValuePointer size scalar space) = ⊤
-IsNoArray (Struct members span) = ⊤
-IsNoArray (Image dim arrayed class) = ⊤
-IsNoArray (Sampler comparison) = ⊤
-IsNoArray (AccelerationStructure vertex_return) = ⊤
-IsNoArray (RayQuery vertex_return) = ⊤
-IsNoArray (BindingArray base size) = ⊤
+abbrev pub IsNotArray : TypeInner → Type 0
+IsNotArray (Array base size stride) = ⊥
+IsNotArray (Scalar scalar) = ⊤
+IsNotArray (Vector size scalar) = ⊤
+IsNotArray (Matrix columns rows scalar) = ⊤
+IsNotArray (CooperativeMatrix columns rows scalar role) = ⊤
+IsNotArray (Atomic scalar) = ⊤
+IsNotArray (Pointer base space) = ⊤
+IsNotArray (ValuePointer size scalar space) = ⊤
+IsNotArray (Struct members span) = ⊤
+IsNotArray (Image dim arrayed class) = ⊤
+IsNotArray (Sampler comparison) = ⊤
+IsNotArray (AccelerationStructure vertex_return) = ⊤
+IsNotArray (RayQuery vertex_return) = ⊤
+IsNotArray (BindingArray base size) = ⊤
 
 -- the types that `inner` names are among the types laid out so far
 abbrev pub PartsLaidOut : List TypeLayout → TypeInner → Type 0

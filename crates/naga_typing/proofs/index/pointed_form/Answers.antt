@@ -1,6 +1,6 @@
 use Rattle.std.proofs.Common.{rules}
 use Rattle.naga_typing.specs.Context.{lists_of}
-use Rattle.naga_typing.specs.Index.{IsNoPointer}
+use Rattle.naga_typing.specs.Index.{IsNotPointer}
 use Rattle.naga_typing.proofs.Pointers.{begin, end, follow, nearer, pointer_base_exists}
 use Rattle.naga_typing.proofs.index.pointed_form.Goals as goal
 
@@ -18,7 +18,7 @@ loop-inner-preserved c = follow (lists_of c.args.gctx) c.requires.references _ _
 
 pub returns : goal.returns
 returns c =
-    let none : IsNoPointer c.loop-inner.inner.now = search rules in record {
+    let none : IsNotPointer c.loop-inner.inner.now = search rules in record {
       leads = end (lists_of c.args.gctx) _ _ c.loop-inner.invariant none;
       exist = c.loop-inner.invariant.exist;
     }
