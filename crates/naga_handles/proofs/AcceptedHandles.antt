@@ -15,7 +15,7 @@ use Rattle.naga_ir.specs.declared.reference.Reference.{Reference}
 use Rattle.naga_ir.specs.declared.reference.Reference.TheVariants as to
 use Rattle.naga_ir.specs.declared.types.«Type».{«Type»}
 use Rattle.naga_ir.proofs.ReferencesOfItems.{item_in, only, type_in, within_all}
-use Rattle.naga_handles.specs.Faults.{IsFault, IsHandleFault, IsOrderFault, PlainReference, VisitedReference, forward_in_module, in_entry_point, initialiser, invalid, item, missing_member, no_entry_point, not_back, not_gated, not_there, not_visited, of_constant, of_override, on_walk, other, plain_references, size, type_}
+use Rattle.naga_handles.specs.Faults.{IsFault, IsHandleFault, IsOrderFault, PlainReference, VisitedReference, forward_in_module, in_entry_point, initialiser, invalid, item, missing_member, no_entry_point, not_back, size_not_first, not_there, not_visited, of_constant, of_override, on_walk, other, plain_references, size, type_}
 use Rattle.naga_handles.specs.Faults as faults
 use Rattle.naga_handles.specs.declared.error.InvalidHandleError.{InvalidHandleError}
 use Rattle.naga_handles.specs.declared.error.ValidationFault.{ValidationFault}
@@ -28,7 +28,7 @@ pub all_accepted : (m : Module)
     → All (Exists (module_counts m)) (flat_map (λ (t : «Type»). type_references t.inner) m.types)
     → All (Exists (module_counts m)) (flat_map expression_references m.global_expressions)
     → ReferencesPrecede (OrderedReference (global_lists m)) → SizesResolveFirst (global_lists m) → OtherItemsOk m → HandlesAccepted m
-all_accepted m types expressions globals_back gates h = record {
+all_accepted m types expressions globals_back sizes h = record {
   exist = record {
     globals =
         All-append (Exists (module_counts m)) (flat_map (λ (t : «Type»). type_references t.inner) m.types) _ types
@@ -41,7 +41,7 @@ all_accepted m types expressions globals_back gates h = record {
     documented_entry_points = h.documented_entry_points;
   };
   back = all_back;
-  gates = gates;
+  sizes = sizes;
 }
   where
     all_back : (s t : Reference) → OrderedInModule m s t → place_of t < place_of s
@@ -150,7 +150,7 @@ module _ (m : Module) (h : HandlesAccepted m) where
   -- nothing is wrong with types and global expressions
   walk-fault-breaks : (e : InvalidHandleError) → IsOrderFault m e → ⊥
   walk-fault-breaks e (not_back s t pair le) = let lt : place_of t < place_of s = h.back s t (among_globals s t pair) in omega (arith, lt, le)
-  walk-fault-breaks e (not_gated t n k u is le names past) = let lt : u < t = h.gates t n k u is le names in omega (arith, lt, past)
+  walk-fault-breaks e (size_not_first t n k u is le names past) = let lt : u < t = h.sizes t n k u is le names in omega (arith, lt, past)
   walk-fault-breaks e (not_visited r v lacks) = lacks (visited-there r v)
 
   -- nothing is wrong with any handle

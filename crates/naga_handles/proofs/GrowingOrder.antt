@@ -5,7 +5,7 @@ use Rattle.std.proofs.lemmas.Option.{gets, same_Some, slice_get_within}
 use Rattle.std.proofs.lemmas.Grind.{common_steps}
 use Rattle.naga_arena.proofs.InOrder.{get_stays}
 use Rattle.naga_ir.specs.ItemReferences.{GlobalLists}
-use Rattle.naga_ir.specs.Ranks.{gate, rank_of_expression, rank_of_type, top_before}
+use Rattle.naga_ir.specs.Ranks.{first_waiting, rank_of_expression, rank_of_type, top_before}
 use Rattle.naga_handles.specs.Order.{IsOrder, rank_of, reference_to}
 use Rattle.naga_handles.specs.steps.VisitState.{Placed}
 use Rattle.naga_handles.specs.declared.order.Item.{Item}
@@ -46,7 +46,7 @@ module _ (g : GlobalLists) where
   }
 
   -- an expression comes next
-  pub placed_expression : (order : List Item) (t c : ℕ) → Placed g order t c → gate g c ≡ t → Placed g (order ++ item.Expression c ∷ []) t (c + 1)
+  pub placed_expression : (order : List Item) (t c : ℕ) → Placed g order t c → first_waiting g c ≡ t → Placed g (order ++ item.Expression c ∷ []) t (c + 1)
   placed_expression order t c p waits = record {
     ranked = ranked_more order (item.Expression c) p.ranked here;
     types = λ k l. get_front order _ _ _ (p.types k l);
@@ -54,7 +54,7 @@ module _ (g : GlobalLists) where
     long = omega (arith, length-append order (item.Expression c ∷ []), p.long);
   }
     where
-      here : c + gate g c ≡ length order
+      here : c + first_waiting g c ≡ length order
       here = omega (arith, p.long, waits)
 
       by_place : (e : ℕ) → e < c + 1 → (e < c) ⊎ (c ≤ e) → slice_get (order ++ item.Expression c ∷ []) (rank_of_expression g e) ≡ Some (item.Expression e)

@@ -21,7 +21,7 @@ all_right m can (Ok _) others =
     let there = Exists (module_counts m) in
     let of_types = flat_map (λ (t : «Type»). type_references t.inner) m.types in
     let of_expressions = flat_map expression_references m.global_expressions in
-    all_accepted m (all-left there of_types of_expressions can.exist) (all-right there of_types of_expressions can.exist) can.back can.gates others
+    all_accepted m (all-left there of_types of_expressions can.exist) (all-right there of_types of_expressions can.exist) can.back can.sizes others
 all_right m can (Err fault) others = tt
 
 -- a result that is right in both cases decides whether they are right

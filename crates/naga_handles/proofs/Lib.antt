@@ -2,7 +2,7 @@ pub mod AcceptedHandles
 mod CheckLemmas
 mod Comments
 mod FailedChecks
-pub mod GateLemmas
+pub mod WaitingLemmas
 pub mod GrowingOrder
 mod HandleVerdict
 mod ListItems

@@ -16,11 +16,11 @@ use Rattle.naga_ir.specs.declared.reference.Reference.{Reference}
 use Rattle.naga_ir.specs.declared.reference.Reference.TheVariants as to
 use Rattle.naga_ir.specs.Parts.{parts, size_override}
 use Rattle.naga_ir.specs.declared.types.«Type».{«Type»}
-use Rattle.naga_handles.specs.Faults.{IsOrderFault, VisitedReference, initialiser, item, not_back, not_gated, not_visited, size, type_}
+use Rattle.naga_handles.specs.Faults.{IsOrderFault, VisitedReference, initialiser, item, not_back, size_not_first, not_visited, size, type_}
 use Rattle.naga_ir.specs.Ranks.{reach}
 use Rattle.naga_handles.specs.Order.{CanBeOrdered}
 use Rattle.naga_handles.specs.declared.walk.Walker.{Walker}
-use Rattle.naga_handles.specs.steps.VisitState.{AllBefore, ExpressionOk, ExpressionsOk, GateOk, TypeOk, Visited, named_initialiser}
+use Rattle.naga_handles.specs.steps.VisitState.{AllBefore, ExpressionOk, ExpressionsOk, SizeResolvesFirst, TypeOk, Visited, named_initialiser}
 use Rattle.naga_handles.specs.declared.error.InvalidHandleError.{InvalidHandleError}
 use Rattle.naga_handles.proofs.OrderFaults.{size_within}
 
@@ -64,14 +64,14 @@ module _ (m : Module) (types : (t : ℕ) (x : «Type») → slice_get m.types t 
   back _ _ (override e o n v at stands h) = begins e n (form.Override o) at (ap initialiser_of stands ∙ h)
 
   all_right : SizesResolveFirst (global_lists m) → ((t : ℕ) → t < length m.types → (x : «Type») × (slice_get m.types t ≡ Some x)) → CanBeOrdered m
-  all_right gates there = record {
+  all_right sizes there = record {
     exist =
         All-append There (flat_map (λ (t : «Type»). type_references t.inner) m.types) (flat_map expression_references m.global_expressions)
         (all_within There (λ (t : «Type»). type_references t.inner) m.types of_type)
         (all_within There expression_references m.global_expressions of_expression);
     initialisers = λ t n h. let x = there t (size_within (global_lists m) t n h) in (types t x.0 x.1).size.initialiser_exists n h;
     back = back;
-    gates = gates;
+    sizes = sizes;
   }
 
 at_place : {X : Type 0} (xs : List X) (k : ℕ) → k < length xs → (x : X) × (slice_get xs k ≡ Some x)
@@ -81,11 +81,11 @@ at_place (x ∷ xs) (suc k) h = at_place xs k (omega (arith, h))
 
 -- if all were visited, and the greatest type that an expression names exists, all can be ordered
 pub can_be_ordered : (m : Module) (w : Walker) → Visited m (length m.types) w → length m.global_expressions ≤ w.visited → reach w.greatest ≤ length m.types → CanBeOrdered m
-unfolding ExpressionsOk GateOk
+unfolding ExpressionsOk SizeResolvesFirst
 can_be_ordered m w v all there =
     all_right m (λ t x at. v.types t x (slice_get_within m.types t x at) at) (λ e x at. v.right e x (reached e x at) at)
     (λ e u named. omega (arith, v.names.0.covers e u (reached e named.0 named.1) named, there))
-    (λ t n e u begins l named. v.gates t (size_within (global_lists m) t n begins) n e u begins l named) (at_place m.types)
+    (λ t n e u begins l named. v.sizes t (size_within (global_lists m) t n begins) n e u begins l named) (at_place m.types)
   where
     reached : (e : ℕ) (x : Expression) → slice_get m.global_expressions e ≡ Some x → e < w.visited
     reached e x at = omega (arith, slice_get_within m.global_expressions e x at, all)
@@ -113,10 +113,10 @@ module _ (m : Module) (a : CanBeOrdered m) where
       (Contains-append_right (map to.Type_ (parts x.inner)) _ (to.Override o) among)))
   visited_there _ (initialiser t n h) = a.initialisers t n h
   visited_there _ (item e x r at named) = expression_there e x r at (item_in x r named)
-  visited_there _ (type_ e u names ungated) = named_there e u names.0 names.1 names.2
+  visited_there _ (type_ e u names unsized) = named_there e u names.0 names.1 names.2
 
   -- if there is a fault, types and global expressions can't be ordered
   pub fault_breaks : (e : InvalidHandleError) → IsOrderFault m e → ⊥
   fault_breaks _ (not_back s t pair late) = let back = a.back s t pair in absurd (omega (arith, back, late))
-  fault_breaks _ (not_gated t n e u begins l names late) = let gated = a.gates t n e u begins l names in absurd (omega (arith, gated, late))
+  fault_breaks _ (size_not_first t n e u begins l names late) = let named_before = a.sizes t n e u begins l names in absurd (omega (arith, named_before, late))
   fault_breaks _ (not_visited r visited absent) = absent (visited_there r visited)

@@ -10,8 +10,8 @@ use Rattle.naga_ir.specs.declared.expression.Expression.{Expression}
 use Rattle.naga_ir.specs.declared.ir.Module.{Module}
 use Rattle.naga_ir.specs.declared.reference.Reference.TheVariants as to
 use Rattle.naga_ir.specs.declared.types.«Type».{«Type»}
-use Rattle.naga_handles.specs.Faults.{IsOrderFault, forward, missing, not_gated, not_visited, type_}
-use Rattle.naga_handles.specs.steps.VisitState.{ExpressionOk, ExpressionsOk, GateOk, IsGreatest, IsTable, TypeOk, Visited}
+use Rattle.naga_handles.specs.Faults.{IsOrderFault, forward, missing, size_not_first, not_visited, type_}
+use Rattle.naga_handles.specs.steps.VisitState.{ExpressionOk, ExpressionsOk, SizeResolvesFirst, IsGreatest, IsTable, TypeOk, Visited}
 use Rattle.naga_handles.specs.declared.walk.Walker.{Walker}
 use Rattle.naga_handles.specs.declared.walk.reader.Reader.{Reader}
 use Rattle.naga_handles.proofs.GrowingOrder.{get_last, get_old}
@@ -92,35 +92,35 @@ module _ (m : Module) where
           subst (λ (k : ℕ). ExpressionOk m k y) place (subst (ExpressionOk m c) same here)
 
   -- a size that needs no expression
-  pub gate_none : (t : ℕ) → size_initialiser (global_lists m) t ≡ None → GateOk m t
-  unfolding GateOk
-  gate_none t none n e u begins l names = absurd (cc)
+  pub resolves_none : (t : ℕ) → size_initialiser (global_lists m) t ≡ None → SizeResolvesFirst m t
+  unfolding SizeResolvesFirst
+  resolves_none t none n e u begins l names = absurd (cc)
 
   module _ (t n : ℕ) (entry : Option ℕ) (sized : size_initialiser (global_lists m) t ≡ Some n) (is : IsGreatest (global_lists m) (n + 1) entry) where
     -- a size whose expressions name types before the type alone
-    pub gate_passed : reach entry ≤ t → GateOk m t
-    unfolding GateOk
-    gate_passed before k e u begins l names =
+    pub resolves_passed : reach entry ≤ t → SizeResolvesFirst m t
+    unfolding SizeResolvesFirst
+    resolves_passed before k e u begins l names =
         let same : n ≡ k = same_Some n k (sym sized ∙ begins) in
         omega (arith, is.covers e u (omega (arith, l, same)) names, before)
 
     -- one whose expressions name the type itself or a later one
-    pub gate_refused : (u : ℕ) → entry ≡ Some u → t ≤ u → IsOrderFault m (forward (to.Type_ t) (to.Type_ u))
-    gate_refused u at late =
+    pub resolves_refused : (u : ℕ) → entry ≡ Some u → t ≤ u → IsOrderFault m (forward (to.Type_ t) (to.Type_ u))
+    resolves_refused u at late =
         let by = is.named u at in
-        not_gated t n by.0 u sized (omega (arith, by.1)) by.2 late
+        size_not_first t n by.0 u sized (omega (arith, by.1)) by.2 late
 
   -- one more type was visited, with one more look
-  pub visited_more : (t : ℕ) (x : «Type») (w : Walker) (reader : Reader) → Visited m t w → slice_get m.types t ≡ Some x → TypeOk m t x.inner → GateOk m t → reader.looks ≡ w.reader.looks + 1
+  pub visited_more : (t : ℕ) (x : «Type») (w : Walker) (reader : Reader) → Visited m t w → slice_get m.types t ≡ Some x → TypeOk m t x.inner → SizeResolvesFirst m t → reader.looks ≡ w.reader.looks + 1
       → Visited m (t + 1) (record { reader = reader; visited = w.visited; kept = w.kept; greatest = w.greatest; table = w.table })
-  visited_more t x w reader v at stands gate counted = record {
+  visited_more t x w reader v at stands first counted = record {
     inside = v.inside;
     right = v.right;
     kept = v.kept;
     names = v.names;
     room = v.room;
     types = λ k y h there. type_at k y h there (cases_lt k t);
-    gates = λ k h. gate_at k h (cases_lt k t);
+    sizes = λ k h. waiting_at k h (cases_lt k t);
     few = omega (arith, v.few, counted);
     looks = λ all. omega (arith, v.looks all, counted);
   }
@@ -132,17 +132,18 @@ module _ (m : Module) where
           let same : x ≡ y = same_Some x y (sym at ∙ ap (slice_get m.types) place ∙ there) in
           subst (λ (j : ℕ). TypeOk m j y.inner) place (subst (λ (z : «Type»). TypeOk m t z.inner) same stands)
 
-      gate_at : (k : ℕ) → k < t + 1 → (k < t) ⊎ (t ≤ k) → GateOk m k
-      gate_at k h (inl l) = v.gates k l
-      gate_at k h (inr l) = let place : t ≡ k = omega (arith, h, l) in subst (GateOk m) place gate
+      waiting_at : (k : ℕ) → k < t + 1 → (k < t) ⊎ (t ≤ k) → SizeResolvesFirst m k
+      waiting_at k h (inl l) = v.sizes k l
+      waiting_at k h (inr l) = let place : t ≡ k = omega (arith, h, l) in subst (SizeResolvesFirst m) place first
 
-  -- after all types, if the greatest type that an expression names is missing, that is a fault: no size needs the expression
+  -- after all types, if the greatest type that an expression names is missing, that is a
+  -- fault: no size needs the expression
   pub missing_type : (w : Walker) (u : ℕ) → Visited m (length m.types) w → w.greatest ≡ Some u → (Exists (module_counts m) (to.Type_ u) → ⊥) → IsOrderFault m (missing (to.Type_ u))
-  unfolding GateOk
+  unfolding SizeResolvesFirst
   missing_type w u v named absent =
       let by = v.names.0.named u named in
-      let ungated : (t n : ℕ) → size_initialiser (global_lists m) t ≡ Some n → by.0 ≤ n → ⊥ = λ t n begins l.
+      let unsized : (t n : ℕ) → size_initialiser (global_lists m) t ≡ Some n → by.0 ≤ n → ⊥ = λ t n begins l.
       let there = size_within (global_lists m) t n begins in
-      let before = v.gates t there n by.0 u begins l by.2 in
+      let before = v.sizes t there n by.0 u begins l by.2 in
       omega (arith, there, before, absent) in
-      not_visited (to.Type_ u) (type_ by.0 u by.2 ungated) absent
+      not_visited (to.Type_ u) (type_ by.0 u by.2 unsized) absent

@@ -47,7 +47,8 @@ missing (to.DiagnosticFilterNode d) = BadHandle (record { kind = kind_of (to.Dia
 abbrev pub forward : Reference → Reference → InvalidHandleError
 forward s t = ForwardDependency (record { subject = place_of s; subject_kind = kind_of s; depends_on = place_of t; depends_on_kind = kind_of t })
 
--- the references of types and global expressions that only have to exist; a type that an expression names is one if no size needs the expression
+-- the references of types and global expressions that only have to exist; a type that an expression names is one
+-- if no size needs the expression
 pub data VisitedReference (m : Module) : Reference → Type 0 where
   size : (t o : ℕ) (x : «Type») → slice_get m.types t ≡ Some x → size_override x.inner ≡ Some o → VisitedReference m (to.Override o)
   initialiser : (t n : ℕ) → size_initialiser (global_lists m) t ≡ Some n → VisitedReference m (to.Expression n)
@@ -57,7 +58,7 @@ pub data VisitedReference (m : Module) : Reference → Type 0 where
 -- what may be wrong with types and global expressions
 pub data IsOrderFault (m : Module) : InvalidHandleError → Type 0 where
   not_back : (s t : Reference) → OrderedReference (global_lists m) s t → place_of s ≤ place_of t → IsOrderFault m (forward s t)
-  not_gated : (t n e u : ℕ) → size_initialiser (global_lists m) t ≡ Some n → e ≤ n → NamesType (global_lists m) e u → t ≤ u → IsOrderFault m (forward (to.Type_ t) (to.Type_ u))
+  size_not_first : (t n e u : ℕ) → size_initialiser (global_lists m) t ≡ Some n → e ≤ n → NamesType (global_lists m) e u → t ≤ u → IsOrderFault m (forward (to.Type_ t) (to.Type_ u))
   not_visited : (r : Reference) → VisitedReference m r → (Exists (module_counts m) r → ⊥) → IsOrderFault m (missing r)
 
 -- what a function refers to that only has to exist: all but the operands of its expressions
@@ -76,7 +77,8 @@ IsNotFunction (to.LocalVariable v) = Unit {0}
 IsNotFunction (to.DiagnosticFilterNode d) = Unit {0}
 IsNotFunction (to.Emit range) = Unit {0}
 
--- the other references that only have to exist, with the counts of items that they can name; the references of a function to functions go back instead
+-- the other references that only have to exist, with the counts of items that they can name; the references of a
+-- function to functions go back instead
 pub data PlainReference (m : Module) : Counts → Reference → Type 0 where
   of_constant : (r : Reference) → Contains (flat_map constant_references m.constants) r → PlainReference m (module_counts m) r
   of_override : (r : Reference) → Contains (flat_map override_references m.overrides) r → PlainReference m (module_counts m) r
@@ -91,7 +93,8 @@ pub data IsHandleFault (m : Module) : InvalidHandleError → Type 0 where
   not_there : (n : Counts) (r : Reference) → PlainReference m n r → (Exists n r → ⊥) → IsHandleFault m (missing r)
   no_entry_point : (place : ℕ) (lines : List (List ℕ)) → Contains m.doc_comments.entry_points (place, lines) → length m.entry_points ≤ place → IsHandleFault m (BadHandle (record { kind = codes "EntryPoint"; index = place }))
 
--- what an error says in place of the name of a type without one, if a comment documents a member that the type doesn't have
+-- what an error says in place of the name of a type without one, if a comment documents a
+-- member that the type doesn't have
 abbrev pub text_of_unnamed : TypeInner → List ℕ
 text_of_unnamed (Struct members span) = codes "members length incorrect"
 text_of_unnamed (Scalar scalar) = codes "Unknown"

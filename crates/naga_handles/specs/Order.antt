@@ -14,12 +14,13 @@ use Rattle.naga_handles.specs.declared.error.ValidationFault.TheVariants.{Invali
 use Rattle.naga_handles.specs.declared.order.Item.{Item}
 use Rattle.naga_handles.specs.declared.order.Item.TheVariants as item
 
--- what types and global expressions refer to exists, and so do the initialisers that size types; references go back, and the types that size a type precede it
+-- what types and global expressions refer to exists, and so do the initialisers that size types; references go back,
+-- and the types that size a type precede it
 pub record CanBeOrdered (m : Module) : Type 0 where
   pub exist : All (Exists (module_counts m)) (flat_map (λ (t : «Type»). type_references t.inner) m.types ++ flat_map expression_references m.global_expressions)
   pub initialisers : (t n : ℕ) → size_initialiser (global_lists m) t ≡ Some n → n < length m.global_expressions
   pub back : ReferencesPrecede (OrderedReference (global_lists m))
-  pub gates : SizesResolveFirst (global_lists m)
+  pub sizes : SizesResolveFirst (global_lists m)
 
 -- the index in the order of what a reference names, if it is a type or a global expression
 abbrev pub rank_of : GlobalLists → Reference → ℕ

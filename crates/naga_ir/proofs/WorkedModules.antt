@@ -6,7 +6,7 @@ use Rattle.naga_ir.specs.Handles.{Exists, EverythingExists, ReferencesPrecede, H
 use Rattle.naga_ir.specs.ItemReferences.{GlobalLists, function_references, global_lists}
 use Rattle.naga_ir.specs.References.{named_item, named_type, operands}
 use Rattle.naga_ir.specs.Parts.{parts, size_override}
-use Rattle.naga_ir.specs.Ranks.{gate, least, rank_of_expression, rank_of_type, top_before}
+use Rattle.naga_ir.specs.Ranks.{first_waiting, least, rank_of_expression, rank_of_type, top_before}
 use Rattle.naga_ir.specs.declared.types.«Type».{«Type»}
 use Rattle.naga_ir.specs.declared.types.ArraySize.TheVariants.{Pending}
 use Rattle.naga_ir.specs.declared.types.ScalarKind.TheVariants.{Uint}
@@ -60,7 +60,7 @@ circular = record {
   expressions = Constant 0 ∷ [];
 }
 
--- if the initialiser names the array itself, the gate of the size is broken
+-- if the initialiser names the array itself, the size does not resolve first
 pub names_itself : ¬ (SizesResolveFirst (global_lists (of_lists (naming 1) [])))
 unfolding size_initialiser size_override named_type
 names_itself holds =
@@ -75,7 +75,7 @@ named_earlier = record {
   expressions = ZeroValue 1 ∷ ZeroValue 0 ∷ [];
 }
 
--- that breaks the gate too
+-- its size does not resolve first either
 pub named_before_the_size : ¬ (SizesResolveFirst (global_lists (of_lists named_earlier [])))
 unfolding size_initialiser size_override named_type
 named_before_the_size holds =
@@ -97,7 +97,7 @@ unfolding size_initialiser size_override top_before
 first_of_three = refl
 
 pub second_of_three : rank_of_expression (naming 0) 0 ≡ 1
-unfolding size_initialiser size_override gate least
+unfolding size_initialiser size_override first_waiting least
 second_of_three = refl
 
 pub third_of_three : rank_of_type (naming 0) 1 ≡ 2
@@ -109,7 +109,7 @@ abbrev pub named_later : GlobalLists
 named_later = record (naming 0) { expressions = ZeroValue 0 ∷ ZeroValue 1 ∷ [] }
 
 pub last_of_four : rank_of_expression named_later 1 ≡ 3
-unfolding size_initialiser size_override gate least
+unfolding size_initialiser size_override first_waiting least
 last_of_four = refl
 
 -- a constant's type is nothing that an expression needs: the array is the type of a constant that its size depends on
@@ -122,7 +122,7 @@ typed_constant = record {
 }
 
 pub second_before_the_array : rank_of_expression typed_constant 1 ≡ 2
-unfolding size_initialiser size_override gate least
+unfolding size_initialiser size_override first_waiting least
 second_before_the_array = refl
 
 pub array_after_both : rank_of_type typed_constant 1 ≡ 3
@@ -180,14 +180,14 @@ module _ where
   go_back s t (calls_function i j f at c) = cc
   go_back s t (parent_filter i j n at p) = cc
 
-  gates_hold : SizesResolveFirst (global_lists three)
+  sizes_hold : SizesResolveFirst (global_lists three)
   unfolding size_initialiser size_override named_type
-  gates_hold zero n e u size before names = cc
-  gates_hold (suc zero) n zero u size before names =
+  sizes_hold zero n e u size before names = cc
+  sizes_hold (suc zero) n zero u size before names =
       let named = subst (λ x. named_type x ≡ Some u) (sym (same_Some (ZeroValue 0) names.0 names.1)) names.2 in
       let is : 0 ≡ u = same_Some 0 u named in omega (arith, is)
-  gates_hold (suc zero) n (suc e) u size before names = let past = names.1 in cc
-  gates_hold (suc (suc t)) n e u size before names = cc
+  sizes_hold (suc zero) n (suc e) u size before names = let past = names.1 in cc
+  sizes_hold (suc (suc t)) n e u size before names = cc
 
   exist : EverythingExists three
   unfolding parts size_override operands named_type named_item
@@ -207,4 +207,4 @@ module _ where
       }
 
   pub three_are_accepted : HandlesAccepted three
-  three_are_accepted = record { exist = exist; back = go_back; gates = gates_hold }
+  three_are_accepted = record { exist = exist; back = go_back; sizes = sizes_hold }

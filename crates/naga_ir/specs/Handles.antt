@@ -141,7 +141,7 @@ SizesResolveFirst g = (t n e u : ℕ) → size_initialiser g t ≡ Some n → e 
 pub record HandlesAccepted (m : Module) : Type 0 where
   pub exist : EverythingExists m
   pub back : ReferencesPrecede (OrderedInModule m)
-  pub gates : SizesResolveFirst (global_lists m)
+  pub sizes : SizesResolveFirst (global_lists m)
 
 -- what is referred to is not a local variable, and exists if it is a type, constant, override or global expression
 abbrev pub ExistsGlobally : GlobalLists → Reference → Type 0

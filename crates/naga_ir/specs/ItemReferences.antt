@@ -67,7 +67,8 @@ local_references f =
 abbrev pub body_references : Function → List Reference
 body_references f = block_references f.body ++ map to.DiagnosticFilterNode (option_to_list f.diagnostic_filter_leaf)
 
--- what a function refers to, by what its expressions refer to: its signature, its variables and names, its expressions, and its body
+-- what a function refers to, by what its expressions refer to: its signature, its variables and
+-- names, its expressions, and its body
 abbrev pub references_with : (Expression → List Reference) → Function → List Reference
 references_with of_expression f = signature_references f ++ (local_references f ++ (flat_map of_expression f.expressions ++ body_references f))
 

@@ -25,8 +25,8 @@ abbrev pub asks_for : GlobalLists → ℕ → ℕ → Bool
 asks_for g e t = nat_lt e (reach (size_initialiser g t))
 
 -- the first type whose size needs expression `e`, or the number of types
-unfoldable pub gate : GlobalLists → ℕ → ℕ
-gate g e = least (asks_for g e) (length g.types)
+unfoldable pub first_waiting : GlobalLists → ℕ → ℕ
+first_waiting g e = least (asks_for g e) (length g.types)
 
 -- a type comes after the types before it, and after all expressions that their sizes and its own need
 abbrev pub rank_of_type : GlobalLists → ℕ → ℕ
@@ -34,7 +34,7 @@ rank_of_type g t = t + top_before g (t + 1)
 
 -- an expression comes after the expressions before it, and after all types before the first whose size needs it
 abbrev pub rank_of_expression : GlobalLists → ℕ → ℕ
-rank_of_expression g e = e + gate g e
+rank_of_expression g e = e + first_waiting g e
 
 -- a type or global expression needs another one: it refers back to it, is sized by it, or names it as a type
 pub data DependsOn (g : GlobalLists) : Reference → Reference → Type 0 where

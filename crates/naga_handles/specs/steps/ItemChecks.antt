@@ -23,7 +23,8 @@ use Rattle.naga_handles.specs.declared.error.InvalidHandleError.TheVariants.{Bad
 use Rattle.naga_handles.specs.declared.error.ValidationFault.{ValidationFault}
 use Rattle.naga_handles.specs.declared.error.ValidationFault.TheVariants.{Invalid, MissingMember, OutOfMemory}
 
--- a check of a reference: the counts of items, the item that the reference has to precede if there is one, and the reference
+-- a check of a reference: the counts of items, the item that the reference has to precede if
+-- there is one, and the reference
 pub record Check : Type 0 where
   pub there : Counts
   pub subject : Option Reference
@@ -118,7 +119,8 @@ IsEntryPointResult m place result =
 abbrev pub HasMember : «Type» → ℕ → Type 0
 HasMember x index = (members : List StructMember) × (span : ℕ) × (x.inner ≡ Struct members span) × (index < length members)
 
--- the fault of a comment on a missing member: its type is dangling, or the type has no such member, or memory was refused for its name
+-- the fault of a comment on a missing member: its type is dangling, or the type has no such member, or
+-- memory was refused for its name
 abbrev pub NoMember : Module → ℕ × ℕ → ValidationFault → Type 0
 NoMember m place fault =
     ((length m.types ≤ place.0) × (fault ≡ Invalid (missing (to.Type_ place.0))))

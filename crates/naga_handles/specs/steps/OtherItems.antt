@@ -12,7 +12,8 @@ use Rattle.naga_handles.specs.Faults.{IsFault, NeedsMemory}
 use Rattle.naga_handles.specs.declared.error.ValidationFault.{ValidationFault}
 use Rattle.naga_handles.specs.declared.error.ValidationFault.TheVariants.{OutOfMemory}
 
--- what all items but types and global expressions refer to exists, and precedes them if it has to; all that comments document exists
+-- what all items but types and global expressions refer to exists, and precedes them if it has to;
+-- all that comments document exists
 pub record OtherItemsOk (m : Module) : Type 0 where
   pub constants : All (Exists (module_counts m)) (flat_map constant_references m.constants)
   pub overrides : All (Exists (module_counts m)) (flat_map override_references m.overrides)

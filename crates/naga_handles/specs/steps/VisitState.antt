@@ -3,7 +3,7 @@ use Rattle.std.specs.Prelude.{◌≡◌, ◌⊎◌, ℕ, ◌+◌, ◌<◌, ◌�
 use Rattle.naga_arena.specs.Numbers.{largest_u32}
 use Rattle.naga_ir.specs.Handles.{Exists, NamesType, initialiser_of, module_counts, size_initialiser}
 use Rattle.naga_ir.specs.ItemReferences.{GlobalLists, global_lists}
-use Rattle.naga_ir.specs.Ranks.{gate, rank_of_expression, rank_of_type, reach}
+use Rattle.naga_ir.specs.Ranks.{first_waiting, rank_of_expression, rank_of_type, reach}
 use Rattle.naga_ir.specs.References.{named_item, operands}
 use Rattle.naga_ir.specs.declared.expression.Expression.{Expression}
 use Rattle.naga_ir.specs.declared.expression.Expression.TheVariants as form
@@ -63,7 +63,8 @@ pub record IsGreatest (g : GlobalLists) (c : ℕ) (greatest : Option ℕ) : Type
   pub covers : (e u : ℕ) → e < c → NamesType g e u → u < reach greatest
   pub named : (u : ℕ) → greatest ≡ Some u → (e : ℕ) × (e < c) × NamesType g e u
 
--- entry e of the table is the greatest type that the expressions 0 to e name; there is one for each expression before c, as far as there is room
+-- entry e of the table is the greatest type that the expressions 0 to e name; there is one for each expression
+-- before c, as far as there is room
 pub record IsTable (g : GlobalLists) (entries : List (Option ℕ)) (c room : ℕ) : Type 0 where
   pub each : (e : ℕ) (entry : Option ℕ) → slice_get entries e ≡ Some entry → IsGreatest g (e + 1) entry
   pub long : length entries ≡ min c room
@@ -77,8 +78,8 @@ unfoldable pub ExpressionsOk : Module → ℕ → Type 0
 ExpressionsOk m c = (e : ℕ) (x : Expression) → e < c → slice_get m.global_expressions e ≡ Some x → ExpressionOk m e x
 
 -- the expressions that the size of t needs name only types before t
-unfoldable pub GateOk : Module → ℕ → Type 0
-GateOk m t = (n e u : ℕ) → size_initialiser (global_lists m) t ≡ Some n → e ≤ n → NamesType (global_lists m) e u → u < t
+unfoldable pub SizeResolvesFirst : Module → ℕ → Type 0
+SizeResolvesFirst m t = (n e u : ℕ) → size_initialiser (global_lists m) t ≡ Some n → e ≤ n → NamesType (global_lists m) e u → u < t
 
 -- the expressions were visited, and the types before t
 pub record Visited (m : Module) (t : ℕ) (w : Walker) : Type 0 where
@@ -88,7 +89,7 @@ pub record Visited (m : Module) (t : ℕ) (w : Walker) : Type 0 where
   pub names : Names (global_lists m) w
   pub room : 0 < length m.overrides → length m.global_expressions ≤ vec_capacity w.table
   pub types : (k : ℕ) (x : «Type») → k < t → slice_get m.types k ≡ Some x → TypeOk m k x.inner
-  pub gates : (k : ℕ) → k < t → GateOk m k
+  pub sizes : (k : ℕ) → k < t → SizeResolvesFirst m k
   pub few : w.reader.looks ≤ t + largest_u32
   pub looks : w.visited ≡ length m.global_expressions → w.reader.looks ≡ t + length m.global_expressions
 
@@ -99,9 +100,10 @@ pub record Placed (g : GlobalLists) (order : List Item) (t c : ℕ) : Type 0 whe
   pub expressions : (e : ℕ) → e < c → slice_get order (rank_of_expression g e) ≡ Some (item.Expression e)
   pub long : length order ≡ t + c
 
--- if the order was right as far as the expressions before `from`, and those up to `to` precede the next type, then it is right as far as those before `to`
+-- if the order was right as far as the expressions before `from`, and those up to `to` precede the next type, then it
+-- is right as far as those before `to`
 abbrev pub PlacesUpTo : List Item → List Item → ℕ → ℕ → Type 0
-PlacesUpTo old new from to = (g : GlobalLists) (t : ℕ) → Placed g old t from → ((e : ℕ) → from ≤ e → e < to → gate g e ≡ t) → Placed g new t to
+PlacesUpTo old new from to = (g : GlobalLists) (t : ℕ) → Placed g old t from → ((e : ℕ) → from ≤ e → e < to → first_waiting g e ≡ t) → Placed g new t to
 
 -- `fault` is that memory was refused, or a fault of a type or global expression
 abbrev pub IsNoOrder : Module → ValidationFault → Type 0

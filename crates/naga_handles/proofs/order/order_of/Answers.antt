@@ -5,7 +5,7 @@ use Rattle.naga_ir.specs.Ranks.{reach, top_before}
 use Rattle.naga_handles.specs.steps.VisitState.{Placed, Visited}
 use Rattle.naga_handles.specs.declared.order.Item.{Item}
 use Rattle.naga_handles.specs.declared.order.Item.TheVariants as item
-use Rattle.naga_handles.proofs.GateLemmas.{gate_end, top_next, top_zero, waits}
+use Rattle.naga_handles.proofs.WaitingLemmas.{waiting_end, top_next, top_zero, waits}
 use Rattle.naga_handles.proofs.GrowingOrder.{placed_all, placed_none, placed_type}
 use Rattle.naga_handles.proofs.order.order_of.Goals as goal
 
@@ -49,5 +49,5 @@ returns-clause-order c =
     let all : c.loop-index.index ≡ length m.types = omega (arith, c.loop-index-test.false, c.len-index-end.ensures.value, c.loop-index.auto.index-end) in
     let top : top_before g (length m.types) ≡ c.loop-index.placed = sym (ap (top_before g) all) ∙ so_far.top in
     let before = subst (λ (t : ℕ). Placed g c.loop-index.order.items t c.loop-index.placed) all so_far.placed in
-    let after = c.in_ok-push_expressions.ensures g (length m.types) before (λ e a b. gate_end g e (omega (arith, a, top))) in
+    let after = c.in_ok-push_expressions.ensures g (length m.types) before (λ e a b. waiting_end g e (omega (arith, a, top))) in
     placed_all g c.push_expressions.new.order.items (subst (Placed g c.push_expressions.new.order.items (length m.types)) c.len-2.ensures.value after)

@@ -4,7 +4,7 @@ use Rattle.std.proofs.lemmas.Bool.Decides.{nat_tests}
 use Rattle.std.proofs.lemmas.Bool.{cases_lt}
 use Rattle.naga_ir.specs.Handles.{size_initialiser}
 use Rattle.naga_ir.specs.ItemReferences.{GlobalLists}
-use Rattle.naga_ir.specs.Ranks.{asks_for, gate, least, reach, top_before}
+use Rattle.naga_ir.specs.Ranks.{asks_for, first_waiting, least, reach, top_before}
 
 least_within : (p : ℕ → Bool) (n : ℕ) → least p n ≤ n
 unfolding least
@@ -36,31 +36,31 @@ least_passes p (suc n) l = by_test (p 0) refl l (least_passes (λ k. p (suc k)) 
     by_test false e l rest = rest (omega arith)
 
 module _ (g : GlobalLists) where
-  pub gate_within : (e : ℕ) → gate g e ≤ length g.types
-  unfolding gate
-  gate_within e = least_within (asks_for g e) (length g.types)
+  pub waiting_within : (e : ℕ) → first_waiting g e ≤ length g.types
+  unfolding first_waiting
+  waiting_within e = least_within (asks_for g e) (length g.types)
 
-  pub gate_le : (e t : ℕ) → t < length g.types → e < reach (size_initialiser g t) → gate g e ≤ t
-  unfolding gate
-  gate_le e t l h = let p : asks_for g e t ≡ true = grind (arith, nat_tests) in least_le (asks_for g e) (length g.types) t l p
+  pub waiting_le : (e t : ℕ) → t < length g.types → e < reach (size_initialiser g t) → first_waiting g e ≤ t
+  unfolding first_waiting
+  waiting_le e t l h = let p : asks_for g e t ≡ true = grind (arith, nat_tests) in least_le (asks_for g e) (length g.types) t l p
 
-  pub gate_asks : (e : ℕ) → gate g e < length g.types → e < reach (size_initialiser g (gate g e))
-  unfolding gate
-  gate_asks e l = let p : asks_for g e (least (asks_for g e) (length g.types)) ≡ true = least_passes (asks_for g e) (length g.types) l in grind (arith, nat_tests)
+  pub waiting_asks : (e : ℕ) → first_waiting g e < length g.types → e < reach (size_initialiser g (first_waiting g e))
+  unfolding first_waiting
+  waiting_asks e l = let p : asks_for g e (least (asks_for g e) (length g.types)) ≡ true = least_passes (asks_for g e) (length g.types) l in grind (arith, nat_tests)
 
-  pub gate_before : (e t : ℕ) → t < gate g e → reach (size_initialiser g t) ≤ e
-  gate_before e t l = by_place (cases_lt e (reach (size_initialiser g t)))
+  pub waiting_before : (e t : ℕ) → t < first_waiting g e → reach (size_initialiser g t) ≤ e
+  waiting_before e t l = by_place (cases_lt e (reach (size_initialiser g t)))
     where
       by_place : (e < reach (size_initialiser g t)) ⊎ (reach (size_initialiser g t) ≤ e) → reach (size_initialiser g t) ≤ e
-      by_place (inl h) = let w = gate_within e in let k = gate_le e t (omega arith) h in absurd (omega arith)
+      by_place (inl h) = let w = waiting_within e in let k = waiting_le e t (omega arith) h in absurd (omega arith)
       by_place (inr h) = h
 
-  pub gate_grows : (o e : ℕ) → o ≤ e → gate g o ≤ gate g e
-  gate_grows o e l = by_place (cases_lt (gate g e) (length g.types))
+  pub waiting_grows : (o e : ℕ) → o ≤ e → first_waiting g o ≤ first_waiting g e
+  waiting_grows o e l = by_place (cases_lt (first_waiting g e) (length g.types))
     where
-      by_place : (gate g e < length g.types) ⊎ (length g.types ≤ gate g e) → gate g o ≤ gate g e
-      by_place (inl h) = let a = gate_asks e h in gate_le o (gate g e) h (omega arith)
-      by_place (inr h) = let w = gate_within o in omega arith
+      by_place : (first_waiting g e < length g.types) ⊎ (length g.types ≤ first_waiting g e) → first_waiting g o ≤ first_waiting g e
+      by_place (inl h) = let a = waiting_asks e h in waiting_le o (first_waiting g e) h (omega arith)
+      by_place (inr h) = let w = waiting_within o in omega arith
 
   pub top_zero : top_before g 0 ≡ 0
   unfolding top_before
@@ -89,28 +89,28 @@ module _ (g : GlobalLists) where
   top_le (suc t) e h = let a = top_le t e (λ u l. h u (omega arith)) in let b = h t (omega arith) in omega arith
 
   -- an expression past the types before t and within the size of t waits for t
-  gate_at : (e t : ℕ) → t < length g.types → top_before g t ≤ e → e < reach (size_initialiser g t) → gate g e ≡ t
-  gate_at e t l low high = by_place (gate_le e t l high) (cases_lt (gate g e) t)
+  waiting_at : (e t : ℕ) → t < length g.types → top_before g t ≤ e → e < reach (size_initialiser g t) → first_waiting g e ≡ t
+  waiting_at e t l low high = by_place (waiting_le e t l high) (cases_lt (first_waiting g e) t)
     where
-      by_place : gate g e ≤ t → (gate g e < t) ⊎ (t ≤ gate g e) → gate g e ≡ t
+      by_place : first_waiting g e ≤ t → (first_waiting g e < t) ⊎ (t ≤ first_waiting g e) → first_waiting g e ≡ t
       by_place le (inl b) =
-          let a = gate_asks e (omega arith) in
-          let h = top_has (gate g e) in
-          let k = top_grows (gate g e + 1) t (omega arith) in
+          let a = waiting_asks e (omega arith) in
+          let h = top_has (first_waiting g e) in
+          let k = top_grows (first_waiting g e + 1) t (omega arith) in
           absurd (omega arith)
       by_place le (inr b) = omega arith
 
   -- an expression past all sizes waits for all types
-  pub gate_end : (e : ℕ) → top_before g (length g.types) ≤ e → gate g e ≡ length g.types
-  gate_end e low = by_place (gate_within e) (cases_lt (gate g e) (length g.types))
+  pub waiting_end : (e : ℕ) → top_before g (length g.types) ≤ e → first_waiting g e ≡ length g.types
+  waiting_end e low = by_place (waiting_within e) (cases_lt (first_waiting g e) (length g.types))
     where
-      by_place : gate g e ≤ length g.types → (gate g e < length g.types) ⊎ (length g.types ≤ gate g e) → gate g e ≡ length g.types
+      by_place : first_waiting g e ≤ length g.types → (first_waiting g e < length g.types) ⊎ (length g.types ≤ first_waiting g e) → first_waiting g e ≡ length g.types
       by_place le (inl b) =
-          let a = gate_asks e b in
-          let h = top_has (gate g e) in
-          let k = top_grows (gate g e + 1) (length g.types) (omega arith) in
+          let a = waiting_asks e b in
+          let h = top_has (first_waiting g e) in
+          let k = top_grows (first_waiting g e + 1) (length g.types) (omega arith) in
           absurd (omega arith)
       by_place le (inr b) = omega arith
 
-  pub waits : (e t : ℕ) → t < length g.types → top_before g t ≤ e → e < top_before g (t + 1) → gate g e ≡ t
-  waits e t l low high = let n = top_next t in gate_at e t l low (omega arith)
+  pub waits : (e t : ℕ) → t < length g.types → top_before g t ≤ e → e < top_before g (t + 1) → first_waiting g e ≡ t
+  waits e t l low high = let n = top_next t in waiting_at e t l low (omega arith)
