@@ -62,7 +62,8 @@ constant_index_error base index length (Err Negative) = Some (refusal.NegativeIn
 constant_index_error base index length (Err InvalidType) = Some (refusal.InvalidIndexType index)
 constant_index_error base index length (Err NonConst) = None
 
--- the conditions of an access to a base of this length: the base has parts, the index is an integer, and a constant index is within the base
+-- the conditions of an access to a base of this length: the base has parts, the index is an integer, and a
+-- constant index is within the base
 abbrev pub access_checks : ExpressionSurroundings → ℕ → ℕ → Result IndexableLength IndexableLengthError → List (Option ExpressionError)
 access_checks s base index length =
     require (has_parts (form_at s base)) (refusal.InvalidBaseType base) ∷

@@ -23,7 +23,8 @@ use Rattle.naga_typing.specs.Resolutions.{operand}
 use Rattle.naga_typing.specs.declared.expression_kind.ExpressionKind.{ExpressionKind}
 use Rattle.naga_typing.specs.declared.typifier.TypeResolution.{TypeResolution}
 
--- what the validation of a global expression depends on, besides the expression: the capabilities, whether overrides must have their values, the types of the module, and the kinds and the types of global expressions
+-- what the validation of a global expression depends on, besides the expression: the capabilities, whether overrides
+-- must have their values, the types of the module, and the kinds and the types of global expressions
 pub record ConstSurroundings : Type 0 where
   pub capabilities : ℕ
   pub resolved : Boolean
@@ -90,7 +91,8 @@ composition_error s ty components = refused_inside refusal.Compose (compose_rule
 abbrev pub splat_error : ConstSurroundings → ℕ → Option ConstExpressionError
 splat_error s value = require (is_scalar (operand s.types s.resolutions value)) (refusal.InvalidSplatType value)
 
--- the error, unless expression `e`, whose value is still to be computed, depends on an override, and overrides need not have their values yet
+-- the error, unless expression `e`, whose value is still to be computed, depends on an override, and overrides
+-- need not have their values yet
 abbrev pub evaluation_error : ConstSurroundings → ℕ → Option ConstExpressionError
 evaluation_error s e = when (s.resolved || is_const (slice_get s.kinds e)) (Some refusal.NonFullyEvaluatedConst)
 

@@ -20,7 +20,8 @@ use Rattle.naga_operator_exprs.specs.Cooperative.{cooperative_multiply_add_rule}
 use Rattle.naga_operator_exprs.specs.Operators.{as_rule, derivative_rule, relational_rule, select_rule, unary_rule}
 use Rattle.naga_exprs.specs.Values.{argument_rule, call_stages, composition_rule, literal_value_rule, splat_rule, workgroup_load_rule, zero_value_rule}
 
--- `rule` is the rule of expression `x`, by what typing `t` says of mathematical functions: the stages that may use `x`, or the first error
+-- `rule` is the rule of expression `x`, by what typing `t` says of mathematical functions: the stages that
+-- may use `x`, or the first error
 abbrev pub IsRule : MathTyping → ExpressionSurroundings → Expression → Result ShaderStages ExpressionError → Type 0
 IsRule t s (form.Literal value) rule = rule ≡ literal_value_rule s value
 IsRule t s (form.Constant c) rule = rule ≡ Ok every_stage
@@ -64,7 +65,8 @@ IsRule t s (form.CooperativeMultiplyAdd a b c) rule = rule ≡ cooperative_multi
 abbrev pub IsExpressionResult : MathTyping → ExpressionSurroundings → Expression → Result ShaderStages ExpressionError → Type 0
 IsExpressionResult t s x result = (rule : Result ShaderStages ExpressionError) × IsRule t s x rule × IsRuleResult rule result
 
--- whether an expression is of a variant that functions of shaders mostly consist of; the rules of these let every stage use it, or refuse it
+-- whether an expression is of a variant that functions of shaders mostly consist of; the rules of these let
+-- every stage use it, or refuse it
 abbrev pub is_frequent : Expression → Bool
 is_frequent (form.Literal value) = true
 is_frequent (form.Constant c) = true

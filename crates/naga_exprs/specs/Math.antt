@@ -15,7 +15,8 @@ use Rattle.naga_info.specs.declared.expression_error.ExpressionError.TheVariants
 use Rattle.naga_types.specs.Checks.{first, first_error_or, when, require}
 use Rattle.naga_typing.specs.Math.{arguments, has_no_gap}
 
--- what a typing says of mathematical functions: whether one takes arguments that begin with some types; and if they do, how many arguments it takes at least
+-- what a typing says of mathematical functions: whether one takes arguments that begin with some types; and if they do,
+-- how many arguments it takes at least
 pub record MathTyping : Type 0 where
   pub accepts : MathFunction → List TypeInner → Boolean
   pub least_arguments : MathFunction → List TypeInner → ℕ

@@ -9,7 +9,8 @@ use Rattle.naga_info.specs.declared.module_info.FunctionInfo.{FunctionInfo}
 abbrev pub AreUsableByMore : List FunctionInfo → List FunctionInfo → Type 0
 AreUsableByMore less more = (f : ℕ) → IsTrue (has (stages_in (slice_get more f)).0 (stages_in (slice_get less f)).0)
 
--- an expression is validated as by `less`, but with no fewer capabilities, and with no fewer stages that may use subgroup operations and functions
+-- an expression is validated as by `less`, but with no fewer capabilities, and with no fewer stages that may use
+-- subgroup operations and functions
 pub record AllowsMore (less more : ExpressionSurroundings) : Type 0 where
   pub capabilities : IsTrue (has more.capabilities less.capabilities)
   pub subgroup_stages : IsTrue (has more.subgroup_stages.0 less.subgroup_stages.0)

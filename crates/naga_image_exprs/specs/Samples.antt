@@ -151,7 +151,8 @@ clamp_error text image sample = require (not sample.clamp_to_edge || can_clamp i
 abbrev pub external_error : ImageClass → Boolean → Option ExpressionError
 external_error class clamp_to_edge = require (not (is_external class) || clamp_to_edge) (refusal.InvalidImageClass class)
 
--- values of type `inner` number the levels of an image of a class: integers for depths, and floating-point numbers for all others
+-- values of type `inner` number the levels of an image of a class: integers for depths, and
+-- floating-point numbers for all others
 abbrev pub numbers_levels : ImageClass → TypeInner → Boolean
 numbers_levels (Depth multi) inner = is_integer_scalar inner
 numbers_levels (Sampled kind multi) inner = is_of_kind 1 Float inner

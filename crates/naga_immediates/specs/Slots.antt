@@ -47,7 +47,8 @@ SharesByte first size k = (byte : ℕ) × (first ≤ byte) × (byte < first + si
 abbrev pub IsSetOf : (ℕ → Type 0) → ImmediateSlots → Type 0
 IsSetOf P slots = (k : ℕ) → HasSlot slots k ↔ ((k < slot_count) × P k)
 
--- a part of a value that is not a struct, reached only through members of structs: its `TypeInner` and its first byte, if the value begins at byte `at`
+-- a part of a value that is not a struct, reached only through members of structs: its `TypeInner` and its first byte,
+-- if the value begins at byte `at`
 pub data HasPart (g : GlobalLists) : TypeInner → ℕ → TypeInner → ℕ → Type 0 where
   itself : (inner : TypeInner) (at : ℕ) → IsNotStruct inner → HasPart g inner at inner at
   in_member : (members : List StructMember) (span at : ℕ) (m : StructMember) (inner part : TypeInner) (first : ℕ) → Contains members m → inner_at g m.ty ≡ Some inner → HasPart g inner (at + m.offset) part first → HasPart g (Struct members span) at part first
@@ -79,7 +80,8 @@ AccessesNone xs whole pointer = (m : StructMember) → ¬ (AccessesMember xs who
 abbrev pub BaseExists : List Expression → ℕ → Type 0
 BaseExists xs pointer = (base index : ℕ) → slice_get xs pointer ≡ Some (AccessIndex base index) → base < length xs
 
--- what `pointer` into a variable of type `whole` reaches, as far as slots distinguish it: a value of a type, and its first byte
+-- what `pointer` into a variable of type `whole` reaches, as far as slots distinguish it: a
+-- value of a type, and its first byte
 pub data Touches (g : GlobalLists) (xs : List Expression) (whole : TypeInner) (pointer : ℕ) : TypeInner → ℕ → Type 0 where
   member : (m : StructMember) (inner : TypeInner) → AccessesMember xs whole pointer m → inner_at g m.ty ≡ Some inner → Touches g xs whole pointer inner m.offset
   all : AccessesNone xs whole pointer → Touches g xs whole pointer whole 0

@@ -28,7 +28,8 @@ abbrev pub type_of_local : Option LocalVariable → ResolveResult
 type_of_local None = Err NotResolvable
 type_of_local (Some v) = Ok (Value (Pointer v.ty space.Function))
 
--- the type of an expression of a function, by the types of the expressions before it: the type of an argument, of a variable, or the one that the typing resolves
+-- the type of an expression of a function, by the types of the expressions before it: the type of an argument, of a
+-- variable, or the one that the typing resolves
 unfoldable pub function_resolves : Resolves → Module → Function → Expression → List TypeResolution → ResolveResult
 function_resolves resolves m f (form.FunctionArgument index) earlier = type_of_argument (slice_get f.arguments index)
 function_resolves resolves m f (form.LocalVariable v) earlier = type_of_local (slice_get f.local_variables v)

@@ -4,7 +4,8 @@ use Rattle.naga_flags.specs.declared.flags.TypeFlags.{TypeFlags}
 use Rattle.naga_info.specs.declared.module_info.FunctionInfo.{FunctionInfo}
 use Rattle.naga_typing.specs.declared.typifier.TypeResolution.{TypeResolution}
 
--- what each type may be used for, what is known of each function and of each entry point, and the type of each global expression
+-- what each type may be used for, what is known of each function and of each entry point, and the
+-- type of each global expression
 pub record ModuleInfoLists : Type 0 where
   pub type_flags : List TypeFlags
   pub functions : List FunctionInfo

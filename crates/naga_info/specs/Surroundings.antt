@@ -17,7 +17,9 @@ use Rattle.naga_typing.specs.Resolutions.{ResolutionExists, operand}
 use Rattle.naga_typing.specs.declared.expression_kind.ExpressionKind.{ExpressionKind}
 use Rattle.naga_typing.specs.declared.typifier.TypeResolution.{TypeResolution}
 
--- what the validation of an expression of a function depends on: the capabilities, whether overrides must have their values, the stages that may use subgroup operations, the module, the function, the types of its expressions, what is known of the module, and the kinds of the function's expressions
+-- what the validation of an expression of a function depends on: the capabilities, whether overrides must have their
+-- values, the stages that may use subgroup operations, the module, the function, the types of its expressions, what is
+-- known of the module, and the kinds of the function's expressions
 pub record ExpressionSurroundings : Type 0 where
   pub capabilities : ℕ
   pub resolved : Boolean
@@ -59,7 +61,8 @@ bits_in None = 0
 abbrev pub flags_at : ExpressionSurroundings → ℕ → ℕ
 flags_at s t = bits_in (slice_get s.infos.type_flags t)
 
--- the handles of the module are right, and so are the handles of the function's arguments and expressions and of their types; and it is known what each type may be used for
+-- the handles of the module are right, and so are the handles of the function's arguments and expressions and of their
+-- types; and it is known what each type may be used for
 pub record AreSound (s : ExpressionSurroundings) : Type 0 where
   pub handles : HandlesAccepted s.«module»
   pub in_function : ExpressionReferencesOk s.«module» s.function
@@ -79,7 +82,8 @@ abbrev pub kind_operands : Expression → List ℕ
 kind_operands (form.ImageSample image sampler gather coordinate array_index offset level depth_ref clamp_to_edge) = option_to_list offset
 kind_operands x = []
 
--- expression `x` can be validated at place `root`: all that it refers to exists, its operands precede it, their types are known, and so are the kinds that its rule needs
+-- expression `x` can be validated at place `root`: all that it refers to exists, its operands precede it, their types
+-- are known, and so are the kinds that its rule needs
 pub record IsReady (s : ExpressionSurroundings) (root : ℕ) (x : Expression) : Type 0 where
   pub sound : AreSound s
   pub references : All (Exists (function_counts s.«module» s.function)) (expression_references x)

@@ -56,7 +56,8 @@ module _ (g : GlobalLists) (elements_of : Elements) where
   leaf_in_part t i path x part at is =
       leaf_of_part t i path x at ∙ ap (option_and_then (λ part. option_map (moved part.first) (leaf_at g elements_of part.ty path))) is
 
-  -- from a type the first indexes of a path lead to a part that begins at a byte: the leaf is the leaf of the part at the rest of the path
+  -- from a type the first indexes of a path lead to a part that begins at a byte: the leaf is the leaf of
+  -- the part at the rest of the path
   pub record Following (whole ty : ℕ) (path : List ℕ) (first : ℕ) (rest : List ℕ) : Type 0 where
     pub exists : ty < length g.types
     pub leaf : leaf_at g elements_of whole path ≡ option_map (moved first) (leaf_at g elements_of ty rest)

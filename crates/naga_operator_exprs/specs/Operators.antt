@@ -47,7 +47,8 @@ chooses_size None size = true
 chooses_size (Some n) (Some m) = of_size.ghosts.eq n m
 chooses_size (Some n) None = false
 
--- a condition chooses between values, scalars or vectors: it is a bool, or a vector of as many bools as these have components
+-- a condition chooses between values, scalars or vectors: it is a bool, or a vector of as many
+-- bools as these have components
 abbrev pub chooses : Option (Option VectorSize × ScalarType) → Option (Option VectorSize × ScalarType) → Boolean
 chooses (Some condition) (Some value) = is_bool condition.1.kind && chooses_size condition.0 value.0
 chooses (Some condition) None = false
@@ -73,7 +74,8 @@ abbrev pub is_vector_of_bools : Option (Option VectorSize × ScalarType) → Boo
 is_vector_of_bools (Some found) = is_some found.0 && is_bool found.1.kind
 is_vector_of_bools None = false
 
--- the error of an argument, unless it is a vector of bools for `All` and `Any`, and a floating-point number or a vector of such for `IsNan` and `IsInf`
+-- the error of an argument, unless it is a vector of bools for `All` and `Any`, and a floating-point number or a vector
+-- of such for `IsNan` and `IsInf`
 abbrev pub relational_argument_error : RelationalFunction → ℕ → TypeInner → Option ExpressionError
 relational_argument_error All e inner = require (is_vector_of_bools (vector_size_and_scalar inner)) (refusal.InvalidBooleanVector e)
 relational_argument_error Any e inner = require (is_vector_of_bools (vector_size_and_scalar inner)) (refusal.InvalidBooleanVector e)

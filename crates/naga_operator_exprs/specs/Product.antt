@@ -11,7 +11,8 @@ use Rattle.naga_types.specs.Composing.{is_vector_of}
 use Rattle.naga_types.specs.Checks.{when}
 use Rattle.naga_types.specs.TypeRule.{is_float}
 
--- the columns of a left factor: the columns of a matrix, and the components of a vector of floating-point numbers, which is one row
+-- the columns of a left factor: the columns of a matrix, and the components of a vector of
+-- floating-point numbers, which is one row
 abbrev pub columns_of_left : TypeInner → Option ℕ
 columns_of_left (Matrix columns rows scalar) = Some (components columns)
 columns_of_left (Vector size scalar) = when (is_float scalar.kind) (Some (components size))
@@ -28,7 +29,8 @@ columns_of_left (AccelerationStructure vertex_return) = None
 columns_of_left (RayQuery vertex_return) = None
 columns_of_left (BindingArray base size) = None
 
--- the rows of a right factor: the rows of a matrix, and the components of a vector of floating-point numbers, which is one column
+-- the rows of a right factor: the rows of a matrix, and the components of a vector of
+-- floating-point numbers, which is one column
 abbrev pub rows_of_right : TypeInner → Option ℕ
 rows_of_right (Matrix columns rows scalar) = Some (components rows)
 rows_of_right (Vector size scalar) = when (is_float scalar.kind) (Some (components size))

@@ -40,7 +40,8 @@ pub record IsAcceptedModule (m : Module) (infos : List TypeInfo) (lists : Module
   pub functions : lists.functions ≡ []
   pub entry_points : lists.entry_points ≡ []
 
--- a validator in the state `state`, whose typing resolves so, accepts the module `m` and returns what is known of it; `resolved` says whether overrides have to have their values
+-- a validator in the state `state`, whose typing resolves so, accepts the module `m` and returns what is known of it;
+-- `resolved` says whether overrides have to have their values
 abbrev pub IsAcceptedBy : {T : Type 0} → Resolves → State T → Boolean → Module → ModuleInfoWithRoom → Type 0
 IsAcceptedBy resolves state resolved m info = Accepts resolves m (settings_of state resolved) state.infos info.lists
 

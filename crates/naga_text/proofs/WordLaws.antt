@@ -147,7 +147,8 @@ array_size_again w (Constant count) h = count_again w count h
 array_size_again w (Pending size) h = ap array_size_of h.1 ∙ ap (λ n. n >>= (λ size. Some (Pending size))) h.2
 array_size_again w Dynamic h = ap array_size_of h
 
--- a value is read of a word that writes it or of a minus if there is none, and of each such word, if no value is read of a minus
+-- a value is read of a word that writes it or of a minus if there is none, and of each such word,
+-- if no value is read of a minus
 module _ {A : Type 0} (reader : List ℕ → Option A) where
   abbrev Writes : A → List ℕ → Type 0
   Writes a w = reader w ≡ Some a

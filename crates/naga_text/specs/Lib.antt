@@ -1,5 +1,6 @@
 -- To read first:
--- Words.lines_of, words_of, pieces_of, number_up_to, integer_up_to: how bytes part into lines, words and pieces, and the numbers that words write
+-- Words.lines_of, words_of, pieces_of, number_up_to, integer_up_to: how bytes part into lines, words and pieces,
+-- and the numbers that words write
 -- LineWords.words_left, lines_after: the words of a line that a reader still has to read, and the lines after it
 -- Tables.chosen, kinds, spaces, classes: the words that stand for values
 -- Forms.type_form, expression_form, form, IsForm: how each type, each expression and each line is written

@@ -142,7 +142,8 @@ contents_of lines = record {
   resolved = unwrap_or (first_in resolved_in lines) false;
 }
 
--- lines can make one text: each setting once at most, each type once, and as many items of a kind as an arena has room for
+-- lines can make one text: each setting once at most, each type once, and as many items of
+-- a kind as an arena has room for
 pub record AreConsistent (lines : List Line) : Type 0 where
   pub flags : length (filter_map flags_in lines) ≤ 1
   pub capabilities : length (filter_map capabilities_in lines) ≤ 1

@@ -17,7 +17,8 @@ use Rattle.naga_types.specs.declared.error.VaryingError.TheVariants.{BindingColl
 use Rattle.naga_types.specs.declared.structs.Sources.{Sources}
 use Rattle.naga_types.proofs.CheckLemmas.{alone}
 
--- the conditions of a source of blending are the same by the members before and by what is noted of them, since only the sources 0 and 1 are noted
+-- the conditions of a source of blending are the same by the members before and by what is noted of them, since
+-- only the sources 0 and 1 are noted
 pub same_conditions : (capabilities : ℕ) (members : List StructMember) (source : Option (ℕ × ℕ)) → first (source_checks capabilities (is_noted (sources_of members)) source) ≡ first (source_checks capabilities (has_source members) source)
 same_conditions capabilities members None = refl
 same_conditions capabilities members (Some (location, zero)) = refl

@@ -29,7 +29,8 @@ use Rattle.naga_typing.specs.Leaves.{IsLeafAlignment, inner_at, element, itself,
 use Rattle.naga_typing.specs.declared.layouter.TypeLayout.{TypeLayout}
 
 module _ (g : GlobalLists) (capabilities : Capabilities) (resolved : Bool) (layouts : List TypeLayout) where
-  -- the storage layout of a type is there exactly if all inside is aligned by leaves, and then at the layouter's alignment
+  -- the storage layout of a type is there exactly if all inside is aligned by leaves, and
+  -- then at the layouter's alignment
   abbrev pub StorageIsExactly : ℕ → Layout → Type 0
   StorageIsExactly t = IsExactly g (IsStorageAligned g) t (alignment_at layouts t)
 
@@ -138,7 +139,8 @@ module _ (w : CheckedTypes) where
   pub storage-exactly : (t : ℕ) → t < length w.infos → IsForHosts (info_of w t) → StorageIsExactly w.lists w.capabilities w.resolved w.layouts t (in_storage (info_of w t))
   storage-exactly t within for_hosts = below (suc t) t (omega arith) within for_hosts
 
-  -- data that hosts may share has a storage layout exactly if all types inside it are aligned by leaves, and then at its leaf alignment
+  -- data that hosts may share has a storage layout exactly if all types inside it are aligned by leaves,
+  -- and then at its leaf alignment
   pub storage-by_leaves : (t : ℕ) → t < length w.infos → IsForHosts (info_of w t) → HasStorageByLeaves w.lists t (info_of w t)
   storage-by_leaves t within for_hosts =
       let exact = storage-exactly t within for_hosts in

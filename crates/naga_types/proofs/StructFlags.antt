@@ -49,7 +49,8 @@ and_true : (b : Bool) → (b && true) ≡ b
 and_true true = refl
 and_true false = refl
 
--- of the flags that structs may have, and that neither rule on single structs changes, a struct has those that all members have
+-- of the flags that structs may have, and that neither rule on single structs changes, a struct
+-- has those that all members have
 pub has-members_flags : (s : Surroundings) (members : List StructMember) (flags : ℕ) → bit_and IO_SHAREABLE flags ≡ 0 → has (all_type_flags - HOST_SHAREABLE) flags ≡ true → has unshared_flags flags ≡ true
     → has (struct_flags s members) flags ≡ list_all (λ (m : StructMember). has (flags_at s m.ty) flags) members
 has-members_flags s members flags apart kept may =

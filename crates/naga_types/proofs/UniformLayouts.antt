@@ -196,7 +196,8 @@ module _ (w : CheckedTypes) where
   pub uniform-exactly : (t : ℕ) → t < length w.infos → IsForHosts (info_of w t) → UniformIsExactly w.lists w.capabilities w.resolved w.layouts w.infos t (in_uniform (info_of w t))
   uniform-exactly t within for_hosts = below (suc t) t (omega arith) within for_hosts
 
-  -- data that hosts may share has a uniform layout exactly if all types inside it are laid out so, and then at its uniform alignment
+  -- data that hosts may share has a uniform layout exactly if all types inside it are laid out so,
+  -- and then at its uniform alignment
   pub uniform-by_leaves : (t : ℕ) → t < length w.infos → IsForHosts (info_of w t) → HasUniformByLeaves w.lists w.infos t (info_of w t)
   uniform-by_leaves t within for_hosts =
       let exact = uniform-exactly t within for_hosts in

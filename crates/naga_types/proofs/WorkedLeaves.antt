@@ -23,7 +23,8 @@ unnamed inner = record { name = None; inner = inner }
 abbrev member_at : ℕ → ℕ → StructMember
 member_at ty offset = record { name = None; ty = ty; binding = None; offset = offset }
 
--- a number, a vector of four, a struct of both, and as many of that as there is room for; then numbers at a stride of 0, two members at 0, a number behind a vector, and one in a vector
+-- a number, a vector of four, a struct of both, and as many of that as there is room for; then numbers at a stride of
+-- 0, two members at 0, a number behind a vector, and one in a vector
 abbrev lists : GlobalLists
 lists = record {
   types =

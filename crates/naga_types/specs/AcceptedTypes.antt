@@ -25,7 +25,8 @@ pub record IsLaidOut (m : Module) (layouts : List TypeLayout) : Type 0 where
   pub handles : HandlesAccepted m
   pub each_type : AreLayouts (global_lists m) layouts
 
--- what the rule of a type depends on: the capabilities, whether overrides have to have their values, the lists that types refer to, the layouts of all types, and the infos of the types before it
+-- what the rule of a type depends on: the capabilities, whether overrides have to have their values, the lists that
+-- types refer to, the layouts of all types, and the infos of the types before it
 abbrev pub surroundings_by : GlobalLists → Capabilities → Bool → List TypeLayout → List TypeInfo → Surroundings
 surroundings_by g capabilities resolved layouts infos = record { capabilities = capabilities.0; resolved = resolved; lists = g; layouts = layouts; infos = infos }
 

@@ -36,7 +36,8 @@ IsConstructibleByMembers g infos t info =
     (members : List StructMember) (span : ℕ) → inner_at g t ≡ Some (Struct members span)
     → IsConstructible info ↔ All (λ (m : StructMember). IsConstructibleAt infos m.ty) members
 
--- if the type of index `t` is an array, its `info` is constructible exactly if its size is constant and the type of its elements is constructible, by `infos`
+-- if the type of index `t` is an array, its `info` is constructible exactly if its size is constant and the type of its
+-- elements is constructible, by `infos`
 abbrev pub IsConstructibleByElements : GlobalLists → List TypeInfo → ℕ → TypeInfo → Type 0
 IsConstructibleByElements g infos t info =
     (base : ℕ) (size : ArraySize) (stride : ℕ) → inner_at g t ≡ Some (Array base size stride)

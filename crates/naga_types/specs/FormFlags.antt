@@ -51,7 +51,8 @@ opaque_flags = union_of (CREATION_RESOLVED ∷ ARGUMENT ∷ [])
 abbrev pub ray_query_flags : ℕ
 ray_query_flags = union_of (DATA ∷ SIZED ∷ CREATION_RESOLVED ∷ CONSTRUCTIBLE ∷ [])
 
--- what arrays may be used for at most: the size of one that an override sizes is not known when a module is created, and one of unknown length has no fixed size
+-- what arrays may be used for at most: the size of one that an override sizes is not known when a module is created,
+-- and one of unknown length has no fixed size
 abbrev pub array_flags : ArraySize → ℕ
 array_flags (Constant n) = union_of (DATA ∷ SIZED ∷ COPY ∷ HOST_SHAREABLE ∷ CREATION_RESOLVED ∷ ARGUMENT ∷ CONSTRUCTIBLE ∷ [])
 array_flags (Pending o) = union_of (DATA ∷ SIZED ∷ COPY ∷ HOST_SHAREABLE ∷ ARGUMENT ∷ [])
@@ -63,7 +64,8 @@ binding_array_flags (Constant n) = union_of (SIZED ∷ HOST_SHAREABLE ∷ CREATI
 binding_array_flags (Pending o) = union_of (SIZED ∷ HOST_SHAREABLE ∷ [])
 binding_array_flags Dynamic = union_of (HOST_SHAREABLE ∷ CREATION_RESOLVED ∷ [])
 
--- the flags that the elements of an array must have: they are data of a fixed size that is known when a module is created
+-- the flags that the elements of an array must have: they are data of a fixed size that is
+-- known when a module is created
 abbrev pub element_flags : ℕ
 element_flags = union_of (DATA ∷ SIZED ∷ CREATION_RESOLVED ∷ [])
 

@@ -54,7 +54,8 @@ source_type source members = first (map (λ (m : StructMember). type_of_source s
 abbrev pub has_source : List StructMember → ℕ → Boolean
 has_source members source = is_some (source_type source members)
 
--- the conditions of a source of blending, by the sources that are taken: a capability, source 0 or 1 at location 0, and one that is not taken
+-- the conditions of a source of blending, by the sources that are taken: a capability, source 0 or 1 at
+-- location 0, and one that is not taken
 abbrev pub source_checks : ℕ → (ℕ → Boolean) → Option (ℕ × ℕ) → List (Option TypeError)
 source_checks capabilities is_taken None = []
 source_checks capabilities is_taken (Some (location, source)) =
@@ -93,7 +94,8 @@ abbrev pub member_size_error : Surroundings → List StructMember → ℕ → St
 member_size_error s members i m =
     require (has (flags_at s m.ty) SIZED || is_array (form_at s m.ty) && i + 1 == length members) (InvalidDynamicArray (unwrap_or m.name []) m.ty)
 
--- the conditions of a member: it is data whose size no override decides, a source of blending that no member before it is, if it is one at all, in its place, and of a fixed size
+-- the conditions of a member: it is data whose size no override decides, a source of blending that no member before it
+-- is, if it is one at all, in its place, and of a fixed size
 abbrev pub member_checks : Surroundings → List StructMember → ℕ → ℕ × StructMember → List (Option TypeError)
 member_checks s members span at =
     require (has (flags_at s at.1.ty) member_flags) (InvalidData at.1.ty) ∷
@@ -114,7 +116,8 @@ member_errors s members span = map (member_error s members span) (enumerate_from
 abbrev pub other_location : List StructMember → Option ℕ
 other_location members = last (map (λ (m : StructMember). location_of m.binding) members)
 
--- the checks of the two sources, by their types: both are there or none, no member has another location, they have one type, and stages may share it
+-- the checks of the two sources, by their types: both are there or none, no member has another location, they have
+-- one type, and stages may share it
 abbrev pub pair_checks : Surroundings → List StructMember → Option ℕ → Option ℕ → List (Option VaryingError)
 pair_checks s members None None = []
 pair_checks s members (Some t) None = Some (IncompleteBlendSrcUsage 0) ∷ []
@@ -141,7 +144,8 @@ common_flags s members = fold bit_and unshared_flags (map (λ (m : StructMember)
 abbrev pub restarts_at_zero : Surroundings → List StructMember → ℕ × StructMember → Boolean
 restarts_at_zero s members at = at.1.offset == 0 && ltb 0 (end_in s (before members at.0))
 
--- what a struct may be used for: what all its members may, but hosts don't share one whose members go back, and stages share one of two sources of blending
+-- what a struct may be used for: what all its members may, but hosts don't share one whose members go back, and stages
+-- share one of two sources of blending
 abbrev pub struct_flags : Surroundings → List StructMember → ℕ
 struct_flags s members =
     let flags = common_flags s members in

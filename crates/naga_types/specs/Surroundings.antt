@@ -10,7 +10,8 @@ use Rattle.naga_typing.specs.declared.context.GlobalCtx.{GlobalCtx}
 use Rattle.naga_types.specs.declared.info.TypeContext.{TypeContext}
 use Rattle.naga_types.specs.declared.info.TypeInfo.{TypeInfo}
 
--- all that the rule of a type depends on, besides the type: the capabilities, whether overrides must have their values, the lists that types refer to, the layouts of all types, and the infos of the types before it
+-- all that the rule of a type depends on, besides the type: the capabilities, whether overrides must have their values,
+-- the lists that types refer to, the layouts of all types, and the infos of the types before it
 pub record Surroundings : Type 0 where
   pub capabilities : ℕ
   pub resolved : Bool

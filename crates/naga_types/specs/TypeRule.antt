@@ -108,7 +108,8 @@ abbrev pub array_layout : ℕ → ℕ → ℕ → Layout → Layout
 array_layout handle least stride (Err e) = Err e
 array_layout handle least stride (Ok base) = ok_unless (require (stride % max base least == 0) (handle, ArrayStride stride (max base least))) (max base least)
 
--- the conditions of an array: elements of a fixed size that is known when a module is created, a stride that is not below this size, which `any_stride` leaves out, and a count if overrides must have their values
+-- the conditions of an array: elements of a fixed size that is known when a module is created, a stride that is not
+-- below this size, which `any_stride` leaves out, and a count if overrides must have their values
 abbrev pub array_checks : Boolean → Surroundings → ℕ → ℕ → ArraySize → ℕ → List (Option TypeError)
 array_checks any_stride s handle base size stride =
     require (has (flags_at s base) element_flags) (InvalidArrayBaseType base) ∷

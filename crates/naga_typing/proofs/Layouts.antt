@@ -1,4 +1,5 @@
--- Laws of layouts: there is one list of them, each follows from the layouts of the parts of its type, and alignments are powers of two.
+-- Laws of layouts: there is one list of them, each follows from the layouts of the parts of its type,
+-- and alignments are powers of two.
 use Rattle.std.proofs.Common.{◌≡◌, ◌<◌, ◌≤◌, ◌++◌, ◌∷◌, ◌⊎◌, ⊎_elim, inl, inr, Bool, true, false, if◌then◌else◌, ℕ, zero, suc, max, List, [], All, Option, Some, None, Result, Err, IsOk, map, length, slice_get, take, refl, sym, subst, ap, ◌∙◌, arith}
 use Rattle.std.specs.Int.{is_power_of_two}
 use Rattle.std.specs.Option.{option_map}

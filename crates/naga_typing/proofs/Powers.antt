@@ -1,4 +1,5 @@
--- Laws of powers of two: twice and four times a number is one exactly if the number is, and of two the greater is a multiple of the less.
+-- Laws of powers of two: twice and four times a number is one exactly if the number is, and of two the
+-- greater is a multiple of the less.
 use Rattle.std.proofs.Common.{◌≡◌, ◌==◌, ℕ, true, ◌+◌, ◌-◌, ◌*◌, ◌/◌, ◌%◌, ◌^◌, ◌<◌, ◌≤◌, ⊎_elim, count_ones, refl, sym, ap, ◌∙◌, arith}
 use Rattle.std.proofs.Math.Nat.{mul-mod_right}
 use Rattle.std.proofs.lemmas.Bool.{cases_lt}

@@ -167,7 +167,8 @@ of_image (Some parts) rule = rule parts.0 parts.1
 abbrev pub four_of : ScalarKind → ResolveResult
 four_of kind = Ok (Value (Vector Quad (record { kind = kind; width = 4 })))
 
--- a texel of an image: one number of a depth, and else four components; of the format of a storage image only the number is known, and so no type
+-- a texel of an image: one number of a depth, and else four components; of the format of a storage image only the
+-- number is known, and so no type
 abbrev pub texel_of : ImageClass → ResolveResult
 texel_of (Sampled kind multi) = four_of kind
 texel_of (Depth multi) = Ok (Value (Scalar f32_scalar))
@@ -204,7 +205,8 @@ query_of NumLevels inner = Ok (Value (Scalar u32_scalar))
 query_of NumLayers inner = Ok (Value (Scalar u32_scalar))
 query_of NumSamples inner = Ok (Value (Scalar u32_scalar))
 
--- the type of the product of `x` and `y`, whose types are `left` and `right`: the type of a cooperative matrix that a scalar is multiplied by, and else the one that `PlainTyping` resolves
+-- the type of the product of `x` and `y`, whose types are `left` and `right`: the type of a cooperative matrix that a
+-- scalar is multiplied by, and else the one that `PlainTyping` resolves
 abbrev pub full_product_of : ResolveResult → ResolveResult → TypeInner → TypeInner → ResolveResult
 full_product_of left right (Scalar s) (CooperativeMatrix columns rows scalar role) = right
 full_product_of left right x y = product_of left right x y
@@ -224,7 +226,8 @@ abbrev pub full_cast_of : ScalarKind → Option ℕ → TypeInner → ResolveRes
 full_cast_of kind convert (Matrix columns rows scalar) = Ok (Value (Matrix columns rows (cast_scalar scalar.kind convert scalar)))
 full_cast_of kind convert inner = cast_of kind convert inner
 
--- the type of an expression of the module `m`, by the types `earlier` of those before it; products and conversions as `full_binary_of` and `full_cast_of` say
+-- the type of an expression of the module `m`, by the types `earlier` of those before it; products and conversions as
+-- `full_binary_of` and `full_cast_of` say
 unfoldable pub full_resolves : Module → Expression → List TypeResolution → ResolveResult
 full_resolves m (form.Literal value) earlier = plain_resolves m (form.Literal value) earlier
 full_resolves m (form.Constant c) earlier = plain_resolves m (form.Constant c) earlier

@@ -20,7 +20,8 @@ use Rattle.naga_typing.specs.declared.layouter.LayoutErrorInner.TheVariants.{Too
 abbrev pub max_type_size : ℕ
 max_type_size = 2 ^ 31 - 1
 
--- how many elements the size of an array counts: one if the array is runtime-sized, and none if an override that gives no count sizes it
+-- how many elements the size of an array counts: one if the array is runtime-sized, and none if an
+-- override that gives no count sizes it
 abbrev pub element_count : GlobalLists → ArraySize → ℕ
 element_count g (Constant n) = n.value
 element_count g (Pending o) = unwrap_or (override_count g o) 0
@@ -74,7 +75,8 @@ alignment_in (Some layout) = layout.alignment
 abbrev pub alignment_at : List TypeLayout → ℕ → ℕ
 alignment_at layouts t = alignment_in (slice_get layouts t)
 
--- the alignment of a value, by the layouts of other types: of a matrix the alignment of its columns, of an array of its base, of a struct the greatest of its members
+-- the alignment of a value, by the layouts of other types: of a matrix the alignment of its columns, of an array of its
+-- base, of a struct the greatest of its members
 abbrev pub alignment_of : List TypeLayout → TypeInner → ℕ
 alignment_of layouts (Scalar scalar) = scalar.width
 alignment_of layouts (Vector size scalar) = vector_alignment size * scalar.width

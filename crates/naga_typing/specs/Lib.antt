@@ -2,7 +2,8 @@
 -- Constants.index_of, override_count: the number that an expression gives, and the count that an override gives
 -- Layout.size_of, alignment_of: the size and the alignment of a type, in bytes
 -- Layout.layout_results, AreLayouts: which types have a layout, and what the layouts of a module are
--- Leaves.leaf_at, AreSeparate: where the leaves of a type are, and that they are aligned, within the type, and share no byte
+-- Leaves.leaf_at, AreSeparate: where the leaves of a type are, and that they are aligned,
+-- within the type, and share no byte
 -- Index.IsLength: how many elements can be indexed
 -- Kinds.kind_of, AreKinds: when the value of an expression is known
 -- Resolutions.AreSameTypes: which types are the same
@@ -13,7 +14,8 @@
 -- PlainTyping.plain_resolves: what `PlainTyping` resolves
 -- FullTyping.full_resolves: what `FullTyping` resolves
 -- Math.signature: what each mathematical function takes and returns, by `PlainTyping`
--- ErrorNames.resolve_error_name, layout_error_name, indexable_length_error_name, const_value_error_name: the name of each variant of an error
+-- ErrorNames.resolve_error_name, layout_error_name, indexable_length_error_name, const_value_error_name: the
+-- name of each variant of an error
 pub mod Constants
 pub mod Context
 pub mod ErrorNames

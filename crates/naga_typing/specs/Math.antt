@@ -16,7 +16,8 @@ use Rattle.naga_ir.specs.declared.types.TypeInner.TheVariants.{Scalar, Vector, M
 use Rattle.naga_ir.specs.declared.types.VectorSize.{VectorSize}
 use Rattle.naga_ir.specs.declared.types.VectorSize.TheVariants.{Bi, Tri, Quad}
 
--- what a mathematical function takes and returns: which types its first argument may have, which types each further one may have after such a first one, and which type the result has, by the first
+-- what a mathematical function takes and returns: which types its first argument may have, which types each further one
+-- may have after such a first one, and which type the result has, by the first
 pub record Signature : Type 0 where
   pub first : TypeInner → Boolean
   pub further : List (TypeInner → TypeInner → Boolean)
@@ -208,7 +209,8 @@ each_ok rules first further = list_all (λ pair. pair.0 first pair.1) (zip rules
 abbrev pub takes_each : List (TypeInner → TypeInner → Boolean) → TypeInner → List TypeInner → Boolean
 takes_each rules first further = leb (length further) (length rules) && each_ok rules first further
 
--- a function takes arguments of these types, which may be the first of several: the first is as it takes it, and so is each further one by the first
+-- a function takes arguments of these types, which may be the first of several: the first is as it takes it, and so
+-- is each further one by the first
 abbrev pub takes : Signature → List TypeInner → Boolean
 takes s [] = true
 takes s (first ∷ further) = s.first first && takes_each s.further first further

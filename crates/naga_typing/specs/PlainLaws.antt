@@ -39,7 +39,8 @@ use Rattle.naga_typing.specs.declared.typifier.ResolveError.TheVariants.{Incompa
 use Rattle.naga_typing.specs.declared.typifier.TypeResolution.{TypeResolution}
 use Rattle.naga_typing.specs.declared.typifier.TypeResolution.TheVariants.{Handle, Value}
 
--- a result keeps the laws: everything that a type refers to exists, the type is proper, and an error isn't out of memory
+-- a result keeps the laws: everything that a type refers to exists, the type is proper,
+-- and an error isn't out of memory
 abbrev pub IsLawfulResult : GlobalLists → ResolveResult → Type 0
 IsLawfulResult g (Ok r) = ResolutionExists g r × IsProperResolution r
 IsLawfulResult g (Err IncompatibleOperands) = ⊤

@@ -165,7 +165,8 @@ cast_of kind convert (AccelerationStructure vertex_return) = Err IncompatibleOpe
 cast_of kind convert (RayQuery vertex_return) = Err IncompatibleOperands
 cast_of kind convert (BindingArray base size) = Err IncompatibleOperands
 
--- the type of a product: a new one if a matrix meets a vector or a matrix, the right factor's if a scalar precedes a vector or a matrix, and else the left factor's
+-- the type of a product: a new one if a matrix meets a vector or a matrix, the right factor's if a scalar precedes a
+-- vector or a matrix, and else the left factor's
 abbrev pub product_of : ResolveResult → ResolveResult → TypeInner → TypeInner → ResolveResult
 product_of left right (Scalar s) (Vector size scalar) = right
 product_of left right (Scalar s) (Matrix columns rows scalar) = right

@@ -30,7 +30,8 @@ is_one_handle (Some t) (Some u) = t == u
 is_one_handle (Some t) None = false
 is_one_handle None _ = false
 
--- whether two types are the same: structs if they have the same handle, other types if they are equal as they are compared
+-- whether two types are the same: structs if they have the same handle, other types if they
+-- are equal as they are compared
 abbrev pub are_same_inners : List «Type» → Boolean → TypeInner → TypeInner → Boolean
 are_same_inners types one_handle x y =
     is_struct x && (is_struct y && one_handle) || not (is_struct x) && (not (is_struct y) && of_inner.ghosts.eq (canonical types x) (canonical types y))

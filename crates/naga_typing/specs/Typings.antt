@@ -24,7 +24,8 @@ use Rattle.naga_typing.specs.declared.typifier.TypeResolution.TheVariants as res
 abbrev pub counts_in_sight : Module → ℕ → ℕ → Counts
 counts_in_sight m expressions local_variables = record (module_counts m) { expressions = expressions; local_variables = local_variables }
 
--- an expression can be resolved: the handles of the module are right, everything that the expression refers to exists, each operand among the earlier expressions, and the types of these exist and are proper
+-- an expression can be resolved: the handles of the module are right, everything that the expression refers to exists,
+-- each operand among the earlier expressions, and the types of these exist and are proper
 pub record CanResolve (m : Module) (x : Expression) (earlier : List TypeResolution) : Type 0 where
   pub handles : HandlesAccepted m
   pub local_variables : ℕ
@@ -36,7 +37,8 @@ pub record CanResolve (m : Module) (x : Expression) (earlier : List TypeResoluti
 abbrev pub IsResolveResult : Result TypeResolution ResolveError → Result TypeResolution ResolveError → Type 0
 IsResolveResult rule result = UnlessOutOfMemory (λ e. e ≡ OutOfMemory) result (λ r. rule ≡ Ok r) (λ e. rule ≡ Err e)
 
--- the type that `rule` says was added to the types `old`, which are now `new`, or the rule says the error, out of memory aside
+-- the type that `rule` says was added to the types `old`, which are now `new`, or the rule says
+-- the error, out of memory aside
 abbrev pub IsPushResult : {A : Type 0} → Result TypeResolution ResolveError → List TypeResolution → List TypeResolution → Result A ResolveError → Type 0
 IsPushResult rule old new result = UnlessOutOfMemory (λ e. e ≡ OutOfMemory) result (λ _. (r : TypeResolution) × (rule ≡ Ok r) × (new ≡ old ++ r ∷ [])) (λ e. rule ≡ Err e)
 

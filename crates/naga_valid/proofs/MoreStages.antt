@@ -162,7 +162,8 @@ module _ {T : Type 0} (resolves : T → Resolves) (math : T → MathTyping) (les
   abbrev ByMore : Validation
   ByMore = function_surroundings (resolves more.typing) (math more.typing) more resolved m
 
-  -- a function that a validator accepts is accepted by one with more capabilities, if no fewer stages may use the functions that are known
+  -- a function that a validator accepts is accepted by one with more capabilities, if no fewer stages may
+  -- use the functions that are known
   pub accepts-function-more : (f : Function) (fewer known : ModuleInfoLists) → KnowsMoreStages fewer known → (info : FunctionInfo) → IsFunctionAccepted (By f fewer) info
       → (now : FunctionInfo) × IsFunctionAccepted (ByMore f known) now × IsUsableByMore info now
   accepts-function-more f fewer known knows info accepted =

@@ -33,7 +33,8 @@ IsInfoOf by m lists at info = (f : Function) × (function_of m at ≡ Some f) ×
 abbrev pub EachInOrder : {V : Type 0} → (List V → ℕ → V → Type 0) → List V → Type 0
 EachInOrder {V} P values = (k : ℕ) (v : V) → slice_get values k ≡ Some v → P (take k values) k v
 
--- each info in `lists` is the info of the function, or of the entry point, of its index, which is accepted by the infos before it: of the functions before a function, and of all functions and the entry points before an entry point
+-- each info in `lists` is the info of the function, or of the entry point, of its index, which is accepted by the infos
+-- before it: of the functions before a function, and of all functions and the entry points before an entry point
 pub record AreInfosInOrder (by : Validation) (m : Module) (lists : ModuleInfoLists) : Type 0 where
   pub functions : EachInOrder (λ before i info. IsInfoOf by m (record lists { functions = before; entry_points = [] }) (callable.Function i) info) lists.functions
   pub entry_points : EachInOrder (λ before i info. IsInfoOf by m (record lists { entry_points = before }) (callable.EntryPoint i) info) lists.entry_points
@@ -48,19 +49,22 @@ abbrev pub IsNext : Module → ModuleInfoLists → Callable → Type 0
 IsNext m lists (callable.Function i) = (i < length m.functions) × (length lists.functions ≡ i) × (lists.entry_points ≡ [])
 IsNext m lists (callable.EntryPoint i) = (i < length m.entry_points) × (length lists.functions ≡ length m.functions) × (length lists.entry_points ≡ i)
 
--- the first function or entry point that has no info in `lists` is refused, or memory was refused while it was validated
+-- the first function or entry point that has no info in `lists` is refused, or memory was
+-- refused while it was validated
 pub record IsNextRefused (by : Validation) (m : Module) (lists : ModuleInfoLists) (error : FunctionsError) : Type 0 where
   pub next : IsNext m lists error.at
   pub function : Function
   pub there : function_of m error.at ≡ Some function
   pub refused : (error.source ≡ OutOfMemory) ⊎ RefusesFunction (by function lists) error.source
 
--- a call that adds infos of functions of `m` to `old` leaves `new`, accepted as `by` says, and `result` is an error if `Complete` can't hold
+-- a call that adds infos of functions of `m` to `old` leaves `new`, accepted as `by` says, and `result` is an
+-- error if `Complete` can't hold
 pub record AddsInfos (by : Validation) (m : Module) (Complete : ModuleInfoLists → Type 0) (old new : ModuleInfoLists) (result : Result (Unit {0}) FunctionsError) : Type 0 where
   pub others : new ≡ record old { functions = new.functions; entry_points = new.entry_points }
   pub in_order : AreInfosInOrder by m new
   pub returned : MatchResult result (λ _. Complete new) (IsNextRefused by m new)
 
--- a call that adds infos to `old` leaves `new`, with an info of each function and each entry point of `m` unless `result` is an error
+-- a call that adds infos to `old` leaves `new`, with an info of each function and each entry point of
+-- `m` unless `result` is an error
 abbrev pub ValidatesFunctions : Validation → Module → ModuleInfoLists → ModuleInfoLists → Result (Unit {0}) FunctionsError → Type 0
 ValidatesFunctions by m old new result = AddsInfos by m (HaveInfos m) old new result

@@ -25,7 +25,9 @@ use Rattle.naga_valid.specs.State.{State}
 use Rattle.naga_valid.specs.declared.function.FunctionError.{FunctionError}
 use Rattle.naga_valid.specs.declared.function.FunctionError.TheVariants.{Expression as Expression_, OutOfMemory}
 
--- what the validation of the expressions of a function depends on: how their types follow, what mathematical functions take, the capabilities, whether overrides must have their values, the stages that may use subgroup operations, the module, the function, and what is known of the module
+-- what the validation of the expressions of a function depends on: how their types follow, what mathematical functions
+-- take, the capabilities, whether overrides must have their values, the stages that may use subgroup operations, the
+-- module, the function, and what is known of the module
 pub record FunctionSurroundings : Type 0 where
   pub resolves : Resolves
   pub math : MathTyping
@@ -138,7 +140,8 @@ pub record IsFunctionReady (m : Module) (f : Function) (count : ℕ) : Type 0 wh
   pub references : FunctionReferencesOk m f
   pub calls : CallsBefore f count
 
--- the functions of module `m` can be validated in order, each once the functions before it are known, and its entry points once all functions are
+-- the functions of module `m` can be validated in order, each once the functions before it are known, and its
+-- entry points once all functions are
 pub record AreFunctionsReadyInOrder (m : Module) : Type 0 where
   pub functions : (i : ℕ) (f : Function) → slice_get m.functions i ≡ Some f → IsFunctionReady m f i
   pub entry_points : (i : ℕ) (e : EntryPoint) → slice_get m.entry_points i ≡ Some e → IsFunctionReady m e.function (length m.functions)

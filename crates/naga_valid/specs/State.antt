@@ -14,7 +14,8 @@ pub record Facts : Type 0 where
   pub infos : List TypeInfo
   pub resolutions : List TypeResolution
 
--- what the validation of a module depends on: the parts that are validated, what may be used, and whether overrides have to have their values
+-- what the validation of a module depends on: the parts that are validated, what may be used, and whether
+-- overrides have to have their values
 pub record Settings : Type 0 where
   pub flags : ValidationFlags
   pub capabilities : Capabilities

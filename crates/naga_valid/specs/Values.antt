@@ -87,12 +87,14 @@ abbrev pub is_taken : List OverrideItem → Option ℕ → Boolean
 is_taken earlier (Some id) = list_any (has_number id) earlier
 is_taken earlier None = false
 
--- the error, unless the initialiser of an override has its type `t`, and is there if overrides have to have their values, as `resolved` says
+-- the error, unless the initialiser of an override has its type `t`, and is there if overrides have to have
+-- their values, as `resolved` says
 abbrev pub initialiser_error : Boolean → Module → ModuleInfoLists → ℕ → Option ℕ → Option OverrideError
 initialiser_error resolved m info t (Some e) = require (has_type m info t e) override_error.InvalidType
 initialiser_error resolved m info t None = require (not resolved) override_error.UninitializedOverride
 
--- an override has no number that is taken, a constructible type that is one of some scalars, and an initialiser that is right
+-- an override has no number that is taken, a constructible type that is one of some scalars,
+-- and an initialiser that is right
 abbrev pub override_rule : Boolean → Boolean → Module → ModuleInfoLists → OverrideItem → Result (Unit {0}) OverrideError
 override_rule is_duplicate resolved m info o =
     first_error_or

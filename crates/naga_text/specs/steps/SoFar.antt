@@ -54,7 +54,8 @@ abbrev pub IsAdded : ContentsSoFar → Line_ → ContentsSoFar → Bool → Type
 IsAdded old line new added = (said : List Line_) → AreConsistent said → old ≡ so_far said →
     MatchBool added (AreConsistent (said ++ line ∷ []) × (new ≡ so_far (said ++ line ∷ []))) ((after : List Line_) → ¬ (AreConsistent (said ++ line ∷ [] ++ after)))
 
--- after lines that say `old`, a line of these words is added as `IsAdded` says; `added` is false if the words have no form
+-- after lines that say `old`, a line of these words is added as `IsAdded` says; `added` is
+-- false if the words have no form
 abbrev pub AreAdded : ContentsSoFar → List (List ℕ) → ContentsSoFar → Bool → Type 0
 AreAdded old words new added = MatchOption (line_of words) (added ≡ false) (λ line. IsAdded old line new added)
 

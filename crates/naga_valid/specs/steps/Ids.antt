@@ -14,7 +14,8 @@ pub record IsNoted (old : List Bool) (id : ℕ) (new : List Bool) (is_new : Bool
   pub is_new_if : is_new ≡ not (has_id old id)
   pub has_both : (other : ℕ) → has_id new other ≡ (other == id || has_id old other)
 
--- the number `own` of an override, if it has one, was added to the set `old`, which gave `new`, and `is_duplicate` if `old` had it
+-- the number `own` of an override, if it has one, was added to the set `old`, which gave `new`, and
+-- `is_duplicate` if `old` had it
 abbrev pub IsChecked : List Bool → Option ℕ → List Bool → Bool → Type 0
 IsChecked old (Some id) new is_duplicate = IsNoted old id new (not is_duplicate)
 IsChecked old None new is_duplicate = (new ≡ old) × (is_duplicate ≡ false)

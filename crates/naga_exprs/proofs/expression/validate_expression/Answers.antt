@@ -103,7 +103,8 @@ module _ (t : MathTyping) (s : ExpressionSurroundings) (x : Expression) (result 
   of_form : (y : Expression) → x ≡ y → IsRule t s y result → IsRule t s x result
   of_form y is h = subst (λ x. IsRule t s x result) (sym is) h
 
-  -- every stage may use a constant, an override, a variable, the result of an atomic operation, and whether a ray goes on
+  -- every stage may use a constant, an override, a variable, the result of an atomic
+  -- operation, and whether a ray goes on
   every_stage_meant : ((c : ℕ) × (x ≡ form.Constant c)) ⊎ (((o : ℕ) × (x ≡ form.Override o)) ⊎ (((v : ℕ) × (x ≡ form.GlobalVariable v)) ⊎ (((v : ℕ) × (x ≡ form.LocalVariable v)) ⊎ (((ty : ℕ) × (comparison : Bool) × (x ≡ form.AtomicResult ty comparison)) ⊎ (x ≡ form.RayQueryProceedResult)))))
       → result ≡ Ok every_stage → IsRule t s x result
   every_stage_meant (inl (c, e)) h = of_form _ e h

@@ -5,7 +5,8 @@ use Rattle.naga_text.specs.Words.{handle_of}
 use Rattle.naga_text.proofs.EachLaws.{after}
 use Rattle.naga_text.proofs.expressions.components.Given as goal
 
--- the components so far, before the components of the words that are left, are the components of all words, and the lines after them are the same
+-- the components so far, before the components of the words that are left, are the components of all words, and
+-- the lines after them are the same
 abbrev pub invariant-loop-word : goal.invariant-loop-word
 invariant-loop-word l = record {
   values : after handle_of l.components (words_left l.words) ≡ read_each handle_of (words_left l.initial.words);

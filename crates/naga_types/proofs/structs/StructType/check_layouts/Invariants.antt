@@ -8,7 +8,8 @@ use Rattle.naga_types.specs.steps.Structs.{alignment_in, layout_in, surroundings
 use Rattle.naga_typing.specs.Layout.{greatest}
 use Rattle.naga_types.proofs.structs.StructType.check_layouts.Given as goal
 
--- the first failure of all members is the first of those that are left, and the greatest alignment so far is the greatest of the members so far
+-- the first failure of all members is the first of those that are left, and the greatest alignment so far is the
+-- greatest of the members so far
 abbrev pub invariant-loop-index : goal.invariant-loop-index
 invariant-loop-index l = record {
   left : first (map (member_layout_error (surroundings_of l.self) (layout_in l.space) l.self.handle) (enumerate_from l.index (drop l.index l.self.members.now)))

@@ -6,7 +6,8 @@ use Rattle.naga_types.specs.StructRule.{end_in, member_error, member_errors}
 use Rattle.naga_types.specs.steps.Structs.{sources_of, surroundings_of}
 use Rattle.naga_types.proofs.structs.StructType.check_members.Given as goal
 
--- the first refusal of all members is the first of those that are left, the end of the member before is known, and the sources of blending so far are noted
+-- the first refusal of all members is the first of those that are left, the end of the member before is known, and the
+-- sources of blending so far are noted
 abbrev pub invariant-loop-index : goal.invariant-loop-index
 invariant-loop-index l = record {
   left : first (map (member_error (surroundings_of l.self) l.self.members.now l.self.span) (enumerate_from l.index (drop l.index l.self.members.now)))
