@@ -1,0 +1,97 @@
+//! The items of words, and the module and settings that they say.
+
+ghost use Rattle.naga_words.specs.Words.{AreItems, CanBegin, IsFirstUnreadable, IsItemBefore, IsWords, NamesItem};
+ghost use Rattle.naga_words.specs.declared.draft.Contents.{Contents as ContentsType};
+ghost use Rattle.naga_words.specs.declared.item.Item.{Item};
+ghost use Rattle.naga_words.specs.declared.reader.WordsError.TheVariants as error;
+ghost use Rattle.naga_words.specs.declared.unread.Unread.TheVariants as unread;
+ghost use Rattle.naga_words.specs.steps.Drafts.{AreAdded};
+ghost use Rattle.naga_words.specs.steps.ReadItems.{AreAllAdded, IsOneMore, error_of};
+ghost use Rattle.naga_arena.specs.Memory.{UnlessOutOfMemory};
+ghost use Rattle.std.specs.Prelude.{◌≡◌, ◌<◌, ◌++◌, ◌∷◌, ◌⊎◌, ℕ, [], IfErr, IfOk, List, length};
+
+use crate::draft::{Contents, Draft};
+use crate::items::item;
+use crate::unread::Unread;
+use std::alloc::Global;
+
+/// How many opcodes there may be: the number of operands stands above the opcode in the head of an item.
+const OPCODES: u32 = 256;
+
+/// Why words were not read.
+#[derive(Clone, Copy, Debug, PartialEq)]
+pub enum WordsError {
+    /// The index of the first word of the first item that can't be read where it stands, or the number of words if
+    /// only the end can't stand there.
+    Item(usize),
+    /// A request for memory was refused.
+    OutOfMemory,
+}
+
+/// The error of an item whose first word has this index.
+fn error_at(unread: Unread, at: usize) -> WordsError
+    ensures { result ≡ error_of unread at }
+{
+    match unread {
+        Unread::Item => WordsError::Item(at),
+        Unread::OutOfMemory => WordsError::OutOfMemory,
+    }
+}
+
+/// Reads the item with which words begin, and returns the words after it.
+fn read_item<'a>(alloc: Global, draft: &mut Draft, words: &'a [u32]) -> Result<&'a [u32], Unread>
+    ensures shorter { IfOk result (λ rest. length rest.now < length words.now) }
+    ensures added { (items : List Item) → AreAdded items draft.old
+        → IfOk result (λ rest. IsOneMore items words.now rest.now draft.new) }
+    ensures refused { (items : List Item) → AreAdded items draft.old
+        → IfErr result (λ e. e ≡ unread.Item → (item : Item) (rest : List ℕ)
+        → IsItemBefore words.now item rest → ¬ (CanBegin (items ++ item ∷ []))) }
+{
+    let Some((head, rest)) = words.split_first() else {
+        return Err(Unread::Item);
+    };
+    let count = (*head / OPCODES) as usize;
+    if count > rest.len() {
+        return Err(Unread::Item);
+    }
+    let (operands, rest) = rest.split_at(count);
+    draft.add(item(alloc, (*head % OPCODES) as u8, operands)?)?;
+    Ok(rest)
+}
+
+/// Reads the items of words in order, after none.
+fn read_items(alloc: Global, draft: &mut Draft, words: &[u32]) -> Result<(), WordsError>
+    requires { AreAdded [] draft.old }
+    ensures all { IfOk result (λ _. AreAllAdded words.now draft.new) }
+    ensures stuck { IfErr result (λ e. (e ≡ error.OutOfMemory) ⊎ NamesItem e (IsFirstUnreadable words.now)) }
+{
+    let mut left = words;
+    'items: while !left.is_empty() {
+        match read_item(alloc, draft, left) {
+            Ok(rest) => left = rest,
+            Err(unread) => return Err(error_at(unread, words.len() - left.len())),
+        }
+    }
+    Ok(())
+}
+
+/// Reads the words of a module (docs/WORDS.md). The cost is linear in their number.
+///
+/// # Errors
+///
+/// - `Item` with the first item that can't be read.
+/// - `OutOfMemory` if a request for memory was refused.
+pub fn read_words(alloc: Global, words: &[u32]) -> Result<Contents, WordsError>
+    // What is read is what the words say, and an item that is named is the first that can't be read.
+    ensures words { UnlessOutOfMemory (λ e. e ≡ error.OutOfMemory) result (IsWords words.now)
+        (λ e. NamesItem e (IsFirstUnreadable words.now)) }
+    // Words that say something are read.
+    ensures only { (contents : ContentsType) → IsWords words.now contents → IfErr result (λ e. e ≡ error.OutOfMemory) }
+{
+    let mut draft = Draft::new(alloc);
+    read_items(alloc, &mut draft, words)?;
+    match draft.finish() {
+        Ok(contents) => Ok(contents),
+        Err(unread) => Err(error_at(unread, words.len())),
+    }
+}

@@ -1,0 +1,282 @@
+//! The types that words describe, one function a form.
+
+ghost use Rattle.naga_words.specs.steps.TypeReaders.{acceleration_structure_type_of, array_type_of, atomic_type_of, binding_array_type_of, cooperative_matrix_type_of, image_type_of, matrix_type_of, member_of, pointer_type_of, ray_query_type_of, sampler_type_of, scalar_type_of, value_pointer_type_of, vector_type_of, memberless_type_of};
+ghost use Rattle.naga_ir.specs.declared.types.StructMember.{StructMember as StructMemberType};
+ghost use Rattle.naga_ir.specs.declared.types.«Type».{«Type» as TypeType};
+ghost use Rattle.naga_ir.specs.declared.types.TypeInner.{TypeInner as TypeInnerType};
+ghost use Rattle.naga_words.specs.TypeItems.{AreMembers, IsInner, IsMemberBefore, IsTypeItem};
+ghost use Rattle.naga_words.specs.declared.unread.Unread.TheVariants as unread;
+ghost use Rattle.std.specs.Prelude.{◌≡◌, ◌<◌, ℕ, IfErr, IfOk, List, length};
+
+use crate::names::name;
+use crate::operands::{
+    array_size, binding, boolean, class, cooperative_size, dimension, handle, pointed_size, role,
+    scalar, size, space,
+};
+use crate::unread::{Unread, known};
+use naga_ir::list::List;
+use naga_ir::text::Text;
+use naga_ir::types::{StructMember, Type, TypeInner};
+use std::alloc::Global;
+
+/// The opcode of a struct.
+const STRUCT: u8 = 24;
+
+/// The number of operands of a member of a struct, after its name.
+const MEMBER_OPERANDS: usize = 5;
+
+fn scalar_type(operands: &[u32]) -> Option<TypeInner>
+    ensures { result ≡ scalar_type_of operands.now }
+{
+    let [kind, width] = operands else { return None };
+    Some(TypeInner::Scalar(scalar(*kind, *width)?))
+}
+
+fn vector_type(operands: &[u32]) -> Option<TypeInner>
+    ensures { result ≡ vector_type_of operands.now }
+{
+    let [components, kind, width] = operands else {
+        return None
+    };
+    Some(TypeInner::Vector {
+        size: size(*components)?,
+        scalar: scalar(*kind, *width)?,
+    })
+}
+
+fn matrix_type(operands: &[u32]) -> Option<TypeInner>
+    ensures { result ≡ matrix_type_of operands.now }
+{
+    let [columns, rows, kind, width] = operands else {
+        return None
+    };
+    Some(TypeInner::Matrix {
+        columns: size(*columns)?,
+        rows: size(*rows)?,
+        scalar: scalar(*kind, *width)?,
+    })
+}
+
+fn cooperative_matrix_type(operands: &[u32]) -> Option<TypeInner>
+    ensures { result ≡ cooperative_matrix_type_of operands.now }
+{
+    let [columns, rows, kind, width, role_word] = operands else {
+        return None
+    };
+    Some(TypeInner::CooperativeMatrix {
+        columns: cooperative_size(*columns)?,
+        rows: cooperative_size(*rows)?,
+        scalar: scalar(*kind, *width)?,
+        role: role(*role_word)?,
+    })
+}
+
+fn atomic_type(operands: &[u32]) -> Option<TypeInner>
+    ensures { result ≡ atomic_type_of operands.now }
+{
+    let [kind, width] = operands else { return None };
+    Some(TypeInner::Atomic(scalar(*kind, *width)?))
+}
+
+fn pointer_type(operands: &[u32]) -> Option<TypeInner>
+    ensures { result ≡ pointer_type_of operands.now }
+{
+    let [base, number, access] = operands else {
+        return None
+    };
+    Some(TypeInner::Pointer {
+        base: handle(*base)?,
+        space: space(*number, *access)?,
+    })
+}
+
+fn value_pointer_type(operands: &[u32]) -> Option<TypeInner>
+    ensures { result ≡ value_pointer_type_of operands.now }
+{
+    let [components, kind, width, number, access] = operands else {
+        return None
+    };
+    Some(TypeInner::ValuePointer {
+        size: pointed_size(*components)?,
+        scalar: scalar(*kind, *width)?,
+        space: space(*number, *access)?,
+    })
+}
+
+fn array_type(operands: &[u32]) -> Option<TypeInner>
+    ensures { result ≡ array_type_of operands.now }
+{
+    let [base, form, number, stride] = operands else {
+        return None
+    };
+    Some(TypeInner::Array {
+        base: handle(*base)?,
+        size: array_size(*form, *number)?,
+        stride: *stride,
+    })
+}
+
+fn image_type(operands: &[u32]) -> Option<TypeInner>
+    ensures { result ≡ image_type_of operands.now }
+{
+    let [dim, arrayed, form, first, second] = operands else {
+        return None
+    };
+    Some(TypeInner::Image {
+        dim: dimension(*dim)?,
+        arrayed: boolean(*arrayed)?,
+        class: class(*form, *first, *second)?,
+    })
+}
+
+fn sampler_type(operands: &[u32]) -> Option<TypeInner>
+    ensures { result ≡ sampler_type_of operands.now }
+{
+    let [comparison] = operands else { return None };
+    Some(TypeInner::Sampler {
+        comparison: boolean(*comparison)?,
+    })
+}
+
+fn acceleration_structure_type(operands: &[u32]) -> Option<TypeInner>
+    ensures { result ≡ acceleration_structure_type_of operands.now }
+{
+    let [vertex_return] = operands else {
+        return None
+    };
+    Some(TypeInner::AccelerationStructure {
+        vertex_return: boolean(*vertex_return)?,
+    })
+}
+
+fn ray_query_type(operands: &[u32]) -> Option<TypeInner>
+    ensures { result ≡ ray_query_type_of operands.now }
+{
+    let [vertex_return] = operands else {
+        return None
+    };
+    Some(TypeInner::RayQuery {
+        vertex_return: boolean(*vertex_return)?,
+    })
+}
+
+fn binding_array_type(operands: &[u32]) -> Option<TypeInner>
+    ensures { result ≡ binding_array_type_of operands.now }
+{
+    let [base, form, number] = operands else {
+        return None
+    };
+    Some(TypeInner::BindingArray {
+        base: handle(*base)?,
+        size: array_size(*form, *number)?,
+    })
+}
+
+/// The type of an opcode and of the operands after its name, unless it is a struct.
+fn memberless_type(opcode: u8, operands: &[u32]) -> Option<TypeInner>
+    ensures { result ≡ memberless_type_of opcode operands.now }
+{
+    match opcode {
+        16 => scalar_type(operands),
+        17 => vector_type(operands),
+        18 => matrix_type(operands),
+        19 => cooperative_matrix_type(operands),
+        20 => atomic_type(operands),
+        21 => pointer_type(operands),
+        22 => value_pointer_type(operands),
+        23 => array_type(operands),
+        25 => image_type(operands),
+        26 => sampler_type(operands),
+        27 => acceleration_structure_type(operands),
+        28 => ray_query_type(operands),
+        29 => binding_array_type(operands),
+        _ => None,
+    }
+}
+
+/// The member of this name, of the operands after it.
+fn named_member(name: Option<Text>, operands: &[u32]) -> Option<StructMember>
+    ensures { result ≡ member_of name operands.now }
+{
+    let [ty, offset, form, number, source] = operands else {
+        return None
+    };
+    Some(StructMember {
+        name,
+        ty: handle(*ty)?,
+        binding: binding(*form, *number, *source)?,
+        offset: *offset,
+    })
+}
+
+/// The member with which words begin, and the words after it.
+fn member(alloc: Global, words: &[u32]) -> Result<(StructMember, &[u32]), Unread>
+    ensures found { IfOk result (λ read. IsMemberBefore words.now read.0 read.1.now) }
+    ensures none { IfErr result (λ e. e ≡ unread.Item
+        → (m : StructMemberType) (rest : List ℕ) → ¬ (IsMemberBefore words.now m rest)) }
+    ensures shorter { IfOk result (λ read. length read.1.now < length words.now) }
+{
+    let (name, others) = name(alloc, words)?;
+    if others.len() < MEMBER_OPERANDS {
+        return Err(Unread::Item);
+    }
+    let (operands, rest) = others.split_at(MEMBER_OPERANDS);
+    Ok((known(named_member(name, operands))?, rest))
+}
+
+/// The members of words, if each is one.
+fn members(alloc: Global, words: &[u32]) -> Result<List<StructMember>, Unread>
+    ensures found { IfOk result (λ members. AreMembers members words.now) }
+    ensures none { IfErr result (λ e. e ≡ unread.Item
+        → (members : List StructMemberType) → ¬ (AreMembers members words.now)) }
+{
+    let mut members = List::new(alloc);
+    let mut left = words;
+    'members: while !left.is_empty() {
+        let (member, rest) = member(alloc, left)?;
+        members.push(member)?;
+        left = rest;
+    }
+    Ok(members)
+}
+
+/// A struct, of the operands after its name: its span and its members.
+fn struct_type(alloc: Global, operands: &[u32]) -> Result<TypeInner, Unread>
+    ensures found { IfOk result (λ t. IsInner STRUCT operands.now t) }
+    ensures only { (t : TypeInnerType) → IsInner STRUCT operands.now t → IfOk result (λ read. read ≡ t) }
+    ensures none { IfErr result (λ e. e ≡ unread.Item
+        → (t : TypeInnerType) → ¬ (IsInner STRUCT operands.now t)) }
+{
+    let [span, rest @ ..] = operands else {
+        return Err(Unread::Item);
+    };
+    let members = members(alloc, rest)?;
+    Ok(TypeInner::Struct {
+        members,
+        span: *span,
+    })
+}
+
+/// What a type is made of, of an opcode and the operands after its name.
+fn inner(alloc: Global, opcode: u8, operands: &[u32]) -> Result<TypeInner, Unread>
+    ensures found { IfOk result (λ t. IsInner opcode operands.now t) }
+    ensures only { (t : TypeInnerType) → IsInner opcode operands.now t → IfOk result (λ read. read ≡ t) }
+    ensures none { IfErr result (λ e. e ≡ unread.Item
+        → (t : TypeInnerType) → ¬ (IsInner opcode operands.now t)) }
+{
+    if opcode == STRUCT {
+        return struct_type(alloc, operands);
+    }
+    known(memberless_type(opcode, operands))
+}
+
+/// The type of an opcode and its operands.
+pub(crate) fn type_of(alloc: Global, opcode: u8, operands: &[u32]) -> Result<Type, Unread>
+    ensures found { IfOk result (λ t. IsTypeItem opcode operands.now t) }
+    ensures only { (t : TypeType) → IsTypeItem opcode operands.now t → IfOk result (λ read. read ≡ t) }
+    ensures none { IfErr result (λ e. e ≡ unread.Item → (t : TypeType) → ¬ (IsTypeItem opcode operands.now t)) }
+{
+    let (name, others) = name(alloc, operands)?;
+    let inner = inner(alloc, opcode, others)?;
+    Ok(Type { name, inner })
+}

@@ -1,0 +1,5 @@
+//! The tests of the reader of words.
+#![tactic(auto)]
+
+#[cfg(test)]
+mod tests;
