@@ -1,5 +1,6 @@
 pub mod FirstError
 pub mod Handles
+pub mod ListLaws
 pub mod ModuleItems
 pub mod OneMore
 pub mod PartLemmas

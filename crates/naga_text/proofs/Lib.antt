@@ -1,7 +1,6 @@
 pub mod EachLaws
 pub mod ExpressionLaws
 pub mod LineLaws
-pub mod ListLaws
 pub mod LiteralLaws
 pub mod MemberLaws
 pub mod ModuleLaws

@@ -19,7 +19,7 @@ use Rattle.naga_text.specs.steps.SoFar.{CanAdd, IsAdded, IsNewItem, IsNewType, I
 use Rattle.naga_text.specs.declared.line.Line.{Line}
 use Rattle.naga_text.specs.declared.line.Line.TheVariants.{Flags, Capabilities, Resolved, Type_, Expression, Constant, Override, Doc}
 use Rattle.naga_text.specs.declared.text.ContentsSoFar.{ContentsSoFar}
-use Rattle.naga_text.proofs.ListLaws.{distinct_once, distinct_push, pick_front, pick_more, pick_too_many, with_option}
+use Rattle.naga_ir.proofs.ListLaws.{distinct_once, distinct_push, pick_front, pick_more, pick_too_many, with_option}
 use Rattle.naga_text.proofs.ModuleLaws.{module_is}
 
 -- contents are what lines say if each of them is

@@ -10,7 +10,8 @@ use Rattle.naga_ir.specs.declared.statement.Statement.TheViews.{out-Statement}
 use Rattle.naga_ir.specs.declared.statement.SwitchCase.{SwitchCase}
 use Rattle.naga_words.proofs.MarkLemmas.{case_depth-push, case_marks-push, depth-none, depth-plain, depth-push, depth_of_statement-out, items_of, marks-none, marks-plain, marks-push, marks_of_statement-out, own_depth, own_marks}
 use Rattle.naga_words.proofs.MarkRuns.{length-kinds}
-use Rattle.naga_words.specs.Bodies.{HasNoBlocks, Marks, depth, depth_of_case, depth_of_statement, greatest, marks_of_block, marks_of_case, marks_of_statement}
+use Rattle.naga_words.specs.Bodies.{Marks, depth, greatest, marks_of_block}
+use Rattle.naga_words.specs.steps.BodyParts.{HasNoBlocks, depth_of_case, depth_of_statement, marks_of_case, marks_of_statement}
 use Rattle.naga_words.specs.declared.blocks.OpenBlocks.{OpenBlocks}
 use Rattle.naga_words.specs.declared.blocks.Opener.{Opener}
 use Rattle.naga_words.specs.declared.blocks.Opener.TheVariants as opener

@@ -11,7 +11,8 @@ use Rattle.naga_ir.specs.steps.StatementParts.{Form}
 use Rattle.naga_words.proofs.BlockLemmas.{adds-case, begin-adds, closes-block, closes-empty_switch, closes-if, closes-loop, closes-switch, read-close}
 use Rattle.naga_words.proofs.MarkLemmas.{depth-none, depth_of_statement-out, items_of, marks-none, marks_of_block-out, marks_of_case-out, marks_of_statement-out, own_depth, own_marks}
 use Rattle.naga_words.proofs.MarkRuns.{step-refuses}
-use Rattle.naga_words.specs.Bodies.{CanBeginBody, IsBody, Marks, marks_of_block, marks_of_case, marks_of_statement}
+use Rattle.naga_words.specs.Bodies.{IsBody, Marks, marks_of_block}
+use Rattle.naga_words.specs.steps.BodyParts.{CanBeginBody, marks_of_case, marks_of_statement}
 use Rattle.naga_words.specs.declared.blocks.OpenBlocks.{OpenBlocks}
 use Rattle.naga_words.specs.declared.blocks.Opener.{Opener}
 use Rattle.naga_words.specs.declared.blocks.Opener.TheVariants as opener

@@ -1,6 +1,5 @@
 -- A module, and one item more.
-use Rattle.std.proofs.Common.{◌≡◌, ℕ, ◌+◌, ◌<◌, ◌≤◌, List, [], ◌∷◌, ◌++◌, Contains, Option, None, Some, append_assoc, append-nil, arith, length, length-append, refl, sym, ap, ◌∙◌, subst, Bool, true}
-use Rattle.std.specs.List.{AllZip}
+use Rattle.std.proofs.Common.{◌≡◌, ℕ, ◌<◌, ◌≤◌, List, [], ◌∷◌, ◌++◌, Contains, Option, None, Some, arith, length, refl, sym, ap, ◌∙◌, subst, Bool, true}
 use Rattle.naga_arena.specs.Numbers.{largest_u32}
 use Rattle.naga_flags.specs.declared.flags.Capabilities.{Capabilities as CapabilitySet}
 use Rattle.naga_flags.specs.declared.flags.ValidationFlags.{ValidationFlags}
@@ -23,7 +22,7 @@ use Rattle.naga_words.specs.declared.item.Commented.TheVariants as on
 use Rattle.naga_words.specs.declared.item.Item.{Item}
 use Rattle.naga_words.specs.declared.item.Item.TheVariants.{Flags, Capabilities, Resolved, SpecialTypes, PredeclaredType, Filter, FilterLeaf, Comment, Type_, Constant, Override, GlobalVariable, Expression}
 use Rattle.naga_words.specs.steps.Drafts.{AreAdded, AreSections, IsSaid, with_comment}
-use Rattle.naga_text.proofs.ListLaws.{distinct_once, distinct_push, pick_front, pick_too_many}
+use Rattle.naga_ir.proofs.ListLaws.{distinct_once, distinct_push, pick_front, pick_too_many}
 use Rattle.naga_words.proofs.SaidLaws.{alone_after, first_after, fits_after, items_more, some_first, with_item}
 use Rattle.naga_words.proofs.SectionLaws.{sections_same}
 

@@ -1,15 +1,15 @@
 -- The reader of an expression's operands returns the one expression with these operands.
-use Rattle.std.proofs.Common.{◌≡◌, ◌==◌, ◌∙◌, ap, arith, ℕ, List, [], ◌∷◌, None, Option, Some, refl, subst, sym, map, nat_lt, slice_get}
+use Rattle.std.proofs.Common.{◌≡◌, ◌==◌, ◌∙◌, ap, arith, ℕ, List, [], ◌∷◌, Option, Some, refl, subst, sym, nat_lt, slice_get}
 use Rattle.std.proofs.lemmas.Option.{option_and_then_some, same_Some}
 use borrow.Author.Tests.{eqb-true}
 use Rattle.naga_arena.specs.Numbers.{largest_u8}
 use Rattle.naga_ir.specs.Sizes.{components as component_count}
 use Rattle.naga_ir.specs.declared.expression.Expression.{Expression}
 use Rattle.naga_ir.specs.declared.expression.Expression.TheVariants.{Access, AccessIndex, ArrayLength, As, AtomicResult, Binary, CallResult, Compose, Constant, CooperativeLoad, CooperativeMultiplyAdd, Derivative, FunctionArgument, GlobalVariable, ImageLoad, ImageQuery, ImageSample, Literal, Load, LocalVariable, Math, Override, RayQueryGetIntersection, RayQueryProceedResult, RayQueryVertexPositions, Relational, Select, Splat, SubgroupBallotResult, SubgroupOperationResult, Swizzle, Unary, WorkGroupUniformLoadResult, ZeroValue}
-use Rattle.naga_words.specs.Forms.{HasNumber, expression_form, expression_number}
+use Rattle.naga_words.specs.Forms.{expression_form, expression_number}
 use Rattle.naga_words.specs.Parts.{exactly, handle, level_first, level_second, level_word, optional, place, query_part, query_word, up_to}
 use Rattle.naga_words.specs.Tables.{binary_operators, bools, components, kinds, math_functions, relational_functions, unary_operators}
-use Rattle.naga_words.specs.steps.ExpressionReaders.{access_index_of, access_of, array_length_of, as_expression_of, atomic_result_of, ballot_result_of, binary_of, call_result_of, constant_of, cooperative_load_of, cooperative_multiply_add_of, derivative_of, early_form_of, form_of, function_argument_of, global_variable_of, image_load_of, image_query_of, image_sample_of, intersection_of, late_form_of, literal_expression_of, load_of, local_variable_of, math_of, override_expression_of, proceed_result_of, relational_of, select_of, splat_of, subgroup_result_of, swizzle_of, unary_of, vertex_positions_of, workgroup_load_result_of, zero_value_of}
+use Rattle.naga_words.specs.steps.ExpressionReaders.{HasNumber, access_index_of, access_of, array_length_of, as_expression_of, atomic_result_of, ballot_result_of, binary_of, call_result_of, constant_of, cooperative_load_of, cooperative_multiply_add_of, derivative_of, early_form_of, form_of, function_argument_of, global_variable_of, image_load_of, image_query_of, image_sample_of, intersection_of, late_form_of, literal_expression_of, load_of, local_variable_of, math_of, override_expression_of, proceed_result_of, relational_of, select_of, splat_of, subgroup_result_of, swizzle_of, unary_of, vertex_positions_of, workgroup_load_result_of, zero_value_of}
 use Rattle.naga_words.specs.steps.Operands.{converted_width_of, handle_of, level_of, literal_of, optional_component_of, query_of, size_of}
 use Rattle.naga_words.specs.steps.Reading.{compose_of, expression_of, read_each}
 use Rattle.naga_words.proofs.EachLaws.{each_again, each_found}

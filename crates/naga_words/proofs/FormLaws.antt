@@ -8,7 +8,7 @@ use Rattle.naga_ir.specs.declared.statement.Statement.{Statement}
 use Rattle.naga_ir.specs.declared.statement.Statement.TheVariants.{Atomic, Block', Break, Call, Continue, ControlBarrier, CooperativeStore, Emit, If', ImageAtomic, ImageStore, Kill, Loop', MemoryBarrier, RayPipelineFunction, RayQuery, Return, Store, SubgroupBallot, SubgroupCollectiveOperation, SubgroupGather, Switch', WorkGroupUniformLoad}
 use Rattle.naga_ir.specs.declared.types.«Type».{«Type»}
 use Rattle.naga_ir.specs.declared.types.TypeInner.{TypeInner}
-use Rattle.naga_words.specs.Forms.{HasNumber}
+use Rattle.naga_words.specs.steps.ExpressionReaders.{HasNumber}
 use Rattle.naga_words.specs.ItemForms.{IsForm, IsPartForm}
 use Rattle.naga_words.specs.MarkForms.{IsMarkForm}
 use Rattle.naga_words.specs.Parts.{handle, optional, place}

@@ -1,5 +1,5 @@
 -- A function or entry point, and one part more.
-use Rattle.std.proofs.Common.{◌≡◌, ℕ, ◌+◌, ◌<◌, ◌≤◌, List, [], ◌∷◌, ◌++◌, Option, None, Some, length, refl, sym, ap, ◌∙◌, subst, arith, append_assoc}
+use Rattle.std.proofs.Common.{◌≡◌, ℕ, ◌<◌, ◌≤◌, List, [], ◌∷◌, ◌++◌, Option, None, Some, length, refl, sym, ap, ◌∙◌, subst, arith, append_assoc}
 use Rattle.std.proofs.lemmas.Option.{same_Some}
 use Rattle.naga_arena.specs.Numbers.{largest_u32}
 use Rattle.naga_ir.specs.declared.expression.Expression.{Expression as ExpressionType}
@@ -17,7 +17,8 @@ use Rattle.naga_words.specs.declared.functions.OpenFunction.{OpenFunction}
 use Rattle.naga_words.specs.declared.item.Mark.{Mark as MarkType}
 use Rattle.naga_words.specs.declared.item.Part.{Part}
 use Rattle.naga_words.specs.declared.item.Part.TheVariants.{Argument, LocalVariable, Result, NamedExpression, FilterLeaf, WorkgroupSizes, TaskPayload, MeshOutput, Expression, Mark}
-use Rattle.naga_words.specs.Bodies.{CanBeginBody, IsBody}
+use Rattle.naga_words.specs.Bodies.{IsBody}
+use Rattle.naga_words.specs.steps.BodyParts.{CanBeginBody}
 use Rattle.naga_words.specs.steps.OpenBlocks.{AreRead}
 use Rattle.naga_words.specs.steps.OpenFunctions.{AreParts, HasEntryParts, HasParts, IsSection, entry_parts_of}
 use Rattle.naga_words.proofs.SaidLaws.{alone_after, first_after, fits_after, parts_more, pick_between, pick_many, pick_some, some_first, with_part}

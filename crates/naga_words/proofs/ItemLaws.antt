@@ -8,7 +8,7 @@ use Rattle.naga_flags.specs.declared.flags.Capabilities.{Capabilities}
 use Rattle.naga_flags.specs.declared.flags.ValidationFlags.{ValidationFlags}
 use Rattle.naga_ir.specs.declared.expression.Expression.{Expression}
 use Rattle.naga_ir.specs.declared.types.«Type».{«Type»}
-use Rattle.naga_words.specs.Forms.{HasNumber}
+use Rattle.naga_words.specs.steps.ExpressionReaders.{HasNumber}
 use Rattle.naga_words.specs.ItemForms.{AreCapabilities, IsCommentForm, IsForm, IsPartForm}
 use Rattle.naga_words.specs.Numbers.{largest_u16, wide}
 use Rattle.naga_words.specs.Parts.{Matches, access_part, exactly, handle, optional, space_word, up_to}

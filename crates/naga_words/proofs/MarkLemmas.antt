@@ -12,7 +12,8 @@ use Rattle.naga_ir.specs.declared.statement.Statement.TheOpen as one
 use Rattle.naga_ir.specs.declared.statement.Statement.TheViews.{out-Block, out-Statement, roll-Statement, roll-out-Statement}
 use Rattle.naga_ir.specs.declared.statement.SwitchCase.{SwitchCase}
 use Rattle.naga_ir.specs.steps.StatementParts.{Form}
-use Rattle.naga_words.specs.Bodies.{HasNoBlocks, IsBlockless, Marks, block_depth_step, block_step, case_depth_step, case_step, depth, depth_of_case, depth_of_statement, greatest, marks_of_block, marks_of_case, marks_of_statement, statement_depth_step, statement_step}
+use Rattle.naga_words.specs.Bodies.{Marks, block_depth_step, block_step, case_depth_step, case_step, depth, greatest, marks_of_block, statement_depth_step, statement_step}
+use Rattle.naga_words.specs.steps.BodyParts.{HasNoBlocks, IsBlockless, depth_of_case, depth_of_statement, marks_of_case, marks_of_statement}
 use Rattle.naga_words.specs.declared.item.Mark.TheVariants as mark
 
 -- the statements of a block

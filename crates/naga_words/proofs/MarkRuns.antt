@@ -12,7 +12,8 @@ use Rattle.naga_ir.specs.declared.statement.Statement.TheViews.{out-Statement}
 use Rattle.naga_ir.specs.declared.statement.SwitchCase.{SwitchCase}
 use Rattle.naga_ir.specs.steps.StatementParts.{Form}
 use Rattle.naga_words.proofs.MarkLemmas.{depth-out, depth_of_case-out, depth_of_statement-out, items_of, marks-none, marks_of_block-out, marks_of_case-out, marks_of_statement-out, own_depth, own_marks}
-use Rattle.naga_words.specs.Bodies.{CanBeginBody, IsBody, Marks, depth, depth_of_case, depth_of_statement, greatest, marks_of_block, marks_of_case, marks_of_statement}
+use Rattle.naga_words.specs.Bodies.{IsBody, Marks, depth, greatest, marks_of_block}
+use Rattle.naga_words.specs.steps.BodyParts.{CanBeginBody, depth_of_case, depth_of_statement, marks_of_case, marks_of_statement}
 use Rattle.naga_words.specs.declared.blocks.Opener.{Opener}
 use Rattle.naga_words.specs.declared.blocks.Opener.TheVariants as opener
 use Rattle.naga_words.specs.declared.blocks.OuterBlock.{OuterBlock}

@@ -1,9 +1,8 @@
 -- Functions and entry points of a module while its items are read: heads, parts, and their ends.
-use Rattle.std.proofs.Common.{◌≡◌, ℕ, ◌+◌, ◌<◌, ◌≤◌, suc, List, [], ◌∷◌, ◌++◌, Option, None, Some, append_assoc, append-nil, arith, filter_map, length, length-append, map, refl, sym, ap, ◌∙◌, subst}
+use Rattle.std.proofs.Common.{◌≡◌, ℕ, ◌<◌, ◌≤◌, suc, List, [], ◌∷◌, ◌++◌, Option, None, Some, append_assoc, append-nil, arith, length, length-append, refl, sym, ap, ◌∙◌, subst}
 use Rattle.std.specs.List.{AllZip}
-use Rattle.std.specs.Prelude.{IfErr, IfOk, Result, unwrap_or}
+use Rattle.std.specs.Prelude.{IfErr, IfOk, Result}
 use Rattle.std.proofs.lemmas.List.Elements.{filter_map-append}
-use Rattle.std.proofs.lemmas.Option.{same_Some}
 use Rattle.std.proofs.lemmas.Result.{IfErr-weaker, IfOk-weaker}
 use Rattle.naga_arena.specs.Numbers.{largest_u32}
 use Rattle.naga_ir.specs.declared.ir.EntryPoint.{EntryPoint as EntryPointType}

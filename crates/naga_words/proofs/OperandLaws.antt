@@ -2,8 +2,6 @@
 use Rattle.std.proofs.Common.{◌≡◌, ◌==◌, ℕ, ◌≤◌, Bool as Boolean, true, false, cond, Option, None, Some, refl, sym, ap, ◌∙◌, subst, arith, nat_le, eq-eqb, slice_get, true≢false}
 use Rattle.std.proofs.lemmas.Bool.{le-leb, leb-true, ne_eqb}
 use Rattle.std.proofs.lemmas.Option.{option_and_then_some, same_Some}
-use Rattle.std.specs.Int.NonZero.{non_zero_u32_get}
-use Rattle.std.specs.declared.num.NonZeroU32.{NonZeroU32}
 use borrow.Author.Tests.{eqb-true}
 use Rattle.naga_arena.specs.Numbers.{largest_u8}
 use Rattle.naga_ir.specs.Sizes.{components as component_count, cooperative_components}

@@ -3,7 +3,7 @@ use Rattle.std.proofs.Common.{◌≡◌, ◌==◌, ◌-◌, ℕ, ◌≤◌, List
 use Rattle.std.proofs.lemmas.Option.{option_and_then_some, same_Some}
 use borrow.Author.Tests.{eqb-true}
 use Rattle.naga_ir.specs.declared.expression.Expression.{Expression}
-use Rattle.naga_words.specs.Forms.{HasNumber}
+use Rattle.naga_words.specs.steps.ExpressionReaders.{HasNumber}
 use Rattle.naga_words.specs.ItemForms.{IsPartForm}
 use Rattle.naga_words.specs.MarkForms.{IsMarkForm}
 use Rattle.naga_words.specs.Parts.{Matches, binding_number, binding_source, binding_word, exactly, handle, optional}

@@ -1,12 +1,12 @@
 -- What items and parts say, and one more.
-use Rattle.std.proofs.Common.{◌≡◌, ℕ, ◌+◌, ◌≤◌, suc, List, [], ◌∷◌, ◌++◌, Option, None, Some, append_assoc, arith, filter_map, length, length-append, refl, sym, ap, ◌∙◌, slice_get, subst}
+use Rattle.std.proofs.Common.{◌≡◌, ℕ, ◌+◌, ◌≤◌, suc, List, [], ◌∷◌, ◌++◌, Option, None, Some, append_assoc, arith, filter_map, length, length-append, refl, sym, ap, ◌∙◌, subst}
 use Rattle.std.specs.List.{cons_option}
 use Rattle.std.specs.Prelude.{Err, IfOk, Ok, Result}
 use Rattle.naga_words.specs.Items.{AllParts, AllSaid, Said, SaidOfFunction, all_parts, all_said, said_by, said_by_part}
 use Rattle.naga_words.specs.Words.{first_of}
 use Rattle.naga_words.specs.declared.item.Item.{Item}
 use Rattle.naga_words.specs.declared.item.Part.{Part}
-use Rattle.naga_text.proofs.ListLaws.{pick_front, pick_more, with_option}
+use Rattle.naga_ir.proofs.ListLaws.{pick_front, pick_more, with_option}
 
 -- what parts say, and what one more says
 abbrev pub with_part : AllParts → SaidOfFunction → AllParts

@@ -6,7 +6,7 @@ use Rattle.naga_ir.specs.declared.statement.RayPipelineFunction.TheVariants.{Tra
 use Rattle.naga_ir.specs.declared.statement.Statement.{Statement}
 use Rattle.naga_ir.specs.declared.statement.Statement.TheVariants.{Atomic, Block', Break, Call, Continue, ControlBarrier, CooperativeStore, Emit, If', ImageAtomic, ImageStore, Kill, Loop', MemoryBarrier, RayPipelineFunction, RayQuery, Return, Store, SubgroupBallot, SubgroupCollectiveOperation, SubgroupGather, Switch', WorkGroupUniformLoad}
 use Rattle.naga_words.specs.Parts.{exactly, handle, optional, place}
-use Rattle.naga_words.specs.Bodies.{HasNoBlocks}
+use Rattle.naga_words.specs.steps.BodyParts.{HasNoBlocks}
 use Rattle.naga_words.specs.StatementForms.{IsStatementForm, atomic_part, atomic_word, gather_part, gather_word, statement_form, statement_number, step_first, step_second, step_word}
 use Rattle.naga_words.specs.Tables.{subgroup_operations}
 use Rattle.naga_words.specs.steps.Operands.{handle_of}

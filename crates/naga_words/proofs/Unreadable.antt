@@ -1,5 +1,5 @@
 -- Where words can't be read.
-use Rattle.std.proofs.Common.{◌≡◌, ◌⊎◌, inl, inr, ℕ, ◌+◌, ◌<◌, ◌≤◌, ◌^◌, List, [], ◌∷◌, ◌++◌, arith, drop, length, length-append, refl, sym, ap, ◌∙◌, subst, take}
+use Rattle.std.proofs.Common.{◌≡◌, ◌⊎◌, inl, inr, ℕ, ◌+◌, ◌<◌, ◌^◌, List, [], ◌∷◌, ◌++◌, arith, drop, length, length-append, refl, sym, ap, ◌∙◌, subst, take}
 use Rattle.std.proofs.Math.Seq.{drop-append_seam, drop-length, take-append_seam, take-length}
 use Rattle.naga_words.specs.Words.{AreItems, CanBegin, IsFirstUnreadable, IsItemBefore, IsWords, NamesItem, Say}
 use Rattle.naga_words.specs.declared.draft.Contents.{Contents}

@@ -5,7 +5,8 @@ use Rattle.naga_arena.specs.Numbers.{largest_u32}
 use Rattle.naga_flags.specs.Bits.{all_validation_flags, default_capabilities}
 use Rattle.naga_ir.specs.declared.ir.Module.{Module}
 use Rattle.naga_ir.specs.declared.ir.SpecialTypes.{SpecialTypes}
-use Rattle.naga_words.specs.Bodies.{CanBeginBody, IsBody}
+use Rattle.naga_words.specs.Bodies.{IsBody}
+use Rattle.naga_words.specs.steps.BodyParts.{CanBeginBody}
 use Rattle.naga_words.specs.Items.{AllParts, Head, Role, Sections, all_parts, all_said, begins, belongs, entry_point, function, functions_in, neither, role, said_by_part, sections, with_role}
 use Rattle.naga_words.specs.Words.{ArePartsConsistent, CanBegin, HasNoEntryParts, Say, entry_point_of, function_of, module_of, special_types_of}
 use Rattle.naga_words.specs.declared.draft.Contents.{Contents}

@@ -2,32 +2,12 @@
 use Rattle.std.specs.Prelude.{◌≡◌, ℕ, ◌+◌, ◌≤◌, max, List, [], ◌∷◌, ◌++◌}
 use Rattle.std.specs.List.{flat_map}
 use Rattle.naga_ir.specs.declared.statement.Block.{Block}
-use Rattle.naga_ir.specs.declared.statement.Statement.{Statement}
-use Rattle.naga_ir.specs.declared.statement.Statement.TheFolds.{fold-Block, fold-Statement, fold-SwitchCase}
+use Rattle.naga_ir.specs.declared.statement.Statement.TheFolds.{fold-Block}
 use Rattle.naga_ir.specs.declared.statement.Statement.TheOpen.{Block-F, Statement-F, SwitchCase-F}
 use Rattle.naga_ir.specs.declared.statement.Statement.TheOpen as one
-use Rattle.naga_ir.specs.declared.statement.Statement.TheViews.{out-Statement, roll-Statement}
-use Rattle.naga_ir.specs.declared.statement.SwitchCase.{SwitchCase}
-use Rattle.naga_ir.specs.steps.StatementParts.{Form}
+use Rattle.naga_ir.specs.declared.statement.Statement.TheViews.{roll-Statement}
 use Rattle.naga_words.specs.declared.item.Mark.{Mark}
 use Rattle.naga_words.specs.declared.item.Mark.TheVariants as mark
-
--- a statement of a form has no blocks
-abbrev pub IsBlockless : Form → Type 0
-IsBlockless (one.Block b) = ⊥
-IsBlockless (one.If condition accept reject) = ⊥
-IsBlockless (one.Switch selector cases) = ⊥
-IsBlockless (one.Loop body continuing break_if) = ⊥
-IsBlockless _ = Unit {0}
-
--- a statement has no blocks
-abbrev pub HasNoBlocks : Statement → Type 0
-HasNoBlocks s = IsBlockless (out-Statement s)
-
--- if a mark is a statement, this has no blocks
-abbrev pub IsPlain : Mark → Type 0
-IsPlain (mark.Statement s) = HasNoBlocks s
-IsPlain _ = Unit {0}
 
 -- marks in their order
 abbrev pub Marks : Type 0
@@ -67,17 +47,9 @@ block_step b = flat_map (λ of_statement. of_statement) b.body.items
 abbrev pub case_step : SwitchCase-F Marks Marks Marks → Marks
 case_step c = mark.Case c.fall_through ∷ c.body
 
--- the marks that say a statement
-unfoldable pub marks_of_statement : Statement → Marks
-marks_of_statement = fold-Statement Marks Marks Marks statement_step block_step case_step
-
 -- the marks that say the statements of a block, without those where it begins and ends
 unfoldable pub marks_of_block : Block → Marks
 marks_of_block = fold-Block Marks Marks Marks statement_step block_step case_step
-
--- the marks that say a case of a switch
-unfoldable pub marks_of_case : SwitchCase → Marks
-marks_of_case = fold-SwitchCase Marks Marks Marks statement_step block_step case_step
 
 -- the greatest of numbers, or 0
 abbrev pub greatest : List ℕ → ℕ
@@ -100,17 +72,9 @@ block_depth_step b = greatest b.body.items
 abbrev pub case_depth_step : SwitchCase-F ℕ ℕ ℕ → ℕ
 case_depth_step c = c.body
 
--- how many blocks are open at a time in a statement
-unfoldable pub depth_of_statement : Statement → ℕ
-depth_of_statement = fold-Statement ℕ ℕ ℕ statement_depth_step block_depth_step case_depth_step
-
 -- how many blocks are open at a time in a block, itself aside
 unfoldable pub depth : Block → ℕ
 depth = fold-Block ℕ ℕ ℕ statement_depth_step block_depth_step case_depth_step
-
--- how many blocks are open at a time in the block of a case, itself aside
-unfoldable pub depth_of_case : SwitchCase → ℕ
-depth_of_case = fold-SwitchCase ℕ ℕ ℕ statement_depth_step block_depth_step case_depth_step
 
 -- the most blocks that may be open at a time
 abbrev pub most_open : ℕ
@@ -120,7 +84,3 @@ most_open = 127
 pub record IsBody (marks : Marks) (b : Block) : Type 0 where
   pub said : marks ≡ marks_of_block b
   pub shallow : depth b ≤ most_open
-
--- `marks` are the first marks of a body, or all
-abbrev pub CanBeginBody : Marks → Type 0
-CanBeginBody marks = (more : Marks) × (b : Block) × IsBody (marks ++ more) b

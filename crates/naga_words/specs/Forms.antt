@@ -148,7 +148,3 @@ expression_number SubgroupBallotResult = 30
 expression_number (SubgroupOperationResult ty) = 31
 expression_number (CooperativeLoad pointer stride) = 32
 expression_number (CooperativeMultiplyAdd a b c) = 33
-
--- an expression has this number and these operands
-abbrev pub HasNumber : ℕ → List ℕ → Expression → Type 0
-HasNumber n ws x = (n ≡ expression_number x) × expression_form x ws

@@ -7,7 +7,7 @@
 -- TypeItems.IsTypeItem: the item of a type; MarkForms.IsMarkForm: an item of a body
 -- ItemForms.IsForm: the opcode and the operands of each item; IsPartForm: of a part of a function or entry point
 -- Items.said_by, said_by_part, sections: what an item says, and to which function or entry point a part belongs
--- Bodies.IsBody, CanBeginBody: which marks say a body, or can begin one
+-- Bodies.IsBody: which marks say a body
 -- Words.AreItems, Say, IsWords: what words say
 -- Words.CanBegin, IsFirstUnreadable: which items can begin a module, and the first item that can't be read
 pub mod Bodies

@@ -1,5 +1,5 @@
 -- The forms of statements without blocks: the number of each, and its operands.
-use Rattle.std.specs.Prelude.{◌≡◌, ℕ, List, [], ◌∷◌, map, ⊤}
+use Rattle.std.specs.Prelude.{◌≡◌, ℕ, List, [], ◌∷◌, map}
 use Rattle.naga_ir.specs.declared.statement.AtomicFunction.{AtomicFunction}
 use Rattle.naga_ir.specs.declared.statement.AtomicFunction.TheVariants as atomic
 use Rattle.naga_ir.specs.declared.statement.GatherMode.{GatherMode}

@@ -1,4 +1,5 @@
 -- What the private functions say of their steps.
+pub mod BodyParts
 pub mod Drafts
 pub mod ExpressionReaders
 pub mod ItemReaders

@@ -1,7 +1,8 @@
 //! The blocks of a function's body while they are read.
 
 ghost use Rattle.naga_ir.specs.declared.statement.Block.{Block};
-ghost use Rattle.naga_words.specs.Bodies.{CanBeginBody, HasNoBlocks, IsBody, IsPlain};
+ghost use Rattle.naga_words.specs.Bodies.{IsBody};
+ghost use Rattle.naga_words.specs.steps.BodyParts.{CanBeginBody, HasNoBlocks, IsPlain};
 ghost use Rattle.naga_words.specs.declared.item.Mark.TheVariants as mark;
 ghost use Rattle.naga_words.specs.declared.item.Mark.{Mark};
 ghost use Rattle.naga_words.specs.declared.unread.Unread.TheVariants as unread;

@@ -1,11 +1,10 @@
 //! The expressions that words describe, one function a form.
 
-ghost use Rattle.naga_words.specs.steps.ExpressionReaders.{access_index_of, access_of, array_length_of, as_expression_of, atomic_result_of, ballot_result_of, binary_of, call_result_of, constant_of, cooperative_load_of, cooperative_multiply_add_of, derivative_of, early_form_of, form_of, function_argument_of, global_variable_of, image_load_of, image_query_of, image_sample_of, intersection_of, late_form_of, literal_expression_of, load_of, local_variable_of, math_of, override_expression_of, proceed_result_of, relational_of, select_of, splat_of, subgroup_result_of, swizzle_of, unary_of, vertex_positions_of, workgroup_load_result_of, zero_value_of};
+ghost use Rattle.naga_words.specs.steps.ExpressionReaders.{HasNumber, access_index_of, access_of, array_length_of, as_expression_of, atomic_result_of, ballot_result_of, binary_of, call_result_of, constant_of, cooperative_load_of, cooperative_multiply_add_of, derivative_of, early_form_of, form_of, function_argument_of, global_variable_of, image_load_of, image_query_of, image_sample_of, intersection_of, late_form_of, literal_expression_of, load_of, local_variable_of, math_of, override_expression_of, proceed_result_of, relational_of, select_of, splat_of, subgroup_result_of, swizzle_of, unary_of, vertex_positions_of, workgroup_load_result_of, zero_value_of};
 ghost use Rattle.naga_words.specs.steps.Operands.{converted_width_of, level_of, query_of};
 ghost use Rattle.naga_words.specs.steps.Reading.{compose_of, expression_of};
 ghost use Rattle.naga_words.specs.declared.unread.Unread.TheVariants as unread;
 ghost use Rattle.naga_ir.specs.declared.expression.Expression.{Expression as ExpressionType};
-ghost use Rattle.naga_words.specs.Forms.{HasNumber};
 ghost use Rattle.std.specs.Prelude.{◌≡◌, IfErr, IfOk, None, Some};
 
 use crate::literals::literal;

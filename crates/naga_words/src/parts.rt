@@ -133,8 +133,8 @@ fn plain_part(opcode: u8, operands: &[u32]) -> Option<Part>
     }
 }
 
-/// What an item says of a function or entry point, of its opcode and its operands. The arms have every opcode: what they
-/// call refuses those that no such item has.
+/// What an item says of a function or entry point, of its opcode and its operands. The arms have every opcode: what
+/// they call refuses those that no such item has.
 pub(crate) fn part(alloc: Global, opcode: u8, operands: &[u32]) -> Result<Part, Unread>
     ensures found { IfOk result (λ x. IsPartForm opcode operands.now x) }
     ensures only { (x : PartType) → IsPartForm opcode operands.now x → IfOk result (λ read. read ≡ x) }

@@ -1,7 +1,8 @@
 -- What the readers of expressions return, of their operands.
-use Rattle.std.specs.Prelude.{◌==◌, ℕ, List, [], ◌∷◌, Option, Some, None, if◌then◌else◌, nat_lt, slice_get}
+use Rattle.std.specs.Prelude.{◌≡◌, ◌==◌, ℕ, List, [], ◌∷◌, Option, Some, None, if◌then◌else◌, nat_lt, slice_get}
 use Rattle.naga_ir.specs.declared.expression.Expression.{Expression}
 use Rattle.naga_ir.specs.declared.expression.Expression.TheVariants.{Access, AccessIndex, ArrayLength, As, AtomicResult, Binary, CallResult, Constant, CooperativeLoad, CooperativeMultiplyAdd, Derivative, FunctionArgument, GlobalVariable, ImageLoad, ImageQuery, ImageSample, Literal, Load, LocalVariable, Math, Override, RayQueryGetIntersection, RayQueryProceedResult, RayQueryVertexPositions, Relational, Select, Splat, SubgroupBallotResult, SubgroupOperationResult, Swizzle, Unary, WorkGroupUniformLoadResult, ZeroValue}
+use Rattle.naga_words.specs.Forms.{expression_form, expression_number}
 use Rattle.naga_words.specs.Tables.{binary_operators, bools, components, kinds, math_functions, relational_functions, unary_operators}
 use Rattle.naga_words.specs.steps.Operands.{◌>>=◌, converted_width_of, handle_of, level_of, literal_of, optional_component_of, query_of, size_of}
 
@@ -270,3 +271,7 @@ late_form_of z ws = if z == 16 then unary_of ws else if z == 17 then binary_of w
 -- the expression of a form, except `compose`
 abbrev pub form_of : ℕ → List ℕ → Option Expression
 form_of z ws = if nat_lt z 16 then early_form_of z ws else late_form_of z ws
+
+-- an expression has this number and these operands
+abbrev pub HasNumber : ℕ → List ℕ → Expression → Type 0
+HasNumber n ws x = (n ≡ expression_number x) × expression_form x ws

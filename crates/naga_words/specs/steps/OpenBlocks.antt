@@ -5,7 +5,8 @@ use Rattle.naga_ir.specs.declared.statement.Block.{Block}
 use Rattle.naga_ir.specs.declared.statement.Statement.{Statement}
 use Rattle.naga_ir.specs.declared.statement.Statement.TheViews.{out-Block}
 use Rattle.naga_ir.specs.declared.statement.SwitchCase.{SwitchCase}
-use Rattle.naga_words.specs.Bodies.{Marks, depth, depth_of_case, depth_of_statement, greatest, marks_of_block, marks_of_case, marks_of_statement, most_open}
+use Rattle.naga_words.specs.Bodies.{Marks, depth, greatest, marks_of_block, most_open}
+use Rattle.naga_words.specs.steps.BodyParts.{depth_of_case, depth_of_statement, marks_of_case, marks_of_statement}
 use Rattle.naga_words.specs.declared.blocks.OpenBlocks.{OpenBlocks}
 use Rattle.naga_words.specs.declared.blocks.Opener.{Opener}
 use Rattle.naga_words.specs.declared.blocks.Opener.TheVariants as opener

@@ -2,7 +2,7 @@
 use Rattle.std.specs.Prelude.{◌≡◌, ℕ, List, Option, None, Some, ⊤}
 use Rattle.naga_ir.specs.declared.ir.EntryPoint.{EntryPoint}
 use Rattle.naga_ir.specs.declared.ir.Function.{Function}
-use Rattle.naga_words.specs.Bodies.{IsPlain}
+use Rattle.naga_words.specs.steps.BodyParts.{IsPlain}
 use Rattle.naga_words.specs.Items.{AllParts, Head, all_parts, entry_point, function}
 use Rattle.naga_words.specs.Words.{ArePartsConsistent, HasNoEntryParts, IsEntryPointOf, IsFunctionOf, first_of, function_of}
 use Rattle.naga_words.specs.declared.functions.EntryParts.{EntryParts}

@@ -1,5 +1,5 @@
 -- Items while they are read.
-use Rattle.std.specs.Prelude.{◌≡◌, ℕ, List, [], ◌∷◌, ◌++◌}
+use Rattle.std.specs.Prelude.{ℕ, List, [], ◌∷◌, ◌++◌}
 use Rattle.naga_words.specs.Words.{AreItems, IsItemBefore}
 use Rattle.naga_words.specs.declared.draft.Draft.{Draft}
 use Rattle.naga_words.specs.declared.item.Item.{Item}

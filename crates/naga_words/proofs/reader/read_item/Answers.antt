@@ -1,4 +1,4 @@
-use Rattle.std.proofs.Common.{◌≡◌, ◌++◌, ◌∷◌, ◌/◌, ◌%◌, ◌≤◌, ℕ, [], Err, List, arith, length, refl, rules, subst, sym, take}
+use Rattle.std.proofs.Common.{◌≡◌, ◌++◌, ◌∷◌, ◌/◌, ◌%◌, ◌≤◌, ℕ, [], Err, List, length, rules, subst, sym, take}
 use Rattle.std.specs.Prelude.{IfErr}
 use Rattle.naga_words.specs.ItemForms.{IsForm}
 use Rattle.naga_words.specs.Words.{CanBegin, IsItemBefore}

@@ -1,4 +1,4 @@
-use Rattle.std.proofs.Common.{◌≡◌, ◌++◌, ◌∷◌, [], List, sym, subst}
+use Rattle.std.proofs.Common.{subst}
 use Rattle.std.proofs.lemmas.Result.{IfErr-weaker, IfOk-weaker}
 use Rattle.naga_words.specs.steps.Drafts.{SaysNoBlocks}
 use Rattle.naga_words.proofs.DraftLaws.{as_item, capabilities_added, capabilities_refused, comment_added, constant_added, constant_refused, expression_added, expression_refused, filter_added, filter_refused, flags_added, flags_refused, leaf_added, leaf_refused, not_item, override_added, override_refused, predeclared_added, resolved_added, resolved_refused, special_types_added, special_types_refused, type_added, type_refused, variable_added, variable_refused}

@@ -1,4 +1,4 @@
-use Rattle.std.proofs.Common.{◌≡◌, ◌++◌, ◌∷◌, [], List, sym, subst}
+use Rattle.std.proofs.Common.{subst}
 use Rattle.std.proofs.lemmas.Result.{IfErr-weaker, IfOk-weaker}
 use Rattle.naga_words.specs.steps.OpenFunctions.{SaysNoBlocks}
 use Rattle.naga_words.proofs.FunctionLaws.{argument_added, as_part, expression_added, expression_refused, filter_added, filter_refused, mark_added, mark_refused, mesh_added, mesh_misplaced, mesh_refused, name_added, not_part, payload_added, payload_misplaced, payload_refused, result_added, result_refused, sizes_added, sizes_misplaced, sizes_refused, variable_added, variable_refused}
