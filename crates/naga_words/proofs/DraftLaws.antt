@@ -14,15 +14,15 @@ use Rattle.naga_ir.specs.declared.ir.GlobalVariable.{GlobalVariable as GlobalVar
 use Rattle.naga_ir.specs.declared.ir.Module.{Module}
 use Rattle.naga_ir.specs.declared.ir.Override.{Override as OverrideType}
 use Rattle.naga_ir.specs.declared.types.«Type».{«Type»}
-use Rattle.naga_words.specs.Items.{AllSaid, Sections, all_said, functions_in, said_by, sections}
+use Rattle.naga_words.specs.Items.{AllSaid, Said, Sections, all_said, functions_in, said_by, sections}
 use Rattle.naga_words.specs.Words.{AreConsistent, CanBegin, first_of}
 use Rattle.naga_words.specs.declared.draft.Draft.{Draft}
 use Rattle.naga_words.specs.declared.item.Commented.{Commented}
 use Rattle.naga_words.specs.declared.item.Commented.TheVariants as on
 use Rattle.naga_words.specs.declared.item.Item.{Item}
 use Rattle.naga_words.specs.declared.item.Item.TheVariants.{Flags, Capabilities, Resolved, SpecialTypes, PredeclaredType, Filter, FilterLeaf, Comment, Type_, Constant, Override, GlobalVariable, Expression}
-use Rattle.naga_words.specs.steps.Drafts.{AreAdded, AreSections, IsSaid, with_comment}
-use Rattle.naga_ir.proofs.ListLaws.{distinct_once, distinct_push, pick_front, pick_too_many}
+use Rattle.naga_words.specs.steps.Drafts.{AreAdded, AreSections, IsSaid, drafted, with_comment}
+use Rattle.naga_ir.proofs.ListLaws.{distinct_once, distinct_push, pick_front, pick_too_many, with_option}
 use Rattle.naga_words.proofs.SaidLaws.{alone_after, first_after, fits_after, items_more, some_first, with_item}
 use Rattle.naga_words.proofs.SectionLaws.{sections_same}
 
@@ -44,6 +44,10 @@ are_consistent s flags capabilities resolved special leaves types few_types cons
   room_for_expressions = expressions;
   room_for_filters = filters;
 }
+
+-- an item says nothing of the settings or of the special types that are set once
+abbrev SaysNoSetting : Said → Type 0
+SaysNoSetting said = (said.flags ≡ None) × (said.capabilities ≡ None) × (said.resolved ≡ None) × (said.special_types ≡ None)
 
 module _ (items : List Item) (old : Draft) (h : AreAdded items old) where
   abbrev s : AllSaid
@@ -69,6 +73,19 @@ module _ (items : List Item) (old : Draft) (h : AreAdded items old) where
             (subst (λ es. AreSections (sections items) F es new.current) (sym e)
             (subst (λ o. AreSections (sections items) F E o) (sym o) h.sections_are)));
       }
+
+  -- items and one that says something of the module only were added if the module has it
+  in_module : (x : Item) (m : Module) → sections (x ∷ []) ≡ ([], []) → SaysNoSetting (said_by x) → AreConsistent (with_item s (said_by x))
+      → m ≡ drafted (with_item s (said_by x)) m.functions m.entry_points → m.functions ≡ F → m.entry_points ≡ E → AreAdded (items ++ x ∷ []) (record old { «module» = m })
+  in_module x m alone none consistent module_is f e =
+      more x (record old { «module» = m }) alone (record {
+        consistent = consistent;
+        module_is = module_is;
+        flags_are = h.said.flags_are ∙ ap (λ (o : Option ValidationFlags). first_of (with_option s.flags o)) (sym none.0);
+        capabilities_are = h.said.capabilities_are ∙ ap (λ (o : Option CapabilitySet). first_of (with_option s.capabilities o)) (sym none.1);
+        resolved_is = h.said.resolved_is ∙ ap (λ (o : Option Bool). first_of (with_option s.resolved o)) (sym none.2);
+        special_types_are = h.said.special_types_are ∙ ap (λ (o : Option (Option ℕ × Option ℕ × Option ℕ)). first_of (with_option s.special_types o)) (sym none.3);
+      }) f e refl
 
   pub flags_added : (a : ValidationFlags) (value : Option ValidationFlags) → old.flags ≡ None → value ≡ Some a → AreAdded (items ++ Flags a ∷ []) (record old { flags = value })
   flags_added a value none v =
@@ -122,177 +139,93 @@ module _ (items : List Item) (old : Draft) (h : AreAdded items old) where
       → AreAdded (items ++ FilterLeaf a ∷ []) (record old { «module» = record (old.«module») { diagnostic_filter_leaf = value } })
   leaf_added a value none v =
       let empty : first_of s.filter_leaves ≡ None = sym (ap (λ (m : Module). m.diagnostic_filter_leaf) h.said.module_is) ∙ none in
-      more (FilterLeaf a) _ refl (record {
-        consistent = are_consistent _ c.flags c.capabilities c.resolved c.special_types (alone_after s.filter_leaves a empty) c.types c.room_for_types c.room_for_constants c.room_for_overrides c.room_for_variables c.room_for_expressions c.room_for_filters;
-        module_is = ap (λ (o : Option ℕ). record (old.«module») { diagnostic_filter_leaf = o }) (v ∙ sym (first_after s.filter_leaves a empty))
-            ∙ ap (λ (m : Module). record m { diagnostic_filter_leaf = first_of (s.filter_leaves ++ a ∷ []); functions = F; entry_points = E }) h.said.module_is;
-        flags_are = h.said.flags_are;
-        capabilities_are = h.said.capabilities_are;
-        resolved_is = h.said.resolved_is;
-        special_types_are = h.said.special_types_are;
-      }) refl refl refl
+      in_module (FilterLeaf a) _ refl (refl, refl, refl, refl) (are_consistent _ c.flags c.capabilities c.resolved c.special_types (alone_after s.filter_leaves a empty) c.types c.room_for_types c.room_for_constants c.room_for_overrides c.room_for_variables c.room_for_expressions c.room_for_filters)
+      (ap (λ (o : Option ℕ). record (old.«module») { diagnostic_filter_leaf = o }) (v ∙ sym (first_after s.filter_leaves a empty))
+      ∙ ap (λ (m : Module). record m { diagnostic_filter_leaf = first_of (s.filter_leaves ++ a ∷ []); functions = F; entry_points = E }) h.said.module_is) refl refl
 
   pub filter_added : (a : DiagnosticFilterNode) (xs : List DiagnosticFilterNode) → xs ≡ old.«module».diagnostic_filters ++ a ∷ [] → length old.«module».diagnostic_filters < largest_u32
       → AreAdded (items ++ Filter a ∷ []) (record old { «module» = record (old.«module») { diagnostic_filters = xs } })
   filter_added a xs e room =
       let same : length old.«module».diagnostic_filters ≡ length s.filters = ap (λ (m : Module). length m.diagnostic_filters) h.said.module_is in
-      more (Filter a) _ refl (record {
-        consistent = are_consistent _ c.flags c.capabilities c.resolved c.special_types c.filter_leaves c.types c.room_for_types c.room_for_constants c.room_for_overrides c.room_for_variables c.room_for_expressions (fits_after s.filters a largest_u32 (omega (arith, room, same)));
-        module_is = ap (λ (xs : List DiagnosticFilterNode). record (old.«module») { diagnostic_filters = xs }) e
-            ∙ ap (λ (m : Module). record m { diagnostic_filters = m.diagnostic_filters ++ a ∷ []; functions = F; entry_points = E }) h.said.module_is;
-        flags_are = h.said.flags_are;
-        capabilities_are = h.said.capabilities_are;
-        resolved_is = h.said.resolved_is;
-        special_types_are = h.said.special_types_are;
-      }) refl refl refl
+      in_module (Filter a) _ refl (refl, refl, refl, refl) (are_consistent _ c.flags c.capabilities c.resolved c.special_types c.filter_leaves c.types c.room_for_types c.room_for_constants c.room_for_overrides c.room_for_variables c.room_for_expressions (fits_after s.filters a largest_u32 (omega (arith, room, same))))
+      (ap (λ (xs : List DiagnosticFilterNode). record (old.«module») { diagnostic_filters = xs }) e
+      ∙ ap (λ (m : Module). record m { diagnostic_filters = m.diagnostic_filters ++ a ∷ []; functions = F; entry_points = E }) h.said.module_is) refl refl
 
   pub constant_added : (a : ConstantType) (xs : List ConstantType) → xs ≡ old.«module».constants ++ a ∷ [] → length old.«module».constants < largest_u32
       → AreAdded (items ++ Constant a ∷ []) (record old { «module» = record (old.«module») { constants = xs } })
   constant_added a xs e room =
       let same : length old.«module».constants ≡ length s.constants = ap (λ (m : Module). length m.constants) h.said.module_is in
-      more (Constant a) _ refl (record {
-        consistent = are_consistent _ c.flags c.capabilities c.resolved c.special_types c.filter_leaves c.types c.room_for_types (fits_after s.constants a largest_u32 (omega (arith, room, same))) c.room_for_overrides c.room_for_variables c.room_for_expressions c.room_for_filters;
-        module_is = ap (λ (xs : List ConstantType). record (old.«module») { constants = xs }) e
-            ∙ ap (λ (m : Module). record m { constants = m.constants ++ a ∷ []; functions = F; entry_points = E }) h.said.module_is;
-        flags_are = h.said.flags_are;
-        capabilities_are = h.said.capabilities_are;
-        resolved_is = h.said.resolved_is;
-        special_types_are = h.said.special_types_are;
-      }) refl refl refl
+      in_module (Constant a) _ refl (refl, refl, refl, refl) (are_consistent _ c.flags c.capabilities c.resolved c.special_types c.filter_leaves c.types c.room_for_types (fits_after s.constants a largest_u32 (omega (arith, room, same))) c.room_for_overrides c.room_for_variables c.room_for_expressions c.room_for_filters)
+      (ap (λ (xs : List ConstantType). record (old.«module») { constants = xs }) e
+      ∙ ap (λ (m : Module). record m { constants = m.constants ++ a ∷ []; functions = F; entry_points = E }) h.said.module_is) refl refl
 
   pub override_added : (a : OverrideType) (xs : List OverrideType) → xs ≡ old.«module».overrides ++ a ∷ [] → length old.«module».overrides < largest_u32
       → AreAdded (items ++ Override a ∷ []) (record old { «module» = record (old.«module») { overrides = xs } })
   override_added a xs e room =
       let same : length old.«module».overrides ≡ length s.overrides = ap (λ (m : Module). length m.overrides) h.said.module_is in
-      more (Override a) _ refl (record {
-        consistent = are_consistent _ c.flags c.capabilities c.resolved c.special_types c.filter_leaves c.types c.room_for_types c.room_for_constants (fits_after s.overrides a largest_u32 (omega (arith, room, same))) c.room_for_variables c.room_for_expressions c.room_for_filters;
-        module_is = ap (λ (xs : List OverrideType). record (old.«module») { overrides = xs }) e
-            ∙ ap (λ (m : Module). record m { overrides = m.overrides ++ a ∷ []; functions = F; entry_points = E }) h.said.module_is;
-        flags_are = h.said.flags_are;
-        capabilities_are = h.said.capabilities_are;
-        resolved_is = h.said.resolved_is;
-        special_types_are = h.said.special_types_are;
-      }) refl refl refl
+      in_module (Override a) _ refl (refl, refl, refl, refl) (are_consistent _ c.flags c.capabilities c.resolved c.special_types c.filter_leaves c.types c.room_for_types c.room_for_constants (fits_after s.overrides a largest_u32 (omega (arith, room, same))) c.room_for_variables c.room_for_expressions c.room_for_filters)
+      (ap (λ (xs : List OverrideType). record (old.«module») { overrides = xs }) e
+      ∙ ap (λ (m : Module). record m { overrides = m.overrides ++ a ∷ []; functions = F; entry_points = E }) h.said.module_is) refl refl
 
   pub variable_added : (a : GlobalVariableType) (xs : List GlobalVariableType) → xs ≡ old.«module».global_variables ++ a ∷ [] → length old.«module».global_variables < largest_u32
       → AreAdded (items ++ GlobalVariable a ∷ []) (record old { «module» = record (old.«module») { global_variables = xs } })
   variable_added a xs e room =
       let same : length old.«module».global_variables ≡ length s.global_variables = ap (λ (m : Module). length m.global_variables) h.said.module_is in
-      more (GlobalVariable a) _ refl (record {
-        consistent = are_consistent _ c.flags c.capabilities c.resolved c.special_types c.filter_leaves c.types c.room_for_types c.room_for_constants c.room_for_overrides (fits_after s.global_variables a largest_u32 (omega (arith, room, same))) c.room_for_expressions c.room_for_filters;
-        module_is = ap (λ (xs : List GlobalVariableType). record (old.«module») { global_variables = xs }) e
-            ∙ ap (λ (m : Module). record m { global_variables = m.global_variables ++ a ∷ []; functions = F; entry_points = E }) h.said.module_is;
-        flags_are = h.said.flags_are;
-        capabilities_are = h.said.capabilities_are;
-        resolved_is = h.said.resolved_is;
-        special_types_are = h.said.special_types_are;
-      }) refl refl refl
+      in_module (GlobalVariable a) _ refl (refl, refl, refl, refl) (are_consistent _ c.flags c.capabilities c.resolved c.special_types c.filter_leaves c.types c.room_for_types c.room_for_constants c.room_for_overrides (fits_after s.global_variables a largest_u32 (omega (arith, room, same))) c.room_for_expressions c.room_for_filters)
+      (ap (λ (xs : List GlobalVariableType). record (old.«module») { global_variables = xs }) e
+      ∙ ap (λ (m : Module). record m { global_variables = m.global_variables ++ a ∷ []; functions = F; entry_points = E }) h.said.module_is) refl refl
 
   pub expression_added : (a : ExpressionType) (xs : List ExpressionType) → xs ≡ old.«module».global_expressions ++ a ∷ [] → length old.«module».global_expressions < largest_u32
       → AreAdded (items ++ Expression a ∷ []) (record old { «module» = record (old.«module») { global_expressions = xs } })
   expression_added a xs e room =
       let same : length old.«module».global_expressions ≡ length s.expressions = ap (λ (m : Module). length m.global_expressions) h.said.module_is in
-      more (Expression a) _ refl (record {
-        consistent = are_consistent _ c.flags c.capabilities c.resolved c.special_types c.filter_leaves c.types c.room_for_types c.room_for_constants c.room_for_overrides c.room_for_variables (fits_after s.expressions a largest_u32 (omega (arith, room, same))) c.room_for_filters;
-        module_is = ap (λ (xs : List ExpressionType). record (old.«module») { global_expressions = xs }) e
-            ∙ ap (λ (m : Module). record m { global_expressions = m.global_expressions ++ a ∷ []; functions = F; entry_points = E }) h.said.module_is;
-        flags_are = h.said.flags_are;
-        capabilities_are = h.said.capabilities_are;
-        resolved_is = h.said.resolved_is;
-        special_types_are = h.said.special_types_are;
-      }) refl refl refl
+      in_module (Expression a) _ refl (refl, refl, refl, refl) (are_consistent _ c.flags c.capabilities c.resolved c.special_types c.filter_leaves c.types c.room_for_types c.room_for_constants c.room_for_overrides c.room_for_variables (fits_after s.expressions a largest_u32 (omega (arith, room, same))) c.room_for_filters)
+      (ap (λ (xs : List ExpressionType). record (old.«module») { global_expressions = xs }) e
+      ∙ ap (λ (m : Module). record m { global_expressions = m.global_expressions ++ a ∷ []; functions = F; entry_points = E }) h.said.module_is) refl refl
 
   pub type_added : (a : «Type») (xs : List «Type») → xs ≡ old.«module».types ++ a ∷ [] → ¬ (Contains old.«module».types a) → length old.«module».types < largest_u32
       → AreAdded (items ++ Type_ a ∷ []) (record old { «module» = record (old.«module») { types = xs } })
   type_added a xs e different room =
       let same : old.«module».types ≡ s.types = ap (λ (m : Module). m.types) h.said.module_is in
       let few = ap length same in
-      more (Type_ a) _ refl (record {
-        consistent = are_consistent _ c.flags c.capabilities c.resolved c.special_types c.filter_leaves (distinct_push s.types a c.types (subst (λ ts. ¬ (Contains ts a)) same different)) (fits_after s.types a largest_u32 (omega (arith, room, few))) c.room_for_constants c.room_for_overrides c.room_for_variables c.room_for_expressions c.room_for_filters;
-        module_is = ap (λ (xs : List «Type»). record (old.«module») { types = xs }) e
-            ∙ ap (λ (m : Module). record m { types = m.types ++ a ∷ []; functions = F; entry_points = E }) h.said.module_is;
-        flags_are = h.said.flags_are;
-        capabilities_are = h.said.capabilities_are;
-        resolved_is = h.said.resolved_is;
-        special_types_are = h.said.special_types_are;
-      }) refl refl refl
+      in_module (Type_ a) _ refl (refl, refl, refl, refl) (are_consistent _ c.flags c.capabilities c.resolved c.special_types c.filter_leaves (distinct_push s.types a c.types (subst (λ ts. ¬ (Contains ts a)) same different)) (fits_after s.types a largest_u32 (omega (arith, room, few))) c.room_for_constants c.room_for_overrides c.room_for_variables c.room_for_expressions c.room_for_filters)
+      (ap (λ (xs : List «Type»). record (old.«module») { types = xs }) e
+      ∙ ap (λ (m : Module). record m { types = m.types ++ a ∷ []; functions = F; entry_points = E }) h.said.module_is) refl refl
 
   pub predeclared_added : (a : ℕ) (xs : List ℕ) → xs ≡ old.«module».special_types.others ++ a ∷ []
       → AreAdded (items ++ PredeclaredType a ∷ []) (record old { «module» = record (old.«module») { special_types = record (old.«module».special_types) { others = xs } } })
   predeclared_added a xs e =
-      more (PredeclaredType a) _ refl (record {
-        consistent = are_consistent _ c.flags c.capabilities c.resolved c.special_types c.filter_leaves c.types c.room_for_types c.room_for_constants c.room_for_overrides c.room_for_variables c.room_for_expressions c.room_for_filters;
-        module_is = ap (λ (xs : List ℕ). record (old.«module») { special_types = record (old.«module».special_types) { others = xs } }) e
-            ∙ ap (λ (m : Module). record m { special_types = record (m.special_types) { others = m.special_types.others ++ a ∷ [] }; functions = F; entry_points = E }) h.said.module_is;
-        flags_are = h.said.flags_are;
-        capabilities_are = h.said.capabilities_are;
-        resolved_is = h.said.resolved_is;
-        special_types_are = h.said.special_types_are;
-      }) refl refl refl
+      in_module (PredeclaredType a) _ refl (refl, refl, refl, refl) (are_consistent _ c.flags c.capabilities c.resolved c.special_types c.filter_leaves c.types c.room_for_types c.room_for_constants c.room_for_overrides c.room_for_variables c.room_for_expressions c.room_for_filters)
+      (ap (λ (xs : List ℕ). record (old.«module») { special_types = record (old.«module».special_types) { others = xs } }) e
+      ∙ ap (λ (m : Module). record m { special_types = record (m.special_types) { others = m.special_types.others ++ a ∷ [] }; functions = F; entry_points = E }) h.said.module_is) refl refl
 
   -- a comment was added
   pub comment_added : (commented : Commented) (comments : DocComments) → comments ≡ with_comment commented old.«module».doc_comments
       → AreAdded (items ++ Comment commented ∷ []) (record old { «module» = record (old.«module») { doc_comments = comments } })
   comment_added (on.Type_ a) comments e =
-      more (Comment (on.Type_ a)) _ refl (record {
-        consistent = are_consistent _ c.flags c.capabilities c.resolved c.special_types c.filter_leaves c.types c.room_for_types c.room_for_constants c.room_for_overrides c.room_for_variables c.room_for_expressions c.room_for_filters;
-        module_is = ap (λ (d : DocComments). record (old.«module») { doc_comments = d }) e
-            ∙ ap (λ (m : Module). record m { doc_comments = with_comment (on.Type_ a) m.doc_comments; functions = F; entry_points = E }) h.said.module_is;
-        flags_are = h.said.flags_are;
-        capabilities_are = h.said.capabilities_are;
-        resolved_is = h.said.resolved_is;
-        special_types_are = h.said.special_types_are;
-      }) refl refl refl
+      in_module (Comment (on.Type_ a)) _ refl (refl, refl, refl, refl) (are_consistent _ c.flags c.capabilities c.resolved c.special_types c.filter_leaves c.types c.room_for_types c.room_for_constants c.room_for_overrides c.room_for_variables c.room_for_expressions c.room_for_filters)
+      (ap (λ (d : DocComments). record (old.«module») { doc_comments = d }) e
+      ∙ ap (λ (m : Module). record m { doc_comments = with_comment (on.Type_ a) m.doc_comments; functions = F; entry_points = E }) h.said.module_is) refl refl
   comment_added (on.Member a b) comments e =
-      more (Comment (on.Member a b)) _ refl (record {
-        consistent = are_consistent _ c.flags c.capabilities c.resolved c.special_types c.filter_leaves c.types c.room_for_types c.room_for_constants c.room_for_overrides c.room_for_variables c.room_for_expressions c.room_for_filters;
-        module_is = ap (λ (d : DocComments). record (old.«module») { doc_comments = d }) e
-            ∙ ap (λ (m : Module). record m { doc_comments = with_comment (on.Member a b) m.doc_comments; functions = F; entry_points = E }) h.said.module_is;
-        flags_are = h.said.flags_are;
-        capabilities_are = h.said.capabilities_are;
-        resolved_is = h.said.resolved_is;
-        special_types_are = h.said.special_types_are;
-      }) refl refl refl
+      in_module (Comment (on.Member a b)) _ refl (refl, refl, refl, refl) (are_consistent _ c.flags c.capabilities c.resolved c.special_types c.filter_leaves c.types c.room_for_types c.room_for_constants c.room_for_overrides c.room_for_variables c.room_for_expressions c.room_for_filters)
+      (ap (λ (d : DocComments). record (old.«module») { doc_comments = d }) e
+      ∙ ap (λ (m : Module). record m { doc_comments = with_comment (on.Member a b) m.doc_comments; functions = F; entry_points = E }) h.said.module_is) refl refl
   comment_added (on.Function a) comments e =
-      more (Comment (on.Function a)) _ refl (record {
-        consistent = are_consistent _ c.flags c.capabilities c.resolved c.special_types c.filter_leaves c.types c.room_for_types c.room_for_constants c.room_for_overrides c.room_for_variables c.room_for_expressions c.room_for_filters;
-        module_is = ap (λ (d : DocComments). record (old.«module») { doc_comments = d }) e
-            ∙ ap (λ (m : Module). record m { doc_comments = with_comment (on.Function a) m.doc_comments; functions = F; entry_points = E }) h.said.module_is;
-        flags_are = h.said.flags_are;
-        capabilities_are = h.said.capabilities_are;
-        resolved_is = h.said.resolved_is;
-        special_types_are = h.said.special_types_are;
-      }) refl refl refl
+      in_module (Comment (on.Function a)) _ refl (refl, refl, refl, refl) (are_consistent _ c.flags c.capabilities c.resolved c.special_types c.filter_leaves c.types c.room_for_types c.room_for_constants c.room_for_overrides c.room_for_variables c.room_for_expressions c.room_for_filters)
+      (ap (λ (d : DocComments). record (old.«module») { doc_comments = d }) e
+      ∙ ap (λ (m : Module). record m { doc_comments = with_comment (on.Function a) m.doc_comments; functions = F; entry_points = E }) h.said.module_is) refl refl
   comment_added (on.EntryPoint a) comments e =
-      more (Comment (on.EntryPoint a)) _ refl (record {
-        consistent = are_consistent _ c.flags c.capabilities c.resolved c.special_types c.filter_leaves c.types c.room_for_types c.room_for_constants c.room_for_overrides c.room_for_variables c.room_for_expressions c.room_for_filters;
-        module_is = ap (λ (d : DocComments). record (old.«module») { doc_comments = d }) e
-            ∙ ap (λ (m : Module). record m { doc_comments = with_comment (on.EntryPoint a) m.doc_comments; functions = F; entry_points = E }) h.said.module_is;
-        flags_are = h.said.flags_are;
-        capabilities_are = h.said.capabilities_are;
-        resolved_is = h.said.resolved_is;
-        special_types_are = h.said.special_types_are;
-      }) refl refl refl
+      in_module (Comment (on.EntryPoint a)) _ refl (refl, refl, refl, refl) (are_consistent _ c.flags c.capabilities c.resolved c.special_types c.filter_leaves c.types c.room_for_types c.room_for_constants c.room_for_overrides c.room_for_variables c.room_for_expressions c.room_for_filters)
+      (ap (λ (d : DocComments). record (old.«module») { doc_comments = d }) e
+      ∙ ap (λ (m : Module). record m { doc_comments = with_comment (on.EntryPoint a) m.doc_comments; functions = F; entry_points = E }) h.said.module_is) refl refl
   comment_added (on.Constant a) comments e =
-      more (Comment (on.Constant a)) _ refl (record {
-        consistent = are_consistent _ c.flags c.capabilities c.resolved c.special_types c.filter_leaves c.types c.room_for_types c.room_for_constants c.room_for_overrides c.room_for_variables c.room_for_expressions c.room_for_filters;
-        module_is = ap (λ (d : DocComments). record (old.«module») { doc_comments = d }) e
-            ∙ ap (λ (m : Module). record m { doc_comments = with_comment (on.Constant a) m.doc_comments; functions = F; entry_points = E }) h.said.module_is;
-        flags_are = h.said.flags_are;
-        capabilities_are = h.said.capabilities_are;
-        resolved_is = h.said.resolved_is;
-        special_types_are = h.said.special_types_are;
-      }) refl refl refl
+      in_module (Comment (on.Constant a)) _ refl (refl, refl, refl, refl) (are_consistent _ c.flags c.capabilities c.resolved c.special_types c.filter_leaves c.types c.room_for_types c.room_for_constants c.room_for_overrides c.room_for_variables c.room_for_expressions c.room_for_filters)
+      (ap (λ (d : DocComments). record (old.«module») { doc_comments = d }) e
+      ∙ ap (λ (m : Module). record m { doc_comments = with_comment (on.Constant a) m.doc_comments; functions = F; entry_points = E }) h.said.module_is) refl refl
   comment_added (on.GlobalVariable a) comments e =
-      more (Comment (on.GlobalVariable a)) _ refl (record {
-        consistent = are_consistent _ c.flags c.capabilities c.resolved c.special_types c.filter_leaves c.types c.room_for_types c.room_for_constants c.room_for_overrides c.room_for_variables c.room_for_expressions c.room_for_filters;
-        module_is = ap (λ (d : DocComments). record (old.«module») { doc_comments = d }) e
-            ∙ ap (λ (m : Module). record m { doc_comments = with_comment (on.GlobalVariable a) m.doc_comments; functions = F; entry_points = E }) h.said.module_is;
-        flags_are = h.said.flags_are;
-        capabilities_are = h.said.capabilities_are;
-        resolved_is = h.said.resolved_is;
-        special_types_are = h.said.special_types_are;
-      }) refl refl refl
+      in_module (Comment (on.GlobalVariable a)) _ refl (refl, refl, refl, refl) (are_consistent _ c.flags c.capabilities c.resolved c.special_types c.filter_leaves c.types c.room_for_types c.room_for_constants c.room_for_overrides c.room_for_variables c.room_for_expressions c.room_for_filters)
+      (ap (λ (d : DocComments). record (old.«module») { doc_comments = d }) e
+      ∙ ap (λ (m : Module). record m { doc_comments = with_comment (on.GlobalVariable a) m.doc_comments; functions = F; entry_points = E }) h.said.module_is) refl refl
 
   pub flags_refused : (a : ValidationFlags) → ¬ (old.flags ≡ None) → ¬ (CanBegin (items ++ Flags a ∷ []))
   flags_refused a set begins =
