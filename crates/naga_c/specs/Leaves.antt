@@ -1,0 +1,159 @@
+-- What a call on the leaves of types writes.
+use Rattle.std.specs.Prelude.{◌≡◌, ◌≢◌, ◌⊎◌, ◌+◌, ◌<◌, ◌≤◌, ℕ, List, [], ◌∷◌, ◌++◌, Some, length, map, slice_get, take}
+use Rattle.std.specs.List.{All, AllPairs, AllZip, Contains, flat_map}
+use Rattle.naga_arena.specs.Numbers.{largest_u32}
+use Rattle.naga_info.specs.ModuleInfo.{ModuleInfoLists}
+use Rattle.naga_ir.specs.ItemReferences.{global_lists}
+use Rattle.naga_ir.specs.declared.ir.Module.{Module}
+use Rattle.naga_leaves.specs.LeavesFrom.{HasLeaf}
+use Rattle.naga_leaves.specs.Order.{IsAtOrAfter}
+use Rattle.naga_types.specs.declared.info.TypeInfo.{TypeInfo}
+use Rattle.naga_typing.specs.FullTyping.{full_resolves}
+use Rattle.naga_typing.specs.Leaves.{LeafBytes, elements}
+use Rattle.naga_valid.specs.Accepted.{Accepts}
+use Rattle.naga_words.specs.declared.draft.Contents.{Contents}
+use Rattle.naga_c.specs.Buffers.{BeginsWith}
+use Rattle.naga_c.specs.Calls.{IsNotAccepted}
+use Rattle.naga_c.specs.Verdicts.{settings_in}
+use Rattle.naga_c.specs.declared.results.Counts.{Counts}
+use Rattle.naga_c.specs.declared.results.LeafRow.{LeafRow}
+use Rattle.naga_c.specs.declared.status.Status.{Status}
+use Rattle.naga_c.specs.declared.status.Status.TheVariants.{Done, OutOfMemory, NoType, Room}
+
+-- a leaf that was found: the indexes that lead to it, and its bytes
+pub record Found : Type 0 where
+  pub path : List ℕ
+  pub leaf : LeafBytes
+
+-- the second of two that were found comes after the first, in the order of paths
+abbrev pub ComesAfter : Found → Found → Type 0
+ComesAfter a b = IsAtOrAfter a.path b.path × (a.path ≢ b.path)
+
+-- `found` are the first of all of which `IsLeaf` holds, in the order of paths
+pub record AreFirst (IsLeaf : Found → Type 0) (found : List Found) : Type 0 where
+  pub leaves : All IsLeaf found
+  pub in_order : AllPairs ComesAfter found
+  pub first : (other : Found) → IsLeaf other → Contains found other ⊎ All (λ f. ComesAfter f other) found
+
+-- `found` are all of which `IsLeaf` holds, in the order of paths
+pub record AreAll (IsLeaf : Found → Type 0) (found : List Found) : Type 0 where
+  pub first : AreFirst IsLeaf found
+  pub all : (other : Found) → IsLeaf other → Contains found other
+
+-- `found` is a leaf of the type of index `ty` of the module `m`, if a runtime-sized array has `n` elements
+abbrev pub IsLeafOf : Module → ℕ → ℕ → Found → Type 0
+IsLeafOf m n ty found = HasLeaf (global_lists m) (elements (global_lists m) n) ty found.path found.leaf
+
+-- a leaf of the type that was asked about at the place `query`
+pub record Answer : Type 0 where
+  pub query : ℕ
+  pub found : Found
+
+-- a leaf that was found, as one of the type that was asked about at the place `query`
+abbrev pub answer_to : ℕ → Found → Answer
+answer_to query found = record { query = query; found = found }
+
+-- the leaf at a path, as an answer to the question at the place `query`
+abbrev pub answer : ℕ → List ℕ → LeafBytes → Answer
+answer query path leaf = answer_to query (record { path = path; leaf = leaf })
+
+-- the leaves that were found of each type that was asked about, from the place `query` on
+abbrev pub answers_from : ℕ → List (List Found) → List Answer
+answers_from query [] = []
+answers_from query (found ∷ others) = map (answer_to query) found ++ answers_from (query + 1) others
+
+-- the row of an answer whose path begins at the place `at` of the buffer of paths
+abbrev pub row_of : ℕ → Answer → LeafRow
+row_of at a = record { first = a.found.leaf.first; path_at = at; path_length = length a.found.path; size = a.found.leaf.size; alignment = a.found.leaf.alignment; query = a.query }
+
+-- the rows of answers whose paths follow one another from the place `at` on
+abbrev pub rows_from : ℕ → List Answer → List LeafRow
+rows_from at [] = []
+rows_from at (a ∷ answers) = row_of at a ∷ rows_from (at + length a.found.path) answers
+
+-- the paths of answers, one after another
+abbrev pub paths_of : List Answer → List ℕ
+paths_of answers = flat_map (λ (a : Answer). a.found.path) answers
+
+-- two buffers, and how much of them is written
+pub record Buffers : Type 0 where
+  pub leaves : List LeafRow
+  pub paths : List ℕ
+  pub counts : Counts
+
+-- these two buffers, of which so much is written
+abbrev pub buffers : List LeafRow → List ℕ → Counts → Buffers
+buffers leaves paths counts = record { leaves = leaves; paths = paths; counts = counts }
+
+-- the buffers `old` became `new`, which begin with the rows and the paths of `answers`, as many as the counts say
+pub record AreWritten (answers : List Answer) (old new : Buffers) : Type 0 where
+  pub leaves : BeginsWith (rows_from 0 answers) old.leaves new.leaves
+  pub paths : BeginsWith (paths_of answers) old.paths new.paths
+  pub as_many : new.counts ≡ record { leaves = length answers; paths = length (paths_of answers) }
+
+-- `added` were written to the buffers `old`, which are `new` then, after all that was written to them before
+abbrev pub AddsAnswers : List Answer → (old new : Buffers) → Type 0
+AddsAnswers added old new = (answers : List Answer) (first : Buffers) → AreWritten answers first old → AreWritten (answers ++ added) first new
+
+-- there is no room for a leaf with this path: one of the buffers is full, or the path is longer than a row can say
+pub data HasNoRoom (buffers : Buffers) (path : List ℕ) : Type 0 where
+  no_row : length buffers.leaves ≤ buffers.counts.leaves → HasNoRoom buffers path
+  no_path : length buffers.paths < buffers.counts.paths + length path → HasNoRoom buffers path
+  too_long : largest_u32 < length path → HasNoRoom buffers path
+
+-- not all leaves of which `IsLeaf` holds were written: `found` were, and the buffers have no room for the next, or
+-- memory was refused
+pub data StopsAfter (IsLeaf : Found → Type 0) (found : List Found) (buffers : Buffers) (status : Status) : Type 0 where
+  full : (next : Found) → AreFirst IsLeaf (found ++ next ∷ []) → HasNoRoom buffers next.path → status ≡ Room → StopsAfter IsLeaf found buffers status
+  no_memory : AreFirst IsLeaf found → status ≡ OutOfMemory → StopsAfter IsLeaf found buffers status
+
+-- the leaves of which `IsLeaf` holds were found up to a place, and all of them if the status says so
+pub data EndsAfter (IsLeaf : Found → Type 0) (found : List Found) (buffers : Buffers) (status : Status) : Type 0 where
+  done : AreAll IsLeaf found → status ≡ Done → EndsAfter IsLeaf found buffers status
+  stopped : StopsAfter IsLeaf found buffers status → EndsAfter IsLeaf found buffers status
+
+-- a call wrote the leaves of the type of index `ty` of the module `m`, as answers to the question at the place `query`,
+-- where a runtime-sized array has `n` elements
+pub record WritesType (m : Module) (n ty query : ℕ) (old new : Buffers) (status : Status) : Type 0 where
+  pub found : List Found
+  pub added : AddsAnswers (map (answer_to query) found) old new
+  pub ends : EndsAfter (IsLeafOf m n ty) found new status
+
+-- all types of these indexes are in the module `m`
+abbrev pub HasTypes : Module → List ℕ → Type 0
+HasTypes m types = All (λ ty. ty < length m.types) types
+
+-- of each of `types` of the module `m` all leaves were found
+abbrev pub AreLeavesOfEach : Module → ℕ → List ℕ → List (List Found) → Type 0
+AreLeavesOfEach m n types found = AllZip (λ ty f. AreAll (IsLeafOf m n ty) f) types found
+
+-- a call on an accepted module `m` wrote `answers`, and left `buffers` and a status: all leaves of `types`, in their
+-- order, where a runtime-sized array has `n` elements; or those of the first types and the first ones of the next
+pub data ReportsLeaves (m : Module) (types : List ℕ) (n : ℕ) (answers : List Answer) (buffers : Buffers) (status : Status) : Type 0 where
+  no_type : ¬ (HasTypes m types) → answers ≡ [] → status ≡ NoType → ReportsLeaves m types n answers buffers status
+  all : HasTypes m types → (found : List (List Found)) → AreLeavesOfEach m n types found → answers ≡ answers_from 0 found → status ≡ Done → ReportsLeaves m types n answers buffers status
+  some : HasTypes m types → (found : List (List Found)) (ty : ℕ) (last : List Found) → AreLeavesOfEach m n (take (length found) types) found → slice_get types (length found) ≡ Some ty
+      → answers ≡ answers_from 0 (found ++ last ∷ []) → StopsAfter (IsLeafOf m n ty) last buffers status → ReportsLeaves m types n answers buffers status
+  too_many : HasTypes m types → (found : List (List Found)) → AreLeavesOfEach m n (take (length found) types) found → largest_u32 < length found → length found < length types
+      → answers ≡ answers_from 0 found → status ≡ Room → ReportsLeaves m types n answers buffers status
+
+-- a call on an accepted module found the buffers `old` and left `new`: the answers that it wrote
+pub record WritesAll (m : Module) (types : List ℕ) (n : ℕ) (old new : Buffers) (status : Status) : Type 0 where
+  pub answers : List Answer
+  pub added : AddsAnswers answers old new
+  pub reported : ReportsLeaves m types n answers new status
+
+-- nothing is written
+abbrev pub no_counts : Counts
+no_counts = record { leaves = 0; paths = 0 }
+
+-- a call left the buffers `old` as they were
+abbrev pub LeavesBuffers : (old new : Buffers) → Type 0
+LeavesBuffers old new = new ≡ record old { counts = no_counts }
+
+-- a call on what words say found the buffers `old` and left `new`, which begin with what it found of the leaves of
+-- `types`, if the module is accepted, and else are as they were
+pub data ChecksLeaves (contents : Contents) (types : List ℕ) (n : ℕ) (old new : Buffers) (status : Status) : Type 0 where
+  accepted : (infos : List TypeInfo) (lists : ModuleInfoLists) → Accepts full_resolves contents.«module» (settings_in contents) infos lists
+      → (answers : List Answer) → AreWritten answers old new → ReportsLeaves contents.«module» types n answers new status → ChecksLeaves contents types n old new status
+  not_accepted : IsNotAccepted contents.«module» (settings_in contents) (λ _. LeavesBuffers old new) status → ChecksLeaves contents types n old new status

@@ -1,0 +1,32 @@
+-- The numbers of what calls return.
+use Rattle.std.specs.Prelude.{◌≡◌, ℕ}
+use Rattle.naga_c.specs.declared.status.Status.{Status}
+use Rattle.naga_c.specs.declared.status.Status.TheVariants.{Done, Refused, Unreadable, OutOfMemory, Room, NoType}
+use Rattle.naga_report.specs.declared.report.Outcome.{Outcome}
+use Rattle.naga_report.specs.declared.report.Outcome.TheVariants as report
+use Rattle.naga_words.specs.declared.reader.WordsError.{WordsError}
+use Rattle.naga_words.specs.declared.reader.WordsError.TheVariants as words
+
+-- the number of a status
+abbrev pub code : Status → ℕ
+code Done = 0
+code Refused = 1
+code Unreadable = 2
+code OutOfMemory = 3
+code Room = 4
+code NoType = 5
+
+-- a call returned the number of a status of which this holds
+abbrev pub Returns : ℕ → (Status → Type 0) → Type 0
+Returns number Holds = (status : Status) × (number ≡ code status) × Holds status
+
+-- the status of a kind of report, whose number is the exit status of the program
+abbrev pub status_of : Outcome → Status
+status_of report.Accepted = Done
+status_of report.Refused = Refused
+status_of report.Unreadable = Unreadable
+
+-- the status of words that were not read
+abbrev pub unread_status : WordsError → Status
+unread_status (words.Item _) = Unreadable
+unread_status words.OutOfMemory = OutOfMemory

@@ -1,0 +1,62 @@
+-- What calls write of a module that can't be read, or that is refused.
+use Rattle.std.specs.Prelude.{ℕ, length}
+use Rattle.naga_ir.specs.declared.ir.Module.{Module}
+use Rattle.naga_valid.specs.State.{Settings}
+use Rattle.naga_valid.specs.declared.error.ValidationError.{ValidationError}
+use Rattle.naga_valid.specs.declared.error.ValidationError.TheVariants.{InvalidHandle, Layouter, Type_, ConstExpression, ArraySizeError, Constant, Override, Corrupted, OutOfMemory}
+use Rattle.naga_words.specs.declared.draft.Contents.{Contents}
+use Rattle.naga_words.specs.declared.reader.WordsError.{WordsError}
+use Rattle.naga_words.specs.declared.reader.WordsError.TheVariants as words
+use Rattle.naga_c.specs.Refusals.{refusal_of}
+use Rattle.naga_c.specs.declared.results.Outcome.{Outcome}
+use Rattle.naga_c.specs.declared.status.Status.{Status}
+use Rattle.naga_c.specs.declared.status.Status.TheVariants as status
+
+-- nothing was found out
+abbrev pub no_outcome : Outcome
+no_outcome = record { index = 0; types = 0; functions = 0; entry_points = 0; written = 0; stage = 0; error = 0; cause = 0; expression = 0 }
+
+-- what is written of words of which the first that can't be read has the index `at`
+abbrev pub unreadable_at : ℕ → Outcome
+unreadable_at at = record no_outcome { index = at }
+
+-- what is written of words that were not read
+abbrev pub unread_outcome : WordsError → Outcome
+unread_outcome (words.Item at) = unreadable_at at
+unread_outcome words.OutOfMemory = no_outcome
+
+-- how many types, functions and entry points a module has
+abbrev pub counts_of : Module → Outcome
+counts_of m = record no_outcome { types = length m.types; functions = length m.functions; entry_points = length m.entry_points }
+
+-- the settings by which the module of words is validated, as they say
+abbrev pub settings_in : Contents → Settings
+settings_in contents = record { flags = contents.flags; capabilities = contents.capabilities; resolved = contents.resolved }
+
+-- the status of a module that is not accepted
+abbrev pub refused_status : ValidationError → Status
+refused_status (InvalidHandle e) = status.Refused
+refused_status (Layouter e) = status.Refused
+refused_status (Type_ handle name source) = status.Refused
+refused_status (ConstExpression handle source) = status.Refused
+refused_status (ArraySizeError handle) = status.Refused
+refused_status (Constant handle name source) = status.Refused
+refused_status (Override handle name source) = status.Refused
+refused_status Corrupted = status.Refused
+refused_status OutOfMemory = status.OutOfMemory
+
+-- what is written of a module that is refused with an error
+abbrev pub refused_by : Module → ValidationError → Outcome
+refused_by m e = let r = refusal_of e in record (counts_of m) { index = r.index; stage = r.stage; error = r.error; cause = r.cause }
+
+-- what is written of a module that is not accepted
+abbrev pub refused_outcome : Module → ValidationError → Outcome
+refused_outcome m (InvalidHandle e) = refused_by m (InvalidHandle e)
+refused_outcome m (Layouter e) = refused_by m (Layouter e)
+refused_outcome m (Type_ handle name source) = refused_by m (Type_ handle name source)
+refused_outcome m (ConstExpression handle source) = refused_by m (ConstExpression handle source)
+refused_outcome m (ArraySizeError handle) = refused_by m (ArraySizeError handle)
+refused_outcome m (Constant handle name source) = refused_by m (Constant handle name source)
+refused_outcome m (Override handle name source) = refused_by m (Override handle name source)
+refused_outcome m Corrupted = refused_by m Corrupted
+refused_outcome m OutOfMemory = no_outcome

@@ -1,0 +1,177 @@
+//! The call on the leaves of types.
+
+ghost use Rattle.naga_arena.specs.Numbers.{largest_u32};
+ghost use Rattle.naga_c.specs.Leaves.{AddsAnswers, ChecksLeaves, HasNoRoom, HasTypes, WritesAll, WritesType, answer, buffers, no_counts};
+ghost use Rattle.naga_ir.specs.Handles.{GlobalReferencesOk};
+ghost use Rattle.naga_ir.specs.ItemReferences.{global_lists};
+ghost use Rattle.naga_leaves.specs.Leaf.{bytes_of};
+ghost use Rattle.std.specs.Prelude.{◌≡◌, ◌<◌, ◌≤◌, ◌↔◌, [], ◌∷◌, IsFalse, IsTrue, length};
+
+use crate::results::{Counts, LeafRow};
+use crate::status::Status;
+use crate::verdict::{refused_status, validate, validator_for};
+use naga_valid::{Handle, Leaf, Module, TypeTag, leaves_of};
+use naga_words::Contents;
+use std::alloc::Global;
+
+/// The types whose leaves are asked for, of what words say.
+#[derive(Clone, Copy)]
+pub struct Queries<'a> {
+    pub contents: &'a Contents,
+    pub types: &'a [u32],
+    /// How many elements a runtime-sized array has.
+    pub length: u32,
+}
+
+/// One type whose leaves are asked for.
+#[derive(Clone, Copy)]
+struct Query<'a> {
+    module: &'a Module,
+    ty: Handle<TypeTag>,
+    /// How many elements a runtime-sized array has.
+    length: u32,
+    /// Its place among the types that are asked about.
+    place: u32,
+}
+
+/// A leaf that a cursor came to.
+#[derive(Clone, Copy)]
+struct LeafAt<'a> {
+    /// The place of its type among the types that are asked about.
+    place: u32,
+    leaf: Leaf,
+    path: &'a [u32],
+}
+
+/// Adds a leaf and its path, and returns whether there was room.
+fn push(visited: LeafAt<'_>, leaves: &mut [LeafRow], paths: &mut [u32], counts: &mut Counts) -> bool
+    ensures added { IsTrue result
+        → AddsAnswers (answer visited.entry.place visited.entry.path.now (bytes_of visited.entry.leaf) ∷ [])
+        (buffers leaves.old paths.old counts.old) (buffers leaves.new paths.new counts.new) }
+    ensures full { IsFalse result → HasNoRoom (buffers leaves.old paths.old counts.old) visited.entry.path.now }
+    ensures same { IsFalse result
+        → buffers leaves.new paths.new counts.new ≡ buffers leaves.old paths.old counts.old }
+{
+    let Ok(path_length) = u32::try_from(visited.path.len()) else {
+        return false;
+    };
+    let first = counts.leaves as usize;
+    let path_at = counts.paths as usize;
+    let Some(end) = path_at.checked_add(visited.path.len()) else {
+        return false;
+    };
+    if first >= leaves.len() || end > paths.len() {
+        return false;
+    }
+    paths[path_at..end].copy_from_slice(visited.path);
+    leaves[first] = LeafRow {
+        first: visited.leaf.first,
+        path_at: path_at as u64,
+        path_length,
+        size: visited.leaf.size,
+        alignment: visited.leaf.alignment,
+        query: visited.place,
+    };
+    counts.leaves += 1;
+    counts.paths = end as u64;
+    true
+}
+
+/// Writes the leaves of one type.
+fn write_leaves(
+    alloc: Global,
+    query: Query<'_>,
+    leaves: &mut [LeafRow],
+    paths: &mut [u32],
+    counts: &mut Counts,
+) -> Status
+    requires exists { query.ty < length query.«module».now.types }
+    requires references { GlobalReferencesOk (global_lists query.«module».now) }
+    ensures { WritesType query.entry.«module».now query.entry.length query.entry.ty query.entry.place
+        (buffers leaves.old paths.old counts.old) (buffers leaves.new paths.new counts.new) result }
+{
+    let mut cursor = leaves_of(alloc, query.module, query.ty, query.length);
+    'leaves: loop {
+        match cursor.next() {
+            Ok(Some(leaf)) => {
+                let visited = LeafAt {
+                    place: query.place,
+                    leaf,
+                    path: cursor.path(),
+                };
+                if !push(visited, leaves, paths, counts) {
+                    return Status::Room;
+                }
+            }
+            Ok(None) => return Status::Done,
+            Err(_) => return Status::OutOfMemory,
+        }
+    }
+}
+
+/// Whether a module has a type of each index. So nothing is written if one is missing.
+fn has_types(module: &Module, types: &[u32]) -> bool
+    ensures all { IsTrue result ↔ HasTypes «module».now types.now }
+    ensures bound { length «module».now.types ≤ largest_u32 }
+{
+    let count = module.types.len();
+    for ty in types {
+        if *ty as usize >= count {
+            return false;
+        }
+    }
+    true
+}
+
+/// Writes the leaves of each type that is asked about, up to the first that has no room.
+fn write_all(
+    alloc: Global,
+    queries: Queries<'_>,
+    leaves: &mut [LeafRow],
+    paths: &mut [u32],
+    counts: &mut Counts,
+) -> Status
+    requires { GlobalReferencesOk (global_lists queries.contents.now.«module») }
+    ensures { WritesAll queries.entry.contents.now.«module» queries.entry.types.now queries.entry.length
+        (buffers leaves.old paths.old counts.old) (buffers leaves.new paths.new counts.new) result }
+{
+    let module = &queries.contents.module;
+    if !has_types(module, queries.types) {
+        return Status::NoType;
+    }
+    for (index, ty) in queries.types.iter().enumerate() {
+        let Ok(place) = u32::try_from(index) else {
+            return Status::Room;
+        };
+        let query = Query {
+            module,
+            ty: Handle::new(*ty),
+            length: queries.length,
+            place,
+        };
+        match write_leaves(alloc, query, leaves, paths, counts) {
+            Status::Done => {}
+            other => return other,
+        }
+    }
+    Status::Done
+}
+
+/// Writes the leaves of types of words that were read.
+pub(crate) fn check_leaves(
+    alloc: Global,
+    queries: Queries<'_>,
+    leaves: &mut [LeafRow],
+    paths: &mut [u32],
+    counts: &mut Counts,
+) -> Status
+    requires { counts.old ≡ no_counts }
+    ensures { ChecksLeaves queries.entry.contents.now queries.entry.types.now queries.entry.length
+        (buffers leaves.old paths.old counts.old) (buffers leaves.new paths.new counts.new) result }
+{
+    let mut validator = validator_for(alloc, queries.contents);
+    match validate(&mut validator, queries.contents) {
+        Ok(_) => write_all(alloc, queries, leaves, paths, counts),
+        Err(error) => refused_status(error.as_inner()),
+    }
+}

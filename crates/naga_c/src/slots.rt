@@ -1,0 +1,66 @@
+//! The call on slots of immediate data.
+
+ghost use Rattle.naga_c.specs.Slots.{AreSlotsOf, ChecksSlots, IsShareable};
+ghost use Rattle.naga_ir.specs.Handles.{GlobalReferencesOk};
+ghost use Rattle.naga_ir.specs.ItemReferences.{global_lists};
+ghost use Rattle.std.specs.Prelude.{◌≡◌, MatchOption, length};
+
+use crate::status::Status;
+use crate::verdict::{refused_status, validate, validator_for};
+use naga_typing::context::to_ctx;
+use naga_valid::{Flags, FullTyping, Handle, ImmediateSlots, Module, TypeFlags, Validator};
+use naga_words::Contents;
+use std::alloc::Global;
+
+/// The slots that a value of a type of an accepted module uses from a byte on, if the module has the type and hosts may
+/// share its values. The members of other structs may all begin at byte 0, and the walk through them would take time
+/// that doubles with each struct inside another.
+fn slots_of(
+    module: &Module,
+    validator: &Validator<FullTyping>,
+    ty: u32,
+    offset: u32,
+) -> Option<ImmediateSlots>
+    requires same_length { length validator.now.infos ≡ length «module».now.types }
+    requires references { GlobalReferencesOk (global_lists «module».now) }
+    ensures { MatchOption result (¬ (IsShareable validator.now.infos ty))
+        (λ slots. IsShareable validator.now.infos ty × AreSlotsOf «module».now ty offset slots) }
+{
+    if ty as usize >= module.types.len() {
+        return None;
+    }
+    let handle = Handle::new(ty);
+    if !validator
+        .type_info(handle)
+        .flags
+        .contains(TypeFlags::HOST_SHAREABLE)
+    {
+        return None;
+    }
+    let inner = &module.types[handle].inner;
+    Some(ImmediateSlots::from_type(inner, offset, &module.types, to_ctx(module)))
+}
+
+/// Writes the slots of a type of words that were read.
+pub(crate) fn check_slots(
+    alloc: Global,
+    contents: &Contents,
+    ty: u32,
+    offset: u32,
+    slots: &mut u64,
+) -> Status
+    requires { slots.old ≡ 0 }
+    ensures { ChecksSlots contents.now ty offset slots.new result }
+{
+    let mut validator = validator_for(alloc, contents);
+    match validate(&mut validator, contents) {
+        Ok(_) => match slots_of(&contents.module, &validator, ty, offset) {
+            Some(used) => {
+                *slots = used.to_raw();
+                Status::Done
+            }
+            None => Status::NoType,
+        },
+        Err(error) => refused_status(error.as_inner()),
+    }
+}
