@@ -8,6 +8,7 @@
 mod awkward;
 mod build;
 mod functions;
+mod modules_in_words;
 mod packing;
 mod passes;
 mod random;
@@ -19,6 +20,7 @@ mod types;
 mod values;
 
 use crate::awkward::validate_awkward;
+use crate::modules_in_words::check_many;
 use crate::packing::pack_many;
 use crate::passes::ask_many;
 use crate::random::Random;
@@ -43,6 +45,8 @@ fn run(
         "large" => validate_large(alloc, count, random, totals)?,
         "reports" => report_many(alloc, count, 200_000, random, totals)?,
         "short" => report_many(alloc, count, 80, random, totals)?,
+        "words" => check_many(alloc, count, 200_000, random, totals)?,
+        "items" => check_many(alloc, count, 80, random, totals)?,
         "packing" => pack_many(alloc, count, random, totals)?,
         "passes" => ask_many(alloc, count, random, totals)?,
         "awkward" => validate_awkward(alloc, count, random, totals)?,
@@ -63,7 +67,13 @@ fn print(rt: &(impl AllocGlobal + Print), job: &str, count: u32, seed: u64) -> R
 
 /// Does each job on a few inputs, and prints how many were accepted and refused.
 fn check(rt: &(impl AllocGlobal + Print)) -> Result<()> {
-    for (job, count) in [("shaders", 8), ("short", 8), ("packing", 1), ("passes", 1)] {
+    for (job, count) in [
+        ("shaders", 8),
+        ("short", 8),
+        ("items", 8),
+        ("packing", 1),
+        ("passes", 1),
+    ] {
         let mut totals = Totals::default();
         run(rt.alloc(), job, count, &mut Random::new(1), &mut totals)?;
         let (accepted, refused) = (totals.accepted, totals.refused);

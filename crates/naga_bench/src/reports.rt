@@ -18,11 +18,11 @@ fn put_word(text: &mut String, word: &str, number: u32) -> Result<(), AllocError
     put(text, number)
 }
 
-/// The indexes of what a text describes so far.
+/// How many types and expressions a module has so far.
 #[derive(Clone, Copy)]
-struct Counts {
-    types: u32,
-    expressions: u32,
+pub struct Counts {
+    pub types: u32,
+    pub expressions: u32,
 }
 
 /// Adds an array of vectors, and a struct with it at its end.
