@@ -1,0 +1,703 @@
+/* naga_check: a validator of shader modules whose verdicts are proved. C interface, version 1.
+ *
+ * Every function is a call of its own. Nothing is kept between calls, there is no initialisation, and no
+ * global state: calls may run on any number of threads at once, as long as they share no buffer that one of
+ * them writes. Nothing is handed out that has to be freed. The library never ends the process and never
+ * prints; if memory is refused a call returns NAGA_CHECK_MEMORY.
+ *
+ * The library calls malloc, realloc, free, memmove, memcpy and memset of the C library, and nothing else of
+ * the system. It is for x86-64 Linux.
+ *
+ * What a caller owes (nothing checks it):
+ *   - pointers are not null and are aligned for their type, also where a count is 0; a buffer has as many
+ *     elements as its count says, and at most PTRDIFF_MAX bytes;
+ *   - buffers that a call writes overlap no other buffer of that call;
+ *   - 256 KiB of stack; naga_check_slots calls itself as deep as structs are nested in a type, and needs more
+ *     for types that are nested deeper than a thousand structs.
+ * Any bytes and any words may be given: what can't be read is refused. docs/WORDS.md describes the words.
+ */
+#ifndef NAGA_CHECK_H
+#define NAGA_CHECK_H
+
+#include <stddef.h>
+#include <stdint.h>
+
+#ifdef __cplusplus
+extern "C" {
+#endif
+
+#define NAGA_CHECK_ABI_VERSION 1u
+
+/* A word that stands for nothing: no index, no name, no width. */
+#define NAGA_CHECK_NONE 0xFFFFFFFFu
+
+/* The most operands of an item. */
+#define NAGA_CHECK_MOST_OPERANDS 0xFFFFFFu
+
+/* The first word of an item: its opcode, and how many operands follow. */
+#define NAGA_CHECK_ITEM(opcode, count) ((uint32_t)(count) << 8 | (uint32_t)(opcode))
+
+/* What calls return. */
+typedef uint32_t naga_check_status;
+enum {
+  NAGA_CHECK_OK = 0,         /* done; the module keeps the rules that were checked */
+  NAGA_CHECK_REFUSED = 1,    /* the module breaks a rule */
+  NAGA_CHECK_UNREADABLE = 2, /* the text or the words can't be read */
+  NAGA_CHECK_MEMORY = 3,     /* memory was refused: nothing is known of the module */
+  NAGA_CHECK_ROOM = 4,       /* a buffer is too short for the results; a module in words was accepted */
+  NAGA_CHECK_NO_TYPE = 5     /* the module has no type of an index that was asked about */
+};
+
+/* Opcodes. To the two that end in EXPRESSION the number of a form is added. */
+enum {
+  NAGA_CHECK_OP_FLAGS = 1,
+  NAGA_CHECK_OP_CAPABILITIES = 2,
+  NAGA_CHECK_OP_RESOLVED = 3,
+  NAGA_CHECK_OP_SPECIAL_TYPES = 4,
+  NAGA_CHECK_OP_PREDECLARED_TYPE = 5,
+  NAGA_CHECK_OP_FILTER = 6,
+  NAGA_CHECK_OP_FILTER_LEAF = 7,
+  NAGA_CHECK_OP_COMMENT_ON_TYPE = 8,
+  NAGA_CHECK_OP_COMMENT_ON_MEMBER = 9,
+  NAGA_CHECK_OP_COMMENT_ON_FUNCTION = 10,
+  NAGA_CHECK_OP_COMMENT_ON_ENTRY_POINT = 11,
+  NAGA_CHECK_OP_COMMENT_ON_CONSTANT = 12,
+  NAGA_CHECK_OP_COMMENT_ON_GLOBAL_VARIABLE = 13,
+  NAGA_CHECK_OP_SCALAR = 16,
+  NAGA_CHECK_OP_VECTOR = 17,
+  NAGA_CHECK_OP_MATRIX = 18,
+  NAGA_CHECK_OP_COOPERATIVE_MATRIX = 19,
+  NAGA_CHECK_OP_ATOMIC = 20,
+  NAGA_CHECK_OP_POINTER = 21,
+  NAGA_CHECK_OP_VALUE_POINTER = 22,
+  NAGA_CHECK_OP_ARRAY = 23,
+  NAGA_CHECK_OP_STRUCT = 24,
+  NAGA_CHECK_OP_IMAGE = 25,
+  NAGA_CHECK_OP_SAMPLER = 26,
+  NAGA_CHECK_OP_ACCELERATION_STRUCTURE = 27,
+  NAGA_CHECK_OP_RAY_QUERY = 28,
+  NAGA_CHECK_OP_BINDING_ARRAY = 29,
+  NAGA_CHECK_OP_CONSTANT = 32,
+  NAGA_CHECK_OP_OVERRIDE = 33,
+  NAGA_CHECK_OP_GLOBAL_VARIABLE = 34,
+  NAGA_CHECK_OP_FUNCTION = 35,
+  NAGA_CHECK_OP_ENTRY_POINT = 36,
+  NAGA_CHECK_OP_ARGUMENT = 40,
+  NAGA_CHECK_OP_LOCAL_VARIABLE = 41,
+  NAGA_CHECK_OP_RESULT = 42,
+  NAGA_CHECK_OP_NAMED_EXPRESSION = 43,
+  NAGA_CHECK_OP_FUNCTION_FILTER_LEAF = 44,
+  NAGA_CHECK_OP_WORKGROUP_SIZES = 45,
+  NAGA_CHECK_OP_TASK_PAYLOAD = 46,
+  NAGA_CHECK_OP_MESH_OUTPUT = 47,
+  NAGA_CHECK_OP_GLOBAL_EXPRESSION = 64,
+  NAGA_CHECK_OP_EXPRESSION = 128,
+  NAGA_CHECK_STATEMENT_EMIT = 192,
+  NAGA_CHECK_STATEMENT_BLOCK = 193,
+  NAGA_CHECK_STATEMENT_IF = 194,
+  NAGA_CHECK_STATEMENT_ELSE = 195,
+  NAGA_CHECK_STATEMENT_SWITCH = 196,
+  NAGA_CHECK_STATEMENT_CASE = 197,
+  NAGA_CHECK_STATEMENT_LOOP = 198,
+  NAGA_CHECK_STATEMENT_CONTINUING = 199,
+  NAGA_CHECK_STATEMENT_END = 200,
+  NAGA_CHECK_STATEMENT_END_LOOP = 201,
+  NAGA_CHECK_STATEMENT_BREAK = 202,
+  NAGA_CHECK_STATEMENT_CONTINUE = 203,
+  NAGA_CHECK_STATEMENT_RETURN = 204,
+  NAGA_CHECK_STATEMENT_KILL = 205,
+  NAGA_CHECK_STATEMENT_CONTROL_BARRIER = 206,
+  NAGA_CHECK_STATEMENT_MEMORY_BARRIER = 207,
+  NAGA_CHECK_STATEMENT_STORE = 208,
+  NAGA_CHECK_STATEMENT_IMAGE_STORE = 209,
+  NAGA_CHECK_STATEMENT_ATOMIC = 210,
+  NAGA_CHECK_STATEMENT_IMAGE_ATOMIC = 211,
+  NAGA_CHECK_STATEMENT_WORKGROUP_UNIFORM_LOAD = 212,
+  NAGA_CHECK_STATEMENT_CALL = 213,
+  NAGA_CHECK_STATEMENT_RAY_QUERY = 214,
+  NAGA_CHECK_STATEMENT_TRACE_RAY = 215,
+  NAGA_CHECK_STATEMENT_SUBGROUP_BALLOT = 216,
+  NAGA_CHECK_STATEMENT_SUBGROUP_GATHER = 217,
+  NAGA_CHECK_STATEMENT_SUBGROUP_OPERATION = 218,
+  NAGA_CHECK_STATEMENT_COOPERATIVE_STORE = 219
+};
+
+/* Forms of expressions. */
+enum {
+  NAGA_CHECK_FORM_LITERAL = 0,
+  NAGA_CHECK_FORM_CONSTANT = 1,
+  NAGA_CHECK_FORM_OVERRIDE = 2,
+  NAGA_CHECK_FORM_ZERO_VALUE = 3,
+  NAGA_CHECK_FORM_COMPOSE = 4,
+  NAGA_CHECK_FORM_ACCESS = 5,
+  NAGA_CHECK_FORM_ACCESS_INDEX = 6,
+  NAGA_CHECK_FORM_SPLAT = 7,
+  NAGA_CHECK_FORM_SWIZZLE = 8,
+  NAGA_CHECK_FORM_FUNCTION_ARGUMENT = 9,
+  NAGA_CHECK_FORM_GLOBAL_VARIABLE = 10,
+  NAGA_CHECK_FORM_LOCAL_VARIABLE = 11,
+  NAGA_CHECK_FORM_LOAD = 12,
+  NAGA_CHECK_FORM_IMAGE_SAMPLE = 13,
+  NAGA_CHECK_FORM_IMAGE_LOAD = 14,
+  NAGA_CHECK_FORM_IMAGE_QUERY = 15,
+  NAGA_CHECK_FORM_UNARY = 16,
+  NAGA_CHECK_FORM_BINARY = 17,
+  NAGA_CHECK_FORM_SELECT = 18,
+  NAGA_CHECK_FORM_DERIVATIVE = 19,
+  NAGA_CHECK_FORM_RELATIONAL = 20,
+  NAGA_CHECK_FORM_MATH = 21,
+  NAGA_CHECK_FORM_AS = 22,
+  NAGA_CHECK_FORM_CALL_RESULT = 23,
+  NAGA_CHECK_FORM_ATOMIC_RESULT = 24,
+  NAGA_CHECK_FORM_WORKGROUP_UNIFORM_LOAD_RESULT = 25,
+  NAGA_CHECK_FORM_ARRAY_LENGTH = 26,
+  NAGA_CHECK_FORM_RAY_QUERY_PROCEED_RESULT = 27,
+  NAGA_CHECK_FORM_RAY_QUERY_GET_INTERSECTION = 28,
+  NAGA_CHECK_FORM_RAY_QUERY_VERTEX_POSITIONS = 29,
+  NAGA_CHECK_FORM_SUBGROUP_BALLOT_RESULT = 30,
+  NAGA_CHECK_FORM_SUBGROUP_OPERATION_RESULT = 31,
+  NAGA_CHECK_FORM_COOPERATIVE_LOAD = 32,
+  NAGA_CHECK_FORM_COOPERATIVE_MULTIPLY_ADD = 33
+};
+
+/* Kinds of scalars. */
+enum {
+  NAGA_CHECK_KIND_SINT = 0,
+  NAGA_CHECK_KIND_UINT = 1,
+  NAGA_CHECK_KIND_FLOAT = 2,
+  NAGA_CHECK_KIND_BOOL = 3,
+  NAGA_CHECK_KIND_ABSTRACT_INT = 4,
+  NAGA_CHECK_KIND_ABSTRACT_FLOAT = 5
+};
+
+/* Address spaces. */
+enum {
+  NAGA_CHECK_SPACE_FUNCTION = 0,
+  NAGA_CHECK_SPACE_PRIVATE = 1,
+  NAGA_CHECK_SPACE_WORKGROUP = 2,
+  NAGA_CHECK_SPACE_UNIFORM = 3,
+  NAGA_CHECK_SPACE_STORAGE = 4,
+  NAGA_CHECK_SPACE_HANDLE = 5,
+  NAGA_CHECK_SPACE_IMMEDIATE = 6,
+  NAGA_CHECK_SPACE_TASK_PAYLOAD = 7,
+  NAGA_CHECK_SPACE_RAY_PAYLOAD = 8,
+  NAGA_CHECK_SPACE_INCOMING_RAY_PAYLOAD = 9
+};
+
+/* Accesses of storage, which are added. */
+enum { NAGA_CHECK_ACCESS_LOAD = 1, NAGA_CHECK_ACCESS_STORE = 2, NAGA_CHECK_ACCESS_ATOMIC = 4 };
+
+/* Lengths of arrays. */
+enum {
+  NAGA_CHECK_LENGTH_CONSTANT = 0,
+  NAGA_CHECK_LENGTH_OVERRIDE = 1,
+  NAGA_CHECK_LENGTH_RUNTIME = 2
+};
+
+/* Bindings. */
+enum {
+  NAGA_CHECK_BINDING_NONE = 0,
+  NAGA_CHECK_BINDING_BUILT_IN = 1,
+  NAGA_CHECK_BINDING_LOCATION = 2,
+  NAGA_CHECK_BINDING_BLEND_SOURCE = 3
+};
+
+/* Roles of cooperative matrices. */
+enum {
+  NAGA_CHECK_ROLE_A = 0,
+  NAGA_CHECK_ROLE_B = 1,
+  NAGA_CHECK_ROLE_C = 2
+};
+
+/* Dimensions of images. */
+enum {
+  NAGA_CHECK_DIMENSION_1D = 0,
+  NAGA_CHECK_DIMENSION_2D = 1,
+  NAGA_CHECK_DIMENSION_3D = 2,
+  NAGA_CHECK_DIMENSION_CUBE = 3
+};
+
+/* Classes of images. */
+enum {
+  NAGA_CHECK_CLASS_SAMPLED = 0,
+  NAGA_CHECK_CLASS_DEPTH = 1,
+  NAGA_CHECK_CLASS_STORAGE = 2,
+  NAGA_CHECK_CLASS_EXTERNAL = 3
+};
+
+/* Literals. */
+enum {
+  NAGA_CHECK_LITERAL_F64 = 0,
+  NAGA_CHECK_LITERAL_F32 = 1,
+  NAGA_CHECK_LITERAL_F16 = 2,
+  NAGA_CHECK_LITERAL_U16 = 3,
+  NAGA_CHECK_LITERAL_I16 = 4,
+  NAGA_CHECK_LITERAL_U32 = 5,
+  NAGA_CHECK_LITERAL_I32 = 6,
+  NAGA_CHECK_LITERAL_U64 = 7,
+  NAGA_CHECK_LITERAL_I64 = 8,
+  NAGA_CHECK_LITERAL_BOOL = 9,
+  NAGA_CHECK_LITERAL_ABSTRACT_INT = 10,
+  NAGA_CHECK_LITERAL_ABSTRACT_FLOAT = 11
+};
+
+/* Components of vectors. */
+enum {
+  NAGA_CHECK_COMPONENT_X = 0,
+  NAGA_CHECK_COMPONENT_Y = 1,
+  NAGA_CHECK_COMPONENT_Z = 2,
+  NAGA_CHECK_COMPONENT_W = 3
+};
+
+/* Levels of samples. */
+enum {
+  NAGA_CHECK_LEVEL_AUTO = 0,
+  NAGA_CHECK_LEVEL_ZERO = 1,
+  NAGA_CHECK_LEVEL_EXACT = 2,
+  NAGA_CHECK_LEVEL_BIAS = 3,
+  NAGA_CHECK_LEVEL_GRADIENT = 4
+};
+
+/* Queries of images. */
+enum {
+  NAGA_CHECK_QUERY_SIZE = 0,
+  NAGA_CHECK_QUERY_LEVELS = 1,
+  NAGA_CHECK_QUERY_LAYERS = 2,
+  NAGA_CHECK_QUERY_SAMPLES = 3
+};
+
+/* Operators on one value. */
+enum {
+  NAGA_CHECK_UNARY_NEGATE = 0,
+  NAGA_CHECK_UNARY_LOGICAL_NOT = 1,
+  NAGA_CHECK_UNARY_BITWISE_NOT = 2
+};
+
+/* Operators on two values. */
+enum {
+  NAGA_CHECK_BINARY_ADD = 0,
+  NAGA_CHECK_BINARY_SUBTRACT = 1,
+  NAGA_CHECK_BINARY_MULTIPLY = 2,
+  NAGA_CHECK_BINARY_DIVIDE = 3,
+  NAGA_CHECK_BINARY_MODULO = 4,
+  NAGA_CHECK_BINARY_EQUAL = 5,
+  NAGA_CHECK_BINARY_NOT_EQUAL = 6,
+  NAGA_CHECK_BINARY_LESS = 7,
+  NAGA_CHECK_BINARY_LESS_EQUAL = 8,
+  NAGA_CHECK_BINARY_GREATER = 9,
+  NAGA_CHECK_BINARY_GREATER_EQUAL = 10,
+  NAGA_CHECK_BINARY_AND = 11,
+  NAGA_CHECK_BINARY_EXCLUSIVE_OR = 12,
+  NAGA_CHECK_BINARY_INCLUSIVE_OR = 13,
+  NAGA_CHECK_BINARY_LOGICAL_AND = 14,
+  NAGA_CHECK_BINARY_LOGICAL_OR = 15,
+  NAGA_CHECK_BINARY_SHIFT_LEFT = 16,
+  NAGA_CHECK_BINARY_SHIFT_RIGHT = 17
+};
+
+/* Relational functions. */
+enum {
+  NAGA_CHECK_RELATIONAL_ALL = 0,
+  NAGA_CHECK_RELATIONAL_ANY = 1,
+  NAGA_CHECK_RELATIONAL_IS_NAN = 2,
+  NAGA_CHECK_RELATIONAL_IS_INF = 3
+};
+
+/* Mathematical functions. */
+enum {
+  NAGA_CHECK_MATH_ABS = 0,
+  NAGA_CHECK_MATH_MIN = 1,
+  NAGA_CHECK_MATH_MAX = 2,
+  NAGA_CHECK_MATH_CLAMP = 3,
+  NAGA_CHECK_MATH_SATURATE = 4,
+  NAGA_CHECK_MATH_COS = 5,
+  NAGA_CHECK_MATH_COSH = 6,
+  NAGA_CHECK_MATH_SIN = 7,
+  NAGA_CHECK_MATH_SINH = 8,
+  NAGA_CHECK_MATH_TAN = 9,
+  NAGA_CHECK_MATH_TANH = 10,
+  NAGA_CHECK_MATH_ACOS = 11,
+  NAGA_CHECK_MATH_ASIN = 12,
+  NAGA_CHECK_MATH_ATAN = 13,
+  NAGA_CHECK_MATH_ATAN2 = 14,
+  NAGA_CHECK_MATH_ASINH = 15,
+  NAGA_CHECK_MATH_ACOSH = 16,
+  NAGA_CHECK_MATH_ATANH = 17,
+  NAGA_CHECK_MATH_RADIANS = 18,
+  NAGA_CHECK_MATH_DEGREES = 19,
+  NAGA_CHECK_MATH_CEIL = 20,
+  NAGA_CHECK_MATH_FLOOR = 21,
+  NAGA_CHECK_MATH_ROUND = 22,
+  NAGA_CHECK_MATH_FRACT = 23,
+  NAGA_CHECK_MATH_TRUNC = 24,
+  NAGA_CHECK_MATH_EXP = 25,
+  NAGA_CHECK_MATH_EXP2 = 26,
+  NAGA_CHECK_MATH_LOG = 27,
+  NAGA_CHECK_MATH_LOG2 = 28,
+  NAGA_CHECK_MATH_POW = 29,
+  NAGA_CHECK_MATH_DOT = 30,
+  NAGA_CHECK_MATH_CROSS = 31,
+  NAGA_CHECK_MATH_DISTANCE = 32,
+  NAGA_CHECK_MATH_LENGTH = 33,
+  NAGA_CHECK_MATH_NORMALIZE = 34,
+  NAGA_CHECK_MATH_FACE_FORWARD = 35,
+  NAGA_CHECK_MATH_REFLECT = 36,
+  NAGA_CHECK_MATH_REFRACT = 37,
+  NAGA_CHECK_MATH_SIGN = 38,
+  NAGA_CHECK_MATH_FMA = 39,
+  NAGA_CHECK_MATH_MIX = 40,
+  NAGA_CHECK_MATH_STEP = 41,
+  NAGA_CHECK_MATH_SMOOTH_STEP = 42,
+  NAGA_CHECK_MATH_SQRT = 43,
+  NAGA_CHECK_MATH_INVERSE_SQRT = 44,
+  NAGA_CHECK_MATH_TRANSPOSE = 45,
+  NAGA_CHECK_MATH_DETERMINANT = 46,
+  NAGA_CHECK_MATH_QUANTIZE_TO_F16 = 47,
+  NAGA_CHECK_MATH_COUNT_TRAILING_ZEROS = 48,
+  NAGA_CHECK_MATH_COUNT_LEADING_ZEROS = 49,
+  NAGA_CHECK_MATH_COUNT_ONE_BITS = 50,
+  NAGA_CHECK_MATH_REVERSE_BITS = 51,
+  NAGA_CHECK_MATH_EXTRACT_BITS = 52,
+  NAGA_CHECK_MATH_INSERT_BITS = 53,
+  NAGA_CHECK_MATH_FIRST_TRAILING_BIT = 54,
+  NAGA_CHECK_MATH_FIRST_LEADING_BIT = 55,
+  NAGA_CHECK_MATH_PACK2X16FLOAT = 56,
+  NAGA_CHECK_MATH_UNPACK2X16FLOAT = 57
+};
+
+/* Atomic functions. */
+enum {
+  NAGA_CHECK_ATOMIC_ADD = 0,
+  NAGA_CHECK_ATOMIC_SUBTRACT = 1,
+  NAGA_CHECK_ATOMIC_AND = 2,
+  NAGA_CHECK_ATOMIC_EXCLUSIVE_OR = 3,
+  NAGA_CHECK_ATOMIC_INCLUSIVE_OR = 4,
+  NAGA_CHECK_ATOMIC_MIN = 5,
+  NAGA_CHECK_ATOMIC_MAX = 6,
+  NAGA_CHECK_ATOMIC_EXCHANGE = 7
+};
+
+/* Steps of ray queries. */
+enum {
+  NAGA_CHECK_RAY_STEP_INITIALIZE = 0,
+  NAGA_CHECK_RAY_STEP_PROCEED = 1,
+  NAGA_CHECK_RAY_STEP_GENERATE_INTERSECTION = 2,
+  NAGA_CHECK_RAY_STEP_CONFIRM_INTERSECTION = 3,
+  NAGA_CHECK_RAY_STEP_TERMINATE = 4
+};
+
+/* From which invocation a subgroup gathers. */
+enum {
+  NAGA_CHECK_GATHER_BROADCAST_FIRST = 0,
+  NAGA_CHECK_GATHER_BROADCAST = 1,
+  NAGA_CHECK_GATHER_SHUFFLE = 2,
+  NAGA_CHECK_GATHER_SHUFFLE_DOWN = 3,
+  NAGA_CHECK_GATHER_SHUFFLE_UP = 4,
+  NAGA_CHECK_GATHER_SHUFFLE_XOR = 5,
+  NAGA_CHECK_GATHER_QUAD_BROADCAST = 6,
+  NAGA_CHECK_GATHER_QUAD_SWAP = 7
+};
+
+/* Operations of subgroups. */
+enum {
+  NAGA_CHECK_SUBGROUP_ALL = 0,
+  NAGA_CHECK_SUBGROUP_ANY = 1,
+  NAGA_CHECK_SUBGROUP_ADD = 2,
+  NAGA_CHECK_SUBGROUP_MUL = 3,
+  NAGA_CHECK_SUBGROUP_MIN = 4,
+  NAGA_CHECK_SUBGROUP_MAX = 5,
+  NAGA_CHECK_SUBGROUP_AND = 6,
+  NAGA_CHECK_SUBGROUP_OR = 7,
+  NAGA_CHECK_SUBGROUP_XOR = 8
+};
+
+/* The stage of a refusal: which item breaks a rule. */
+enum {
+  NAGA_CHECK_STAGE_NONE = 0,
+  NAGA_CHECK_STAGE_HANDLE = 1,
+  NAGA_CHECK_STAGE_LAYOUT = 2,
+  NAGA_CHECK_STAGE_TYPE = 3,
+  NAGA_CHECK_STAGE_GLOBAL_EXPRESSION = 4,
+  NAGA_CHECK_STAGE_CONSTANT = 5,
+  NAGA_CHECK_STAGE_OVERRIDE = 6,
+  NAGA_CHECK_STAGE_FUNCTION = 7,
+  NAGA_CHECK_STAGE_ENTRY_POINT = 8,
+  NAGA_CHECK_STAGE_MODULE = 9
+};
+
+/* Errors of handles. */
+enum {
+  NAGA_CHECK_HANDLE_ERROR_BAD_HANDLE = 1,
+  NAGA_CHECK_HANDLE_ERROR_FORWARD_DEPENDENCY = 2,
+  NAGA_CHECK_HANDLE_ERROR_BAD_RANGE = 3
+};
+
+/* Errors of layouts. */
+enum {
+  NAGA_CHECK_LAYOUT_ERROR_TOO_LARGE = 1,
+  NAGA_CHECK_LAYOUT_ERROR_NON_POWER_OF_TWO_WIDTH = 2
+};
+
+/* Errors of types. */
+enum {
+  NAGA_CHECK_TYPE_ERROR_MISSING_CAPABILITY = 1,
+  NAGA_CHECK_TYPE_ERROR_INVALID_ATOMIC_WIDTH = 2,
+  NAGA_CHECK_TYPE_ERROR_INVALID_POINTER_BASE = 3,
+  NAGA_CHECK_TYPE_ERROR_INVALID_POINTER_TO_UNSIZED = 4,
+  NAGA_CHECK_TYPE_ERROR_INVALID_DATA = 5,
+  NAGA_CHECK_TYPE_ERROR_INVALID_ARRAY_BASE_TYPE = 6,
+  NAGA_CHECK_TYPE_ERROR_MATRIX_ELEMENT_NOT_FLOAT = 7,
+  NAGA_CHECK_TYPE_ERROR_UNSUPPORTED_SPECIALIZED_ARRAY_LENGTH = 8,
+  NAGA_CHECK_TYPE_ERROR_UNSUPPORTED_IMAGE_TYPE = 9,
+  NAGA_CHECK_TYPE_ERROR_INVALID_ARRAY_STRIDE = 10,
+  NAGA_CHECK_TYPE_ERROR_INVALID_DYNAMIC_ARRAY = 11,
+  NAGA_CHECK_TYPE_ERROR_BINDING_ARRAY_BASE_TYPE_NOT_STRUCT = 12,
+  NAGA_CHECK_TYPE_ERROR_BINDING_ARRAY_BASE_EXTERNAL_TEXTURES = 13,
+  NAGA_CHECK_TYPE_ERROR_MEMBER_OVERLAP = 14,
+  NAGA_CHECK_TYPE_ERROR_MEMBER_OUT_OF_BOUNDS = 15,
+  NAGA_CHECK_TYPE_ERROR_EMPTY_STRUCT = 16,
+  NAGA_CHECK_TYPE_ERROR_INVALID_BLEND_SRC = 17,
+  NAGA_CHECK_TYPE_ERROR_WIDTH_ERROR = 18,
+  NAGA_CHECK_TYPE_ERROR_UNRESOLVED_OVERRIDE = 19,
+  NAGA_CHECK_TYPE_ERROR_INVALID_ARRAY_SIZE = 20
+};
+
+/* Errors of global expressions. */
+enum {
+  NAGA_CHECK_CONST_EXPRESSION_ERROR_NON_CONST_OR_OVERRIDE = 1,
+  NAGA_CHECK_CONST_EXPRESSION_ERROR_NON_FULLY_EVALUATED_CONST = 2,
+  NAGA_CHECK_CONST_EXPRESSION_ERROR_COMPOSE = 3,
+  NAGA_CHECK_CONST_EXPRESSION_ERROR_INVALID_SPLAT_TYPE = 4,
+  NAGA_CHECK_CONST_EXPRESSION_ERROR_TYPE = 5,
+  NAGA_CHECK_CONST_EXPRESSION_ERROR_LITERAL = 6,
+  NAGA_CHECK_CONST_EXPRESSION_ERROR_WIDTH = 7
+};
+
+/* Errors of constants. */
+enum {
+  NAGA_CHECK_CONSTANT_ERROR_INITIALIZER_EXPR_TYPE = 1,
+  NAGA_CHECK_CONSTANT_ERROR_INVALID_TYPE = 2,
+  NAGA_CHECK_CONSTANT_ERROR_NON_CONSTRUCTIBLE_TYPE = 3
+};
+
+/* Errors of overrides. */
+enum {
+  NAGA_CHECK_OVERRIDE_ERROR_MISSING_NAME_AND_ID = 1,
+  NAGA_CHECK_OVERRIDE_ERROR_DUPLICATE_ID = 2,
+  NAGA_CHECK_OVERRIDE_ERROR_INITIALIZER_EXPR_TYPE = 3,
+  NAGA_CHECK_OVERRIDE_ERROR_INVALID_TYPE = 4,
+  NAGA_CHECK_OVERRIDE_ERROR_NON_CONSTRUCTIBLE_TYPE = 5,
+  NAGA_CHECK_OVERRIDE_ERROR_TYPE_NOT_SCALAR = 6,
+  NAGA_CHECK_OVERRIDE_ERROR_NOT_ALLOWED = 7,
+  NAGA_CHECK_OVERRIDE_ERROR_UNINITIALIZED_OVERRIDE = 8,
+  NAGA_CHECK_OVERRIDE_ERROR_CONST_EXPRESSION = 9
+};
+
+/* Errors of expressions of functions and entry points. */
+enum {
+  NAGA_CHECK_EXPRESSION_ERROR_NOT_IN_SCOPE = 1,
+  NAGA_CHECK_EXPRESSION_ERROR_INVALID_BASE_TYPE = 2,
+  NAGA_CHECK_EXPRESSION_ERROR_INVALID_INDEX_TYPE = 3,
+  NAGA_CHECK_EXPRESSION_ERROR_NEGATIVE_INDEX = 4,
+  NAGA_CHECK_EXPRESSION_ERROR_INDEX_OUT_OF_BOUNDS = 5,
+  NAGA_CHECK_EXPRESSION_ERROR_FUNCTION_ARGUMENT_DOESNT_EXIST = 6,
+  NAGA_CHECK_EXPRESSION_ERROR_INVALID_POINTER_TYPE = 7,
+  NAGA_CHECK_EXPRESSION_ERROR_INVALID_ARRAY_TYPE = 8,
+  NAGA_CHECK_EXPRESSION_ERROR_INVALID_RAY_QUERY_TYPE = 9,
+  NAGA_CHECK_EXPRESSION_ERROR_INVALID_SPLAT_TYPE = 10,
+  NAGA_CHECK_EXPRESSION_ERROR_INVALID_VECTOR_TYPE = 11,
+  NAGA_CHECK_EXPRESSION_ERROR_INVALID_SWIZZLE_COMPONENT = 12,
+  NAGA_CHECK_EXPRESSION_ERROR_COMPOSE = 13,
+  NAGA_CHECK_EXPRESSION_ERROR_INVALID_ZERO_VALUE = 14,
+  NAGA_CHECK_EXPRESSION_ERROR_INDEXABLE_LENGTH = 15,
+  NAGA_CHECK_EXPRESSION_ERROR_INVALID_UNARY_OPERAND_TYPE = 16,
+  NAGA_CHECK_EXPRESSION_ERROR_INVALID_BINARY_OPERAND_TYPES = 17,
+  NAGA_CHECK_EXPRESSION_ERROR_SELECT_VALUES_TYPE_MISMATCH = 18,
+  NAGA_CHECK_EXPRESSION_ERROR_SELECT_CONDITION_NOT_A_BOOL = 19,
+  NAGA_CHECK_EXPRESSION_ERROR_INVALID_BOOLEAN_VECTOR = 20,
+  NAGA_CHECK_EXPRESSION_ERROR_INVALID_FLOAT_ARGUMENT = 21,
+  NAGA_CHECK_EXPRESSION_ERROR_TYPE = 22,
+  NAGA_CHECK_EXPRESSION_ERROR_EXPECTED_GLOBAL_VARIABLE = 23,
+  NAGA_CHECK_EXPRESSION_ERROR_EXPECTED_GLOBAL_OR_ARGUMENT = 24,
+  NAGA_CHECK_EXPRESSION_ERROR_EXPECTED_BINDING_ARRAY_TYPE = 25,
+  NAGA_CHECK_EXPRESSION_ERROR_EXPECTED_IMAGE_TYPE = 26,
+  NAGA_CHECK_EXPRESSION_ERROR_EXPECTED_SAMPLER_TYPE = 27,
+  NAGA_CHECK_EXPRESSION_ERROR_INVALID_IMAGE_CLASS = 28,
+  NAGA_CHECK_EXPRESSION_ERROR_INVALID_IMAGE_FORMAT = 29,
+  NAGA_CHECK_EXPRESSION_ERROR_INVALID_IMAGE_STORAGE_ACCESS = 30,
+  NAGA_CHECK_EXPRESSION_ERROR_INVALID_DERIVATIVE = 31,
+  NAGA_CHECK_EXPRESSION_ERROR_INVALID_IMAGE_ARRAY_INDEX = 32,
+  NAGA_CHECK_EXPRESSION_ERROR_INVALID_IMAGE_SAMPLE_SELECTOR = 33,
+  NAGA_CHECK_EXPRESSION_ERROR_MISSING_IMAGE_SAMPLE_SELECTOR = 34,
+  NAGA_CHECK_EXPRESSION_ERROR_INVALID_IMAGE_LEVEL_SELECTOR = 35,
+  NAGA_CHECK_EXPRESSION_ERROR_MISSING_IMAGE_LEVEL_SELECTOR = 36,
+  NAGA_CHECK_EXPRESSION_ERROR_INVALID_IMAGE_ARRAY_INDEX_TYPE = 37,
+  NAGA_CHECK_EXPRESSION_ERROR_INVALID_IMAGE_OTHER_INDEX_TYPE = 38,
+  NAGA_CHECK_EXPRESSION_ERROR_INVALID_IMAGE_COORDINATE_TYPE = 39,
+  NAGA_CHECK_EXPRESSION_ERROR_COMPARISON_SAMPLING_MISMATCH = 40,
+  NAGA_CHECK_EXPRESSION_ERROR_INVALID_SAMPLE_OFFSET_EXPR_TYPE = 41,
+  NAGA_CHECK_EXPRESSION_ERROR_INVALID_SAMPLE_OFFSET = 42,
+  NAGA_CHECK_EXPRESSION_ERROR_INVALID_DEPTH_REFERENCE = 43,
+  NAGA_CHECK_EXPRESSION_ERROR_INVALID_DEPTH_SAMPLE_LEVEL = 44,
+  NAGA_CHECK_EXPRESSION_ERROR_INVALID_GATHER_LEVEL = 45,
+  NAGA_CHECK_EXPRESSION_ERROR_INVALID_GATHER_COMPONENT = 46,
+  NAGA_CHECK_EXPRESSION_ERROR_INVALID_GATHER_DIMENSION = 47,
+  NAGA_CHECK_EXPRESSION_ERROR_INVALID_SAMPLE_LEVEL_EXACT_TYPE = 48,
+  NAGA_CHECK_EXPRESSION_ERROR_INVALID_SAMPLE_LEVEL_BIAS_TYPE = 49,
+  NAGA_CHECK_EXPRESSION_ERROR_INVALID_SAMPLE_LEVEL_BIAS_DIMENSION = 50,
+  NAGA_CHECK_EXPRESSION_ERROR_INVALID_SAMPLE_LEVEL_GRADIENT_TYPE = 51,
+  NAGA_CHECK_EXPRESSION_ERROR_INVALID_SAMPLE_CLAMP_COORDINATE_TO_EDGE = 52,
+  NAGA_CHECK_EXPRESSION_ERROR_INVALID_CAST_ARGUMENT = 53,
+  NAGA_CHECK_EXPRESSION_ERROR_WRONG_ARGUMENT_COUNT = 54,
+  NAGA_CHECK_EXPRESSION_ERROR_INVALID_ARGUMENT_TYPE = 55,
+  NAGA_CHECK_EXPRESSION_ERROR_INVALID_WORKGROUP_UNIFORM_LOAD_RESULT_TYPE = 56,
+  NAGA_CHECK_EXPRESSION_ERROR_MISSING_CAPABILITIES = 57,
+  NAGA_CHECK_EXPRESSION_ERROR_LITERAL = 58,
+  NAGA_CHECK_EXPRESSION_ERROR_UNSUPPORTED_WIDTH = 59,
+  NAGA_CHECK_EXPRESSION_ERROR_INVALID_COOPERATIVE_OPERAND = 60,
+  NAGA_CHECK_EXPRESSION_ERROR_SHIFT_AMOUNT_TOO_LARGE = 61,
+  NAGA_CHECK_EXPRESSION_ERROR_DIVIDE_BY_ZERO = 62
+};
+
+/* Errors of the stage MODULE, which no call returns. */
+enum {
+  NAGA_CHECK_MODULE_ERROR_CORRUPTED = 1,
+  NAGA_CHECK_MODULE_ERROR_ARRAY_SIZE = 2
+};
+
+/* Causes: why a struct can't have its blend sources. */
+enum {
+  NAGA_CHECK_VARYING_ERROR_INVALID_BLEND_SRC_INDEX = 1,
+  NAGA_CHECK_VARYING_ERROR_BINDING_COLLISION_BLEND_SRC = 2,
+  NAGA_CHECK_VARYING_ERROR_INVALID_BLEND_SRC_WITH_OTHER_BINDINGS = 3,
+  NAGA_CHECK_VARYING_ERROR_BLEND_SRC_OUTPUT_TYPE_MISMATCH = 4,
+  NAGA_CHECK_VARYING_ERROR_NOT_IO_SHAREABLE_TYPE = 5,
+  NAGA_CHECK_VARYING_ERROR_INCOMPLETE_BLEND_SRC_USAGE = 6
+};
+
+/* Causes: why a width is refused. */
+enum {
+  NAGA_CHECK_WIDTH_ERROR_INVALID = 1,
+  NAGA_CHECK_WIDTH_ERROR_MISSING_CAPABILITY = 2,
+  NAGA_CHECK_WIDTH_ERROR_ABSTRACT = 3
+};
+
+/* Causes: why a value can't be composed. */
+enum {
+  NAGA_CHECK_COMPOSE_ERROR_TYPE = 1,
+  NAGA_CHECK_COMPOSE_ERROR_COMPONENT_COUNT = 2,
+  NAGA_CHECK_COMPOSE_ERROR_COMPONENT_TYPE = 3
+};
+
+/* Causes: why an expression has no type. */
+enum {
+  NAGA_CHECK_RESOLVE_ERROR_INCOMPATIBLE_OPERANDS = 1,
+  NAGA_CHECK_RESOLVE_ERROR_NOT_RESOLVABLE = 2
+};
+
+/* Causes: why a value has no length. */
+enum {
+  NAGA_CHECK_INDEXABLE_LENGTH_ERROR_TYPE_NOT_INDEXABLE = 1,
+  NAGA_CHECK_INDEXABLE_LENGTH_ERROR_INVALID_ARRAY_LENGTH = 2
+};
+
+/* Why a type has no layout in an address space. */
+enum {
+  NAGA_CHECK_DISALIGNMENT_ARRAY_STRIDE = 1,
+  NAGA_CHECK_DISALIGNMENT_STRUCT_SPAN = 2,
+  NAGA_CHECK_DISALIGNMENT_MEMBER_OFFSET = 3,
+  NAGA_CHECK_DISALIGNMENT_MEMBER_OFFSET_AFTER_STRUCT = 4,
+  NAGA_CHECK_DISALIGNMENT_UNSIZED_MEMBER = 5,
+  NAGA_CHECK_DISALIGNMENT_NON_HOST_SHAREABLE = 6
+};
+
+/* What was found out about a module. With NAGA_CHECK_MEMORY all fields are 0. */
+typedef struct naga_check_outcome {
+  /* With NAGA_CHECK_UNREADABLE the index of the first word of the first item that can't be read, or the
+   * number of words. With NAGA_CHECK_REFUSED the index of the item that is refused, among those of its kind;
+   * of the stage HANDLE the index that is dangling, the index of the item that depends on a later one, or
+   * the start of the range. Else 0. */
+  uint64_t index;
+  uint64_t types;        /* how many types, functions and entry points the module has, if it could be read */
+  uint64_t functions;
+  uint64_t entry_points;
+  uint64_t written;      /* how many elements were written to the caller's buffer */
+  uint32_t stage;        /* NAGA_CHECK_STAGE_.. with NAGA_CHECK_REFUSED, else 0 */
+  uint32_t error;        /* NAGA_CHECK_.._ERROR_.. of the stage, or 0 */
+  uint32_t cause;        /* the error within that error, where the error has one, or 0 */
+  uint32_t expression;   /* of the stages FUNCTION and ENTRY_POINT the expression that is refused, else 0 */
+} naga_check_outcome;
+
+/* What is known of a type. Sizes and alignments are in bytes. */
+typedef struct naga_check_type_info {
+  uint32_t flags;             /* naga's TypeFlags */
+  uint32_t size;
+  uint32_t alignment;
+  uint32_t uniform_alignment; /* in uniform buffers, or 0 if it has no layout there */
+  uint32_t uniform_error;     /* then why: NAGA_CHECK_DISALIGNMENT_.., else 0 */
+  uint32_t storage_alignment; /* the same in storage buffers */
+  uint32_t storage_error;
+  uint32_t immediates;        /* 1 if immediates may hold it, else 0 */
+} naga_check_type_info;
+
+/* A leaf of a type: a scalar, vector, matrix or atomic inside it. */
+typedef struct naga_check_leaf {
+  uint64_t first;       /* the place of its first byte */
+  uint64_t path_at;     /* where its path begins in the buffer of paths */
+  uint32_t path_length; /* the number of indexes of members and elements that lead to it */
+  uint32_t size;        /* in bytes */
+  uint32_t alignment;   /* in bytes */
+  uint32_t query;       /* to which of the types that were asked about it belongs, from 0 */
+} naga_check_leaf;
+
+/* How many leaves and how many indexes of paths were written. */
+typedef struct naga_check_counts {
+  uint64_t leaves;
+  uint64_t paths;
+} naga_check_counts;
+
+/* The version of this interface, NAGA_CHECK_ABI_VERSION. */
+uint32_t naga_check_abi_version(void);
+
+/* Writes the report on a text, as the program naga_check does, and its length in bytes: NAGA_CHECK_OK,
+ * NAGA_CHECK_REFUSED or NAGA_CHECK_UNREADABLE, the exit status of the program. With NAGA_CHECK_ROOM nothing
+ * but the length is written, and with NAGA_CHECK_MEMORY nothing. If memory is refused while the module is
+ * validated, the report is `refused memory` and the status NAGA_CHECK_REFUSED, as they are the program's. */
+naga_check_status naga_check_text(const uint8_t *text, size_t text_count, uint8_t *report,
+                                  size_t report_count, size_t *length);
+
+/* Validates a module in words: its handles, types, global expressions, constants and overrides. With
+ * NAGA_CHECK_OK infos has the info of each type, unless info_count is 0. With NAGA_CHECK_ROOM the module is
+ * accepted, no info is written, and outcome->types says how many there are. */
+naga_check_status naga_check_words(const uint32_t *words, size_t word_count, naga_check_type_info *infos,
+                                   size_t info_count, naga_check_outcome *outcome);
+
+/* Validates a module as naga_check_words does, except that it never leaves out constants, and then the
+ * expressions of its functions in order, and of its entry points. With NAGA_CHECK_OK stages has the pipeline stages that may use each function, and then
+ * each entry point, as naga's ShaderStages, unless stage_count is 0. With NAGA_CHECK_REFUSED it has those
+ * before the refused one, outcome->written of them, if it has room for all. With NAGA_CHECK_ROOM all are
+ * accepted, and nothing is written; it has to have outcome->functions + outcome->entry_points elements. */
+naga_check_status naga_check_functions(const uint32_t *words, size_t word_count, uint32_t *stages,
+                                       size_t stage_count, naga_check_outcome *outcome);
+
+/* Validates a module as naga_check_words does, and writes the leaves of types of it, those of types[0] first:
+ * at which bytes hosts put values. A runtime-sized array counts as `length` elements. Leaves come in the
+ * order of their paths. counts says how many were written: with NAGA_CHECK_OK all of them, with
+ * NAGA_CHECK_ROOM the first ones, as many as there was room for, with NAGA_CHECK_MEMORY maybe some, else none. */
+naga_check_status naga_check_leaves(const uint32_t *words, size_t word_count, const uint32_t *types,
+                                    size_t type_count, uint32_t length, naga_check_leaf *leaves,
+                                    size_t leaf_count, uint32_t *paths, size_t path_count,
+                                    naga_check_counts *counts);
+
+/* Validates a module as naga_check_words does, and writes the slots of immediate data that a value of a type
+ * uses from a byte on: bit k is 1 if the value has one of the bytes 4 * k to 4 * k + 3. Hosts have to be allowed to share
+ * values of the type: the flags of its info have 0x10, naga's HOST_SHAREABLE; else the call returns NAGA_CHECK_NO_TYPE.
+ * Without NAGA_CHECK_OK it writes 0. */
+naga_check_status naga_check_slots(const uint32_t *words, size_t word_count, uint32_t type, uint32_t offset,
+                                   uint64_t *slots);
+
+#ifdef __cplusplus
+}
+#endif
+
+#endif

@@ -1,0 +1,545 @@
+//! What is wrong with a module.
+//!
+//! The errors have naga's names and naga's texts. The library returns which error it is, without the handles and
+//! numbers in naga's error: where naga's text shows them, the text here leaves them out.
+
+use crate::expression_error::ExpressionError;
+use crate::expressions::Expression;
+use crate::module::{Constant, Function, Override};
+use crate::operands::Handle;
+use crate::sys::{self, NagaCheckOutcome};
+use crate::types::Type;
+use std::error;
+use std::fmt;
+
+/// Declares an enum of errors. After `=` are the code of a variant and its text.
+macro_rules! errors {
+    (
+        $(#[$about:meta])*
+        pub enum $name:ident {
+            $(
+                $(#[$doc:meta])*
+                $variant:ident $( ( $cause:ident: $cause_type:ty ) )? = $code:path => $text:literal,
+            )+
+        }
+    ) => {
+        $(#[$about])*
+        #[derive(Clone, Copy, Debug, PartialEq, Eq, Hash)]
+        #[non_exhaustive]
+        pub enum $name {
+            $( $(#[$doc])* $variant $( ( $cause_type ) )?, )+
+        }
+
+        impl $name {
+            /// The error of a code, and of the code of the error within it.
+            #[allow(unused_variables)]
+            pub(crate) fn from_codes(error: u32, cause: u32) -> Option<$name> {
+                match error {
+                    $( $code => Some($name::$variant $( ( <$cause_type>::from_codes(cause, 0)? ) )?), )+
+                    _ => None,
+                }
+            }
+        }
+
+        impl std::fmt::Display for $name {
+            #[allow(unused_variables)]
+            fn fmt(&self, f: &mut std::fmt::Formatter<'_>) -> std::fmt::Result {
+                match self {
+                    $( $name::$variant $( ( $cause ) )? => write!(f, $text), )+
+                }
+            }
+        }
+
+        impl std::error::Error for $name {}
+    };
+}
+
+pub(crate) use errors;
+
+/// Why a call has no result.
+#[derive(Clone, Copy, Debug, PartialEq, Eq, Hash)]
+#[non_exhaustive]
+pub enum Error {
+    /// The module breaks a rule.
+    Refused(Refusal),
+    /// The words can't be read.
+    Unreadable {
+        /// The index of the first word of the first item that can't be read, or the number of words.
+        at: u64,
+    },
+    /// Memory was refused: nothing is known of the module.
+    OutOfMemory,
+    /// The module has no type of an index that was given.
+    NoType,
+    /// The library returned a number that this crate doesn't know: it is of another version.
+    Unknown,
+}
+
+impl fmt::Display for Error {
+    fn fmt(&self, f: &mut fmt::Formatter<'_>) -> fmt::Result {
+        match self {
+            Error::Refused(_) => f.write_str("The module breaks a rule"),
+            Error::Unreadable { at } => write!(f, "The words can't be read from word {at} on"),
+            Error::OutOfMemory => f.write_str("Out of memory"),
+            Error::NoType => f.write_str("The module has no such type"),
+            Error::Unknown => f.write_str("The library is of another version"),
+        }
+    }
+}
+
+impl error::Error for Error {
+    fn source(&self) -> Option<&(dyn error::Error + 'static)> {
+        match self {
+            Error::Refused(refusal) => Some(refusal),
+            _ => None,
+        }
+    }
+}
+
+/// Which item of a module breaks a rule, and which rule.
+#[derive(Clone, Copy, Debug, PartialEq, Eq, Hash)]
+#[non_exhaustive]
+pub enum Refusal {
+    /// A handle or range is not right.
+    Handle {
+        /// The dangling index, the index of the item that depends on a later one, or the start of the range.
+        index: u64,
+        /// What is wrong.
+        error: HandleError,
+    },
+    /// A type has no layout.
+    Layout {
+        /// The type.
+        ty: Handle<Type>,
+        /// Why.
+        error: LayoutError,
+    },
+    /// A type breaks its rule.
+    Type {
+        /// The type.
+        ty: Handle<Type>,
+        /// Which rule.
+        error: TypeError,
+    },
+    /// A global expression breaks its rule.
+    GlobalExpression {
+        /// The expression.
+        expression: Handle<Expression>,
+        /// Which rule.
+        error: ConstExpressionError,
+    },
+    /// A constant breaks its rule.
+    Constant {
+        /// The constant.
+        constant: Handle<Constant>,
+        /// Which rule.
+        error: ConstantError,
+    },
+    /// An override breaks its rule.
+    Override {
+        /// The override.
+        by: Handle<Override>,
+        /// Which rule.
+        error: OverrideError,
+    },
+    /// An expression of a function breaks its rule.
+    Function {
+        /// The function.
+        function: Handle<Function>,
+        /// The expression.
+        expression: Handle<Expression>,
+        /// Which rule.
+        error: ExpressionError,
+    },
+    /// An expression of an entry point breaks its rule.
+    EntryPoint {
+        /// The index of the entry point.
+        index: u64,
+        /// The expression.
+        expression: Handle<Expression>,
+        /// Which rule.
+        error: ExpressionError,
+    },
+    /// The module as a whole breaks a rule. No call returns it.
+    Module {
+        /// Which rule.
+        error: ModuleError,
+    },
+}
+
+/// The handle of an index that a call returned.
+fn handle<T>(index: u64) -> Option<Handle<T>> {
+    let index = u32::try_from(index).ok()?;
+    (index != sys::NAGA_CHECK_NONE).then(|| Handle::new(index))
+}
+
+impl Refusal {
+    /// What a call found out, if this crate knows its numbers.
+    pub(crate) fn from_outcome(outcome: &NagaCheckOutcome) -> Option<Refusal> {
+        let NagaCheckOutcome {
+            index,
+            error,
+            cause,
+            ..
+        } = *outcome;
+        Some(match outcome.stage {
+            sys::NAGA_CHECK_STAGE_HANDLE => Refusal::Handle {
+                index,
+                error: HandleError::from_codes(error, cause)?,
+            },
+            sys::NAGA_CHECK_STAGE_LAYOUT => Refusal::Layout {
+                ty: handle(index)?,
+                error: LayoutError::from_codes(error, cause)?,
+            },
+            sys::NAGA_CHECK_STAGE_TYPE => Refusal::Type {
+                ty: handle(index)?,
+                error: TypeError::from_codes(error, cause)?,
+            },
+            sys::NAGA_CHECK_STAGE_GLOBAL_EXPRESSION => Refusal::GlobalExpression {
+                expression: handle(index)?,
+                error: ConstExpressionError::from_codes(error, cause)?,
+            },
+            sys::NAGA_CHECK_STAGE_CONSTANT => Refusal::Constant {
+                constant: handle(index)?,
+                error: ConstantError::from_codes(error, cause)?,
+            },
+            sys::NAGA_CHECK_STAGE_OVERRIDE => Refusal::Override {
+                by: handle(index)?,
+                error: OverrideError::from_codes(error, cause)?,
+            },
+            _ => return Refusal::of_expression(outcome),
+        })
+    }
+
+    /// The same of the stages after those of `naga_check_words`.
+    fn of_expression(outcome: &NagaCheckOutcome) -> Option<Refusal> {
+        let NagaCheckOutcome {
+            index,
+            error,
+            cause,
+            ..
+        } = *outcome;
+        let expression = handle(outcome.expression.into())?;
+        Some(match outcome.stage {
+            sys::NAGA_CHECK_STAGE_FUNCTION => Refusal::Function {
+                function: handle(index)?,
+                expression,
+                error: ExpressionError::from_codes(error, cause)?,
+            },
+            sys::NAGA_CHECK_STAGE_ENTRY_POINT => Refusal::EntryPoint {
+                index,
+                expression,
+                error: ExpressionError::from_codes(error, cause)?,
+            },
+            sys::NAGA_CHECK_STAGE_MODULE => Refusal::Module {
+                error: ModuleError::from_codes(error, cause)?,
+            },
+            _ => return None,
+        })
+    }
+}
+
+impl fmt::Display for Refusal {
+    fn fmt(&self, f: &mut fmt::Formatter<'_>) -> fmt::Result {
+        match self {
+            Refusal::Handle { index, .. } => write!(f, "Handle or range [{index}] is invalid"),
+            Refusal::Layout { ty, .. } => write!(f, "Error laying out type {ty:?}"),
+            Refusal::Type { ty, .. } => write!(f, "Type {ty:?} is invalid"),
+            Refusal::GlobalExpression { expression, .. } => {
+                write!(f, "Constant expression {expression:?} is invalid")
+            }
+            Refusal::Constant { constant, .. } => write!(f, "Constant {constant:?} is invalid"),
+            Refusal::Override { by, .. } => write!(f, "Override {by:?} is invalid"),
+            Refusal::Function {
+                function,
+                expression,
+                ..
+            } => {
+                write!(
+                    f,
+                    "Expression {expression:?} of function {function:?} is invalid"
+                )
+            }
+            Refusal::EntryPoint {
+                index, expression, ..
+            } => {
+                write!(
+                    f,
+                    "Expression {expression:?} of entry point [{index}] is invalid"
+                )
+            }
+            Refusal::Module { .. } => f.write_str("The module is invalid"),
+        }
+    }
+}
+
+impl error::Error for Refusal {
+    fn source(&self) -> Option<&(dyn error::Error + 'static)> {
+        Some(match self {
+            Refusal::Handle { error, .. } => error,
+            Refusal::Layout { error, .. } => error,
+            Refusal::Type { error, .. } => error,
+            Refusal::GlobalExpression { error, .. } => error,
+            Refusal::Constant { error, .. } => error,
+            Refusal::Override { error, .. } => error,
+            Refusal::Function { error, .. } | Refusal::EntryPoint { error, .. } => error,
+            Refusal::Module { error } => error,
+        })
+    }
+}
+
+errors! {
+    /// What is wrong with a handle or range of a module.
+    pub enum HandleError {
+        /// It is dangling.
+        BadHandle = sys::NAGA_CHECK_HANDLE_ERROR_BAD_HANDLE => "The handle is either not present, or inaccessible yet",
+        /// What it names doesn't precede the item that depends on it.
+        ForwardDependency = sys::NAGA_CHECK_HANDLE_ERROR_FORWARD_DEPENDENCY
+            => "The item depends on one that has not been processed yet",
+        /// It is a range of expressions to emit that goes back, or ends after the last expression.
+        BadRange = sys::NAGA_CHECK_HANDLE_ERROR_BAD_RANGE
+            => "The range is either not present, or inaccessible yet",
+    }
+}
+
+errors! {
+    /// Why a type has no layout.
+    pub enum LayoutError {
+        /// An array is larger than 2147483647 bytes.
+        TooLarge = sys::NAGA_CHECK_LAYOUT_ERROR_TOO_LARGE => "The array is larger than 2147483647 bytes",
+        /// The width of a scalar, in bytes, is not a power of two.
+        NonPowerOfTwoWidth = sys::NAGA_CHECK_LAYOUT_ERROR_NON_POWER_OF_TWO_WIDTH
+            => "The scalar width is not a power of two",
+    }
+}
+
+errors! {
+    /// Why a type is refused.
+    pub enum TypeError {
+        /// A type needs a capability that isn't given.
+        MissingCapability = sys::NAGA_CHECK_TYPE_ERROR_MISSING_CAPABILITY => "A capability is required",
+        /// No capability allows atomic scalars of this kind and width.
+        InvalidAtomicWidth = sys::NAGA_CHECK_TYPE_ERROR_INVALID_ATOMIC_WIDTH
+            => "The scalar width is not supported for an atomic",
+        /// A pointer's base is not data (WGSL "Memory Views").
+        InvalidPointerBase = sys::NAGA_CHECK_TYPE_ERROR_INVALID_POINTER_BASE => "Invalid type for pointer target",
+        /// A pointer's base has no fixed size, and the pointer's space is not `Storage`.
+        InvalidPointerToUnsized = sys::NAGA_CHECK_TYPE_ERROR_INVALID_POINTER_TO_UNSIZED
+            => "Unsized types must be in the `Storage` address space",
+        /// The type can't be the type of a member or of an element of a binding array, or a comment is on a member that
+        /// the type doesn't have.
+        InvalidData = sys::NAGA_CHECK_TYPE_ERROR_INVALID_DATA => "Expected data type",
+        /// An array's elements are not data of a size that is fixed when a module is created (WGSL "Array Types").
+        InvalidArrayBaseType = sys::NAGA_CHECK_TYPE_ERROR_INVALID_ARRAY_BASE_TYPE
+            => "Base type for the array is invalid",
+        /// A matrix has components other than floating-point numbers (WGSL "Matrix Types").
+        MatrixElementNotFloat = sys::NAGA_CHECK_TYPE_ERROR_MATRIX_ELEMENT_NOT_FLOAT
+            => "Matrix elements must always be floating-point types",
+        /// Never returned: no constant is specialized here.
+        UnsupportedSpecializedArrayLength = sys::NAGA_CHECK_TYPE_ERROR_UNSUPPORTED_SPECIALIZED_ARRAY_LENGTH
+            => "The constant is specialized, and cannot be used as an array size",
+        /// Images of this dimension and class are not supported (WGSL "Texture Types").
+        UnsupportedImageType = sys::NAGA_CHECK_TYPE_ERROR_UNSUPPORTED_IMAGE_TYPE
+            => "Images of this dimensionality and class are not supported",
+        /// An array has a stride below the size of its elements.
+        InvalidArrayStride = sys::NAGA_CHECK_TYPE_ERROR_INVALID_ARRAY_STRIDE
+            => "Array stride does not match the expected",
+        /// A member has no fixed size, and isn't an array at the end of its struct (WGSL "Structure Types").
+        InvalidDynamicArray = sys::NAGA_CHECK_TYPE_ERROR_INVALID_DYNAMIC_ARRAY
+            => "A field can't be dynamically-sized",
+        /// The elements of a binding array are data, but not structs.
+        BindingArrayBaseTypeNotStruct = sys::NAGA_CHECK_TYPE_ERROR_BINDING_ARRAY_BASE_TYPE_NOT_STRUCT
+            => "The base has to be a struct",
+        /// The elements of a binding array are external images.
+        BindingArrayBaseExternalTextures = sys::NAGA_CHECK_TYPE_ERROR_BINDING_ARRAY_BASE_EXTERNAL_TEXTURES
+            => "Binding arrays of external textures are not yet supported",
+        /// A member begins before the end of the one before it, and not at 0.
+        MemberOverlap = sys::NAGA_CHECK_TYPE_ERROR_MEMBER_OVERLAP => "A structure member overlaps the previous member",
+        /// A member ends past the end of its struct.
+        MemberOutOfBounds = sys::NAGA_CHECK_TYPE_ERROR_MEMBER_OUT_OF_BOUNDS
+            => "A structure member crosses the structure boundary",
+        /// A struct has no members.
+        EmptyStruct = sys::NAGA_CHECK_TYPE_ERROR_EMPTY_STRUCT => "Structure types must have at least one member",
+        /// Some members are sources of blending, and can't be so.
+        InvalidBlendSrc(cause: VaryingError) = sys::NAGA_CHECK_TYPE_ERROR_INVALID_BLEND_SRC
+            => "Invalid `@blend_src` structure: {cause}",
+        /// A scalar's width is not allowed.
+        WidthError(cause: WidthError) = sys::NAGA_CHECK_TYPE_ERROR_WIDTH_ERROR => "{cause}",
+        /// Never returned: sizes that overrides decide are `InvalidArraySize`.
+        UnresolvedOverride = sys::NAGA_CHECK_TYPE_ERROR_UNRESOLVED_OVERRIDE
+            => "The base has an override-expression that didn't get resolved to a constant",
+        /// Overrides must have their values, and the one that sizes this array gives no count above 0.
+        InvalidArraySize = sys::NAGA_CHECK_TYPE_ERROR_INVALID_ARRAY_SIZE
+            => "Override-sized array type does not have a positive size",
+    }
+}
+
+errors! {
+    /// Why a global expression is refused.
+    pub enum ConstExpressionError {
+        /// Its value is known only when the shader runs.
+        NonConstOrOverride = sys::NAGA_CHECK_CONST_EXPRESSION_ERROR_NON_CONST_OR_OVERRIDE
+            => "The expression is not a constant or override expression",
+        /// Its value should be known, and is still to be computed.
+        NonFullyEvaluatedConst = sys::NAGA_CHECK_CONST_EXPRESSION_ERROR_NON_FULLY_EVALUATED_CONST
+            => "The expression is not a fully evaluated constant expression",
+        /// A value can't be composed of its components.
+        Compose(cause: ComposeError) = sys::NAGA_CHECK_CONST_EXPRESSION_ERROR_COMPOSE => "{cause}",
+        /// The operand of a splat is not a scalar.
+        InvalidSplatType = sys::NAGA_CHECK_CONST_EXPRESSION_ERROR_INVALID_SPLAT_TYPE => "Splatting can't be done",
+        /// It has no type.
+        Type(cause: ResolveError) = sys::NAGA_CHECK_CONST_EXPRESSION_ERROR_TYPE => "Type resolution failed",
+        /// The width of a literal is not allowed.
+        Literal(cause: WidthError) = sys::NAGA_CHECK_CONST_EXPRESSION_ERROR_LITERAL => "{cause}",
+        /// Never returned: a width is refused inside `Literal`.
+        Width(cause: WidthError) = sys::NAGA_CHECK_CONST_EXPRESSION_ERROR_WIDTH => "{cause}",
+    }
+}
+
+errors! {
+    /// Why a constant is refused.
+    pub enum ConstantError {
+        /// The value of the initialiser isn't known when the shader is compiled.
+        InitializerExprType = sys::NAGA_CHECK_CONSTANT_ERROR_INITIALIZER_EXPR_TYPE
+            => "Initializer must be a const-expression",
+        /// The initialiser has another type than the constant.
+        InvalidType = sys::NAGA_CHECK_CONSTANT_ERROR_INVALID_TYPE => "The type doesn't match the constant",
+        /// The type of the constant is not constructible (WGSL "Constructible Types").
+        NonConstructibleType = sys::NAGA_CHECK_CONSTANT_ERROR_NON_CONSTRUCTIBLE_TYPE
+            => "The type is not constructible",
+    }
+}
+
+errors! {
+    /// Why an override is refused.
+    pub enum OverrideError {
+        /// Never returned: an override may lack both.
+        MissingNameAndID = sys::NAGA_CHECK_OVERRIDE_ERROR_MISSING_NAME_AND_ID => "Override name and ID are missing",
+        /// An earlier override has the same number (WGSL "id").
+        DuplicateID = sys::NAGA_CHECK_OVERRIDE_ERROR_DUPLICATE_ID => "Override ID must be unique",
+        /// Never returned: the rule of global expressions refuses such an initialiser.
+        InitializerExprType = sys::NAGA_CHECK_OVERRIDE_ERROR_INITIALIZER_EXPR_TYPE
+            => "Initializer must be a const-expression or override-expression",
+        /// The initialiser has another type than the override.
+        InvalidType = sys::NAGA_CHECK_OVERRIDE_ERROR_INVALID_TYPE => "The type doesn't match the override",
+        /// The type of the override is not constructible (WGSL "Constructible Types").
+        NonConstructibleType = sys::NAGA_CHECK_OVERRIDE_ERROR_NON_CONSTRUCTIBLE_TYPE
+            => "The type is not constructible",
+        /// The type of the override is none of the scalars that overrides may have (WGSL "override Declarations").
+        TypeNotScalar = sys::NAGA_CHECK_OVERRIDE_ERROR_TYPE_NOT_SCALAR => "The type is not a scalar",
+        /// Never returned: modules may have overrides.
+        NotAllowed = sys::NAGA_CHECK_OVERRIDE_ERROR_NOT_ALLOWED => "Override declarations are not allowed",
+        /// Overrides have to have their values, and this one has no initialiser.
+        UninitializedOverride = sys::NAGA_CHECK_OVERRIDE_ERROR_UNINITIALIZED_OVERRIDE => "Override is uninitialized",
+        /// Never returned: the rule of global expressions refuses them before.
+        ConstExpression = sys::NAGA_CHECK_OVERRIDE_ERROR_CONST_EXPRESSION => "A constant expression is invalid",
+    }
+}
+
+errors! {
+    /// What is wrong with a module as a whole. No call returns it.
+    pub enum ModuleError {
+        /// The module is corrupted.
+        Corrupted = sys::NAGA_CHECK_MODULE_ERROR_CORRUPTED => "Module is corrupted",
+        /// The size of an array is not positive.
+        ArraySize = sys::NAGA_CHECK_MODULE_ERROR_ARRAY_SIZE => "Array size expression is not strictly positive",
+    }
+}
+
+errors! {
+    /// Why the members of a struct can't be the two sources of blending (WGSL "blend_src").
+    pub enum VaryingError {
+        /// A source of blending has another location than 0, or an index other than 0 and 1.
+        InvalidBlendSrcIndex = sys::NAGA_CHECK_VARYING_ERROR_INVALID_BLEND_SRC_INDEX
+            => "A blend source has to be 0 or 1 at location 0",
+        /// A member before is the same source.
+        BindingCollisionBlendSrc = sys::NAGA_CHECK_VARYING_ERROR_BINDING_COLLISION_BLEND_SRC
+            => "Several members are the same blend source",
+        /// A member of a struct with blend sources has a location, but is not a source itself.
+        InvalidBlendSrcWithOtherBindings = sys::NAGA_CHECK_VARYING_ERROR_INVALID_BLEND_SRC_WITH_OTHER_BINDINGS
+            => "A member at a location stands beside blend sources",
+        /// The two sources have different types.
+        BlendSrcOutputTypeMismatch = sys::NAGA_CHECK_VARYING_ERROR_BLEND_SRC_OUTPUT_TYPE_MISMATCH
+            => "The blend sources are of types which differ",
+        /// Pipeline stages can't pass values of the sources' type (WGSL "Input-output Locations").
+        NotIOShareableType = sys::NAGA_CHECK_VARYING_ERROR_NOT_IO_SHAREABLE_TYPE
+            => "Values of the type can't be passed between pipeline stages",
+        /// Only one of the two sources exists.
+        IncompleteBlendSrcUsage = sys::NAGA_CHECK_VARYING_ERROR_INCOMPLETE_BLEND_SRC_USAGE
+            => "Only one blend source is there, and not the other one",
+    }
+}
+
+errors! {
+    /// Why a width of a scalar is refused.
+    pub enum WidthError {
+        /// No capability allows scalars of this kind the width.
+        Invalid = sys::NAGA_CHECK_WIDTH_ERROR_INVALID => "The scalar width is not supported",
+        /// The width needs a capability.
+        MissingCapability = sys::NAGA_CHECK_WIDTH_ERROR_MISSING_CAPABILITY
+            => "Using values of the type requires a flag of `Capabilities`",
+        /// Only constant expressions have abstract scalars (WGSL "Abstract Numeric Types").
+        Abstract = sys::NAGA_CHECK_WIDTH_ERROR_ABSTRACT
+            => "Abstract types may only appear in constant expressions",
+    }
+}
+
+errors! {
+    /// Why a value can't be composed.
+    pub enum ComposeError {
+        /// Values of the type aren't composed.
+        Type = sys::NAGA_CHECK_COMPOSE_ERROR_TYPE => "Composing of the type can't be done",
+        /// The components are too few or too many.
+        ComponentCount = sys::NAGA_CHECK_COMPOSE_ERROR_COMPONENT_COUNT
+            => "Composing expects another number of components",
+        /// A component has the wrong type.
+        ComponentType = sys::NAGA_CHECK_COMPOSE_ERROR_COMPONENT_TYPE
+            => "Composing's component type is not expected",
+    }
+}
+
+errors! {
+    /// Why an expression has no type.
+    pub enum ResolveError {
+        /// The types of the operands don't fit the expression.
+        IncompatibleOperands = sys::NAGA_CHECK_RESOLVE_ERROR_INCOMPATIBLE_OPERANDS => "Incompatible operands",
+        /// The typing doesn't support this variant of expressions.
+        NotResolvable = sys::NAGA_CHECK_RESOLVE_ERROR_NOT_RESOLVABLE
+            => "The type of the expression can't be resolved",
+    }
+}
+
+errors! {
+    /// Why a value has no length.
+    pub enum IndexableLengthError {
+        /// It is neither a vector, matrix, array or binding array, nor a pointer to one.
+        TypeNotIndexable = sys::NAGA_CHECK_INDEXABLE_LENGTH_ERROR_TYPE_NOT_INDEXABLE
+            => "Type is not indexable, and has no length (validation error)",
+        /// The override that gives the number of elements has no initialiser that is an index constant above 0.
+        InvalidArrayLength = sys::NAGA_CHECK_INDEXABLE_LENGTH_ERROR_INVALID_ARRAY_LENGTH
+            => "Array length is not a positive constant",
+    }
+}
+
+errors! {
+    /// Why a type has no layout for the uniform or the storage address space (WGSL "Alignment and Size", "Address Space
+    /// Layout Constraints").
+    pub enum Disalignment {
+        /// An array's stride is not a multiple of the alignment that the array needs.
+        ArrayStride = sys::NAGA_CHECK_DISALIGNMENT_ARRAY_STRIDE
+            => "The array stride is not a multiple of the required alignment",
+        /// A struct's span is not a multiple of the struct's alignment.
+        StructSpan = sys::NAGA_CHECK_DISALIGNMENT_STRUCT_SPAN
+            => "The struct span is not a multiple of the required alignment",
+        /// A member's offset is not a multiple of the alignment that the member needs.
+        MemberOffset = sys::NAGA_CHECK_DISALIGNMENT_MEMBER_OFFSET
+            => "A struct member's offset is not a multiple of the required alignment",
+        /// A member follows a struct, and begins before that struct's size rounded up to 16 bytes ends.
+        MemberOffsetAfterStruct = sys::NAGA_CHECK_DISALIGNMENT_MEMBER_OFFSET_AFTER_STRUCT
+            => "A struct member's offset is too close to the struct before it",
+        /// A member of a uniform struct has no fixed size.
+        UnsizedMember = sys::NAGA_CHECK_DISALIGNMENT_UNSIZED_MEMBER => "A struct member is not statically sized",
+        /// Hosts can't share values of the type (WGSL "Host-shareable Types").
+        NonHostShareable = sys::NAGA_CHECK_DISALIGNMENT_NON_HOST_SHAREABLE => "The type is not host-shareable",
+    }
+}

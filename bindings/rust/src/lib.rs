@@ -1,0 +1,67 @@
+//! A validator of shader modules whose verdicts are proved: bindings to `libnaga_check`.
+//!
+//! [`Words`] builds a module from types, expressions and functions that are named as in naga, and the calls read its
+//! words: [`check_words`] and [`check_functions`] validate it, [`leaves`] tells at which bytes of a buffer its values
+//! are, and [`slots`] which immediate data they use. [`check_text`] reports on a module in the text that the program
+//! `naga_check` reads.
+//!
+//! ```
+//! use naga_check::{check_words, Error, Scalar, TypeInner, Words};
+//!
+//! let mut words = Words::new();
+//! words.add_type(TypeInner::Scalar(Scalar::F16));
+//! let Err(Error::Refused(refusal)) = check_words(&words.finish()?) else {
+//!     panic!("floats of 16 bits need a capability");
+//! };
+//! assert_eq!(refusal.to_string(), "Type [0] is invalid");
+//! # Ok::<(), naga_check::BuildError>(())
+//! ```
+//!
+//! Nothing is kept between calls, and any number of threads may call at once.
+#![deny(missing_docs)]
+#![forbid(unsafe_op_in_unsafe_fn)]
+#![deny(unsafe_code)]
+
+mod calls;
+mod errors;
+mod expression_error;
+mod expressions;
+mod flags;
+mod module;
+mod operands;
+mod operators;
+#[allow(unsafe_code)]
+mod raw;
+mod statements;
+#[allow(unsafe_code)]
+pub mod sys;
+mod type_table;
+mod types;
+mod words;
+
+pub use calls::{
+    check_functions, check_text, check_words, leaves, leaves_up_to, slots, FunctionStages,
+    FunctionsError, Leaf, Leaves, Report, TypeInfo, Verdict,
+};
+pub use errors::{
+    ComposeError, ConstExpressionError, ConstantError, Disalignment, Error, HandleError,
+    IndexableLengthError, LayoutError, ModuleError, OverrideError, Refusal, ResolveError,
+    TypeError, VaryingError, WidthError,
+};
+pub use expression_error::ExpressionError;
+pub use expressions::{Expression, ImageQuery, Literal, SampleLevel, SwizzleComponent};
+pub use flags::{Capabilities, ShaderStages, TypeFlags, ValidationFlags};
+pub use module::{
+    Constant, DiagnosticFilterNode, Documented, EntryPoint, Function, FunctionArgument,
+    FunctionResult, GlobalVariable, LocalVariable, MeshStageInfo, Override, SpecialTypes,
+};
+pub use operands::Handle;
+pub use operators::{BinaryOperator, MathFunction, RelationalFunction, UnaryOperator};
+pub use statements::{
+    AtomicFunction, Block, GatherMode, RayQueryFunction, Statement, SubgroupOperation, SwitchCase,
+};
+pub use types::{
+    AddressSpace, ArraySize, Binding, CooperativeRole, CooperativeSize, ImageClass, ImageDimension,
+    Scalar, ScalarKind, StorageAccess, StructMember, Type, TypeInner, VectorSize,
+};
+pub use words::{BuildError, Words};

@@ -1,0 +1,99 @@
+//! The calls of the C interface on slices: all unsafe code of this crate.
+//!
+//! What they owe the library is the same each time, and slices have it. Their pointers are aligned and not null, also
+//! those of empty slices; a slice has as many elements as its length says, and at most `isize::MAX` bytes; and a
+//! mutable one overlaps no other, nor a local variable. The stack that a call needs is the caller's to give.
+
+use crate::sys::{
+    self, NagaCheckCounts, NagaCheckLeaf, NagaCheckOutcome, NagaCheckStatus, NagaCheckTypeInfo,
+};
+
+/// Writes the report on a text, and returns its length.
+pub(crate) fn check_text(text: &[u8], report: &mut [u8]) -> (NagaCheckStatus, usize) {
+    let mut length = 0;
+    // SAFETY: the buffers are slices, and `length` is a variable of its own.
+    let status = unsafe {
+        sys::naga_check_text(
+            text.as_ptr(),
+            text.len(),
+            report.as_mut_ptr(),
+            report.len(),
+            &raw mut length,
+        )
+    };
+    (status, length)
+}
+
+/// Validates a module, and writes the infos of its types.
+pub(crate) fn check_words(
+    words: &[u32],
+    infos: &mut [NagaCheckTypeInfo],
+) -> (NagaCheckStatus, NagaCheckOutcome) {
+    let mut outcome = NagaCheckOutcome::default();
+    // SAFETY: the buffers are slices, and `outcome` is a variable of its own.
+    let status = unsafe {
+        sys::naga_check_words(
+            words.as_ptr(),
+            words.len(),
+            infos.as_mut_ptr(),
+            infos.len(),
+            &raw mut outcome,
+        )
+    };
+    (status, outcome)
+}
+
+/// Validates a module with its functions, and writes the stages of functions and entry points.
+pub(crate) fn check_functions(
+    words: &[u32],
+    stages: &mut [u32],
+) -> (NagaCheckStatus, NagaCheckOutcome) {
+    let mut outcome = NagaCheckOutcome::default();
+    // SAFETY: the buffers are slices, and `outcome` is a variable of its own.
+    let status = unsafe {
+        sys::naga_check_functions(
+            words.as_ptr(),
+            words.len(),
+            stages.as_mut_ptr(),
+            stages.len(),
+            &raw mut outcome,
+        )
+    };
+    (status, outcome)
+}
+
+/// Writes the leaves of types, and their paths.
+pub(crate) fn leaves(
+    words: &[u32],
+    types: &[u32],
+    length: u32,
+    leaves: &mut [NagaCheckLeaf],
+    paths: &mut [u32],
+) -> (NagaCheckStatus, NagaCheckCounts) {
+    let mut counts = NagaCheckCounts::default();
+    // SAFETY: the buffers are slices, and `counts` is a variable of its own.
+    let status = unsafe {
+        sys::naga_check_leaves(
+            words.as_ptr(),
+            words.len(),
+            types.as_ptr(),
+            types.len(),
+            length,
+            leaves.as_mut_ptr(),
+            leaves.len(),
+            paths.as_mut_ptr(),
+            paths.len(),
+            &raw mut counts,
+        )
+    };
+    (status, counts)
+}
+
+/// Returns the slots of immediate data that a value of a type uses from a byte on.
+pub(crate) fn slots(words: &[u32], ty: u32, offset: u32) -> (NagaCheckStatus, u64) {
+    let mut slots = 0;
+    // SAFETY: the words are a slice, and `slots` is a variable of its own.
+    let status =
+        unsafe { sys::naga_check_slots(words.as_ptr(), words.len(), ty, offset, &raw mut slots) };
+    (status, slots)
+}

@@ -1,0 +1,343 @@
+//! Statements, as in naga.
+
+use crate::expressions::Expression;
+use crate::module::Function;
+use crate::operands::{items, words_of_values, Handle, Operand};
+use crate::sys;
+use std::ops::Range;
+
+/// Statements that are executed in order.
+pub type Block = Vec<Statement>;
+
+/// A case of a `switch`.
+#[derive(Clone, Debug, Default, PartialEq, Eq)]
+pub struct SwitchCase {
+    /// What is executed.
+    pub body: Block,
+    /// Whether the next case is executed after this one.
+    pub fall_through: bool,
+}
+
+/// What an atomic operation does.
+#[derive(Clone, Copy, Debug, PartialEq, Eq, Hash)]
+pub enum AtomicFunction {
+    /// Adds the value.
+    Add,
+    /// Subtracts the value.
+    Subtract,
+    /// Keeps the bits that both have.
+    And,
+    /// Keeps the bits that one has.
+    ExclusiveOr,
+    /// Keeps the bits that any has.
+    InclusiveOr,
+    /// Keeps the lesser.
+    Min,
+    /// Keeps the greater.
+    Max,
+    /// Replaces the value.
+    Exchange {
+        /// Only if it equals this one.
+        compare: Option<Handle<Expression>>,
+    },
+}
+
+impl Operand for AtomicFunction {
+    fn write(&self, words: &mut Vec<u32>) {
+        let number = match self {
+            AtomicFunction::Add => sys::NAGA_CHECK_ATOMIC_ADD,
+            AtomicFunction::Subtract => sys::NAGA_CHECK_ATOMIC_SUBTRACT,
+            AtomicFunction::And => sys::NAGA_CHECK_ATOMIC_AND,
+            AtomicFunction::ExclusiveOr => sys::NAGA_CHECK_ATOMIC_EXCLUSIVE_OR,
+            AtomicFunction::InclusiveOr => sys::NAGA_CHECK_ATOMIC_INCLUSIVE_OR,
+            AtomicFunction::Min => sys::NAGA_CHECK_ATOMIC_MIN,
+            AtomicFunction::Max => sys::NAGA_CHECK_ATOMIC_MAX,
+            AtomicFunction::Exchange { .. } => sys::NAGA_CHECK_ATOMIC_EXCHANGE,
+        };
+        words.push(number);
+        match self {
+            AtomicFunction::Exchange { compare } => compare.write(words),
+            _ => words.push(0),
+        }
+    }
+}
+
+/// A step of a ray query.
+#[derive(Clone, Copy, Debug, PartialEq, Eq, Hash)]
+pub enum RayQueryFunction {
+    /// Begins it.
+    Initialize {
+        /// What the ray is traced through.
+        acceleration_structure: Handle<Expression>,
+        /// The ray: where it begins and where it goes.
+        descriptor: Handle<Expression>,
+    },
+    /// Proceeds to the next candidate.
+    Proceed {
+        /// Whether there was one.
+        result: Handle<Expression>,
+    },
+    /// Commits a generated hit.
+    GenerateIntersection {
+        /// The distance of the hit.
+        hit_t: Handle<Expression>,
+    },
+    /// Commits the candidate.
+    ConfirmIntersection,
+    /// Ends it.
+    Terminate,
+}
+
+impl Operand for RayQueryFunction {
+    fn write(&self, words: &mut Vec<u32>) {
+        words.extend(match self {
+            RayQueryFunction::Initialize {
+                acceleration_structure,
+                descriptor,
+            } => [
+                sys::NAGA_CHECK_RAY_STEP_INITIALIZE,
+                acceleration_structure.index(),
+                descriptor.index(),
+            ],
+            RayQueryFunction::Proceed { result } => {
+                [sys::NAGA_CHECK_RAY_STEP_PROCEED, result.index(), 0]
+            }
+            RayQueryFunction::GenerateIntersection { hit_t } => [
+                sys::NAGA_CHECK_RAY_STEP_GENERATE_INTERSECTION,
+                hit_t.index(),
+                0,
+            ],
+            RayQueryFunction::ConfirmIntersection => {
+                [sys::NAGA_CHECK_RAY_STEP_CONFIRM_INTERSECTION, 0, 0]
+            }
+            RayQueryFunction::Terminate => [sys::NAGA_CHECK_RAY_STEP_TERMINATE, 0, 0],
+        });
+    }
+}
+
+/// From which invocation of a subgroup a value is taken.
+#[derive(Clone, Copy, Debug, PartialEq, Eq, Hash)]
+pub enum GatherMode {
+    /// The first.
+    BroadcastFirst,
+    /// The one of this number.
+    Broadcast(Handle<Expression>),
+    /// For each, the one of this number.
+    Shuffle(Handle<Expression>),
+    /// For each, the one whose number is greater by this.
+    ShuffleDown(Handle<Expression>),
+    /// For each, the one whose number is less by this.
+    ShuffleUp(Handle<Expression>),
+    /// For each, the one whose number differs in these bits.
+    ShuffleXor(Handle<Expression>),
+    /// The one of this number in the quad.
+    QuadBroadcast(Handle<Expression>),
+    /// Another one of the quad.
+    QuadSwap,
+}
+
+impl Operand for GatherMode {
+    fn write(&self, words: &mut Vec<u32>) {
+        words.extend(match self {
+            GatherMode::BroadcastFirst => [sys::NAGA_CHECK_GATHER_BROADCAST_FIRST, 0],
+            GatherMode::Broadcast(at) => [sys::NAGA_CHECK_GATHER_BROADCAST, at.index()],
+            GatherMode::Shuffle(at) => [sys::NAGA_CHECK_GATHER_SHUFFLE, at.index()],
+            GatherMode::ShuffleDown(by) => [sys::NAGA_CHECK_GATHER_SHUFFLE_DOWN, by.index()],
+            GatherMode::ShuffleUp(by) => [sys::NAGA_CHECK_GATHER_SHUFFLE_UP, by.index()],
+            GatherMode::ShuffleXor(by) => [sys::NAGA_CHECK_GATHER_SHUFFLE_XOR, by.index()],
+            GatherMode::QuadBroadcast(at) => [sys::NAGA_CHECK_GATHER_QUAD_BROADCAST, at.index()],
+            GatherMode::QuadSwap => [sys::NAGA_CHECK_GATHER_QUAD_SWAP, 0],
+        });
+    }
+}
+
+/// What a subgroup makes of the values of its invocations.
+#[derive(Clone, Copy, Debug, PartialEq, Eq, Hash)]
+#[repr(u32)]
+pub enum SubgroupOperation {
+    /// Whether all are true.
+    All = sys::NAGA_CHECK_SUBGROUP_ALL,
+    /// Whether any is true.
+    Any = sys::NAGA_CHECK_SUBGROUP_ANY,
+    /// The sum.
+    Add = sys::NAGA_CHECK_SUBGROUP_ADD,
+    /// The product.
+    Mul = sys::NAGA_CHECK_SUBGROUP_MUL,
+    /// The least.
+    Min = sys::NAGA_CHECK_SUBGROUP_MIN,
+    /// The greatest.
+    Max = sys::NAGA_CHECK_SUBGROUP_MAX,
+    /// The bits that all have.
+    And = sys::NAGA_CHECK_SUBGROUP_AND,
+    /// The bits that any has.
+    Or = sys::NAGA_CHECK_SUBGROUP_OR,
+    /// The bits that an odd number of them has.
+    Xor = sys::NAGA_CHECK_SUBGROUP_XOR,
+}
+
+words_of_values!(SubgroupOperation);
+
+impl Operand for Range<u32> {
+    fn write(&self, words: &mut Vec<u32>) {
+        words.extend([self.start, self.end]);
+    }
+}
+
+items! {
+    /// A statement.
+    #[derive(Clone, Debug, PartialEq, Eq)]
+    pub enum Statement {
+        /// Evaluates the expressions from the first index on, up to but not the second.
+        Emit(range: Range<u32>) = sys::NAGA_CHECK_STATEMENT_EMIT [range],
+        /// A block of its own.
+        Block(block: Block) = sys::NAGA_CHECK_STATEMENT_BLOCK [],
+        /// One of two blocks, by a condition.
+        If {
+            /// The condition.
+            condition: Handle<Expression>,
+            /// What is executed if it is true.
+            accept: Block,
+            /// What is executed if it is false.
+            reject: Block,
+        } = sys::NAGA_CHECK_STATEMENT_IF [condition],
+        /// One of several blocks, by a number. The values of cases have no words: no rule depends on them.
+        Switch {
+            /// The number.
+            selector: Handle<Expression>,
+            /// The blocks.
+            cases: Vec<SwitchCase>,
+        } = sys::NAGA_CHECK_STATEMENT_SWITCH [selector],
+        /// Two blocks again and again, until a `Break` or until `break_if` is true after them.
+        Loop {
+            /// What is executed first.
+            body: Block,
+            /// What is executed after it.
+            continuing: Block,
+            /// The condition that ends the loop.
+            break_if: Option<Handle<Expression>>,
+        } = sys::NAGA_CHECK_STATEMENT_LOOP [],
+        /// Leaves the innermost loop or switch.
+        Break = sys::NAGA_CHECK_STATEMENT_BREAK [],
+        /// Goes to the `continuing` block of the innermost loop.
+        Continue = sys::NAGA_CHECK_STATEMENT_CONTINUE [],
+        /// Leaves the function.
+        Return {
+            /// What it returns.
+            value: Option<Handle<Expression>>,
+        } = sys::NAGA_CHECK_STATEMENT_RETURN [value],
+        /// Ends the invocation of a fragment.
+        Kill = sys::NAGA_CHECK_STATEMENT_KILL [],
+        /// Waits for the other invocations.
+        ControlBarrier = sys::NAGA_CHECK_STATEMENT_CONTROL_BARRIER [],
+        /// Orders accesses to memory.
+        MemoryBarrier = sys::NAGA_CHECK_STATEMENT_MEMORY_BARRIER [],
+        /// Writes a value to what a pointer points to.
+        Store {
+            /// The pointer.
+            pointer: Handle<Expression>,
+            /// The value.
+            value: Handle<Expression>,
+        } = sys::NAGA_CHECK_STATEMENT_STORE [pointer, value],
+        /// Writes a texel of an image.
+        ImageStore {
+            /// The image.
+            image: Handle<Expression>,
+            /// Where in the image.
+            coordinate: Handle<Expression>,
+            /// The layer, of an arrayed image.
+            array_index: Option<Handle<Expression>>,
+            /// The value of the texel.
+            value: Handle<Expression>,
+        } = sys::NAGA_CHECK_STATEMENT_IMAGE_STORE [image, coordinate, array_index, value],
+        /// An atomic operation on what a pointer points to.
+        Atomic {
+            /// The pointer.
+            pointer: Handle<Expression>,
+            /// The operation.
+            fun: AtomicFunction,
+            /// Its operand.
+            value: Handle<Expression>,
+            /// What was there before, if it is used.
+            result: Option<Handle<Expression>>,
+        } = sys::NAGA_CHECK_STATEMENT_ATOMIC [pointer, fun, value, result],
+        /// An atomic operation on a texel.
+        ImageAtomic {
+            /// The image.
+            image: Handle<Expression>,
+            /// Where in the image.
+            coordinate: Handle<Expression>,
+            /// The layer, of an arrayed image.
+            array_index: Option<Handle<Expression>>,
+            /// The operation.
+            fun: AtomicFunction,
+            /// Its operand.
+            value: Handle<Expression>,
+        } = sys::NAGA_CHECK_STATEMENT_IMAGE_ATOMIC [image, coordinate, array_index, fun, value],
+        /// Loads one value for the whole workgroup.
+        WorkGroupUniformLoad {
+            /// A pointer to the value.
+            pointer: Handle<Expression>,
+            /// The value.
+            result: Handle<Expression>,
+        } = sys::NAGA_CHECK_STATEMENT_WORKGROUP_UNIFORM_LOAD [pointer, result],
+        /// Calls a function.
+        Call {
+            /// The function.
+            function: Handle<Function>,
+            /// Its arguments.
+            arguments: Vec<Handle<Expression>>,
+            /// What the function returns, if it returns something.
+            result: Option<Handle<Expression>>,
+        } = sys::NAGA_CHECK_STATEMENT_CALL [function, result, arguments],
+        /// A step of a ray query.
+        RayQuery {
+            /// A pointer to the query.
+            query: Handle<Expression>,
+            /// The step.
+            fun: RayQueryFunction,
+        } = sys::NAGA_CHECK_STATEMENT_RAY_QUERY [query, fun],
+        /// Traces a ray: naga's `RayPipelineFunction(TraceRay { .. })`.
+        TraceRay {
+            /// What the ray is traced through.
+            acceleration_structure: Handle<Expression>,
+            /// The ray: where it begins and where it goes.
+            descriptor: Handle<Expression>,
+            /// A pointer to what the stages of the trace share.
+            payload: Handle<Expression>,
+        } = sys::NAGA_CHECK_STATEMENT_TRACE_RAY [acceleration_structure, descriptor, payload],
+        /// Collects a bool from all invocations of the subgroup.
+        SubgroupBallot {
+            /// The collection.
+            result: Handle<Expression>,
+            /// The bool; without it, each invocation takes part with true.
+            predicate: Option<Handle<Expression>>,
+        } = sys::NAGA_CHECK_STATEMENT_SUBGROUP_BALLOT [result, predicate],
+        /// Takes values of other invocations of the subgroup.
+        SubgroupGather {
+            /// Of which invocations.
+            mode: GatherMode,
+            /// The value that an invocation gives.
+            argument: Handle<Expression>,
+            /// The value that it takes.
+            result: Handle<Expression>,
+        } = sys::NAGA_CHECK_STATEMENT_SUBGROUP_GATHER [mode, argument, result],
+        /// Makes one value of the values of the subgroup.
+        SubgroupCollectiveOperation {
+            /// What is made of them.
+            op: SubgroupOperation,
+            /// The value that an invocation gives.
+            argument: Handle<Expression>,
+            /// The value that is made.
+            result: Handle<Expression>,
+        } = sys::NAGA_CHECK_STATEMENT_SUBGROUP_OPERATION [op, argument, result],
+        /// Writes a cooperative matrix to memory.
+        CooperativeStore {
+            /// The matrix.
+            target: Handle<Expression>,
+            /// A pointer to where its first component goes.
+            pointer: Handle<Expression>,
+            /// From the start of a column or row to the start of the next, in elements.
+            stride: Handle<Expression>,
+        } = sys::NAGA_CHECK_STATEMENT_COOPERATIVE_STORE [target, pointer, stride],
+    }
+}

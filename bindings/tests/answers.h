@@ -1,0 +1,76 @@
+/* Every call on a module or a text, with all that it writes. */
+#ifndef ANSWERS_H
+#define ANSWERS_H
+
+#include <naga_check.h>
+#include <stdio.h>
+#include <stdlib.h>
+#include <string.h>
+
+enum { MOST_WORDS = 4096, MOST_TYPES = 64, MOST_CALLABLES = 16, MOST_LEAVES = 64, MOST_INDEXES = 256 };
+enum { MOST_BYTES = 256 };
+enum { ABOUT_TEXT, ABOUT_WORDS, ABOUT_FUNCTIONS, ABOUT_LEAVES, ABOUT_SLOTS, CALLS };
+
+static const char *const call_names[CALLS] = {"text", "words", "functions", "leaves", "slots"};
+
+/* What a call returned and wrote. What it left as it was is 0. */
+typedef struct {
+  naga_check_status status;
+  naga_check_outcome outcome;
+  naga_check_type_info infos[MOST_TYPES];
+  uint32_t stages[MOST_CALLABLES];
+  naga_check_leaf leaves[MOST_LEAVES];
+  uint32_t paths[MOST_INDEXES];
+  naga_check_counts counts;
+  uint64_t slots;
+  uint8_t report[MOST_BYTES];
+  size_t length;
+} answer;
+
+/* What is asked about. */
+typedef struct {
+  const char *text;
+  uint32_t words[MOST_WORDS];
+  size_t word_count;
+  uint32_t type; /* whose leaves and slots are asked for */
+} question;
+
+/* The words of a file, a line each. */
+static void read_words(const char *path, question *asked) {
+  unsigned long word;
+  FILE *file = fopen(path, "r");
+  if (!file) {
+    perror(path);
+    exit(2);
+  }
+  asked->word_count = 0;
+  while (asked->word_count < MOST_WORDS && fscanf(file, "%lu", &word) == 1)
+    asked->words[asked->word_count++] = (uint32_t)word;
+  fclose(file);
+}
+
+static inline void ask(const question *asked, int call, answer *given) {
+  const uint32_t *words = asked->words;
+  const size_t count = asked->word_count;
+  memset(given, 0, sizeof *given);
+  switch (call) {
+  case ABOUT_TEXT:
+    given->status = naga_check_text((const uint8_t *)asked->text, strlen(asked->text), given->report, MOST_BYTES,
+                                    &given->length);
+    break;
+  case ABOUT_WORDS:
+    given->status = naga_check_words(words, count, given->infos, MOST_TYPES, &given->outcome);
+    break;
+  case ABOUT_FUNCTIONS:
+    given->status = naga_check_functions(words, count, given->stages, MOST_CALLABLES, &given->outcome);
+    break;
+  case ABOUT_LEAVES:
+    given->status = naga_check_leaves(words, count, &asked->type, 1, 3, given->leaves, MOST_LEAVES, given->paths,
+                                      MOST_INDEXES, &given->counts);
+    break;
+  default:
+    given->status = naga_check_slots(words, count, asked->type, 4, &given->slots);
+  }
+}
+
+#endif

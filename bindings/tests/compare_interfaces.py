@@ -1,0 +1,203 @@
+#!/usr/bin/env python3
+"""Compares what says the C interface: the header, `sys.rs` and the crate that it is part of, docs/WORDS.md, and the
+sources in Rattle as far as they are there.
+
+    compare_interfaces.py HEADER SYS WORDS CRATES
+"""
+
+import glob
+import os
+import re
+import sys
+
+RUST_TYPES = {"u8": "uint8_t", "u32": "uint32_t", "u64": "uint64_t", "usize": "size_t",
+              "NagaCheckStatus": "naga_check_status", "NagaCheckOutcome": "naga_check_outcome",
+              "NagaCheckTypeInfo": "naga_check_type_info", "NagaCheckLeaf": "naga_check_leaf",
+              "NagaCheckCounts": "naga_check_counts"}
+
+# How the header calls the enums of the sources in Rattle: of errors, and of what tables list by number.
+ERRORS = {"InvalidHandleError": "HANDLE_ERROR", "LayoutErrorInner": "LAYOUT_ERROR", "TypeError": "TYPE_ERROR",
+          "ConstExpressionError": "CONST_EXPRESSION_ERROR", "ConstantError": "CONSTANT_ERROR",
+          "OverrideError": "OVERRIDE_ERROR", "ExpressionError": "EXPRESSION_ERROR", "VaryingError": "VARYING_ERROR",
+          "WidthError": "WIDTH_ERROR", "ComposeError": "COMPOSE_ERROR", "ResolveError": "RESOLVE_ERROR",
+          "IndexableLengthError": "INDEXABLE_LENGTH_ERROR", "Disalignment": "DISALIGNMENT"}
+TABLES = {"ScalarKind": "KIND", "CooperativeRole": "ROLE", "ImageDimension": "DIMENSION",
+          "SwizzleComponent": "COMPONENT", "UnaryOperator": "UNARY", "BinaryOperator": "BINARY",
+          "RelationalFunction": "RELATIONAL", "MathFunction": "MATH", "SubgroupOperation": "SUBGROUP"}
+RENAMED = {"D1": "1D", "D2": "2D", "D3": "3D"}
+# What no value of the crate stands for.
+UNUSED = {"NAGA_CHECK_ABI_VERSION", "NAGA_CHECK_STAGE_NONE"}
+
+differences = []
+
+
+def same(what, first, second):
+    """Notes what only one of two dictionaries or sets has, or has otherwise."""
+    first, second = (dict.fromkeys(it) if isinstance(it, set) else it for it in (first, second))
+    for name in sorted(first.keys() | second.keys(), key=str):
+        if first.get(name, "absent") != second.get(name, "absent"):
+            differences.append(f"{what} {name}: {first.get(name, 'absent')} and {second.get(name, 'absent')}")
+
+
+def read(path):
+    return open(path, encoding="utf-8").read()
+
+
+def without_comments(text):
+    text = re.sub(r"/\*.*?\*/", "", text, flags=re.DOTALL)
+    return re.sub(r"//.*", "", text)
+
+
+def header_constants(text):
+    named = re.findall(r"^#define (NAGA_CHECK_\w+) (\w+)$", text, re.MULTILINE)
+    named += re.findall(r"\b(NAGA_CHECK_\w+) = (\d+)", text)
+    return {name: int(value.rstrip("u"), 0) for name, value in named}
+
+
+def sys_constants(text):
+    named = re.findall(r"\b(NAGA_CHECK_\w+)(?:: u32)? = (\w+)[,;]", text)
+    return {name: int(value.replace("_", ""), 0) for name, value in named}
+
+
+def header_structs(text):
+    found = re.findall(r"typedef struct (\w+) \{(.*?)\} \w+;", text, re.DOTALL)
+    return {name: re.findall(r"(\w+) (\w+);", body) for name, body in found}
+
+
+def rust_structs(text):
+    found = re.findall(r"#\[repr\(C\)\]\s*(?:#\[[^\]]*\]\s*)*pub struct (\w+) \{(.*?)\n\}", text, re.DOTALL)
+    return {RUST_TYPES.get(name, name): [(RUST_TYPES.get(ty, ty), field.removeprefix("r#"))
+                                         for field, ty in re.findall(r"pub (\S+): (\w+),", body)]
+            for name, body in found}
+
+
+def header_functions(text):
+    found = re.findall(r"^(\w+) (naga_check_\w+)\((.*?)\);", text, re.MULTILINE | re.DOTALL)
+    functions = {}
+    for result, name, parameters in found:
+        parameters = re.sub(r"\s+", " ", parameters)
+        functions[name] = (result, [] if parameters == "void" else
+                           [parameter.replace(" *", "* ").rsplit(" ", 1) for parameter in parameters.split(", ")])
+    return functions
+
+
+def c_type(ty):
+    """The C type of a Rust type of a parameter."""
+    if ty.startswith("*const "):
+        return "const " + RUST_TYPES[ty[len("*const "):]] + "*"
+    if ty.startswith("*mut "):
+        return RUST_TYPES[ty[len("*mut "):]] + "*"
+    return RUST_TYPES[ty]
+
+
+def sys_functions(text):
+    found = re.findall(r"pub (?:safe )?fn (naga_check_\w+)\((.*?)\) -> (\w+);", text, re.DOTALL)
+    return {name: (RUST_TYPES[result], [[c_type(ty), parameter.removeprefix("r#")]
+                                        for parameter, ty in re.findall(r"(\S+): ([^,]+),", parameters)])
+            for name, parameters, result in found}
+
+
+def compare_variants(constants, folder):
+    """Compares the names of the crate's variants with those of the constants that are their numbers."""
+    text = "".join(without_comments(read(path)) for path in sorted(glob.glob(folder + "/*.rs")) if path != sys.argv[2])
+    named = re.findall(r"(\w+)(?:\s*\([^()]*\)|\s*\{[^{}]*\})?\s*=\s*sys::(NAGA_CHECK_\w+)", text)
+    for variant, constant in named:
+        # naga's name of a statement says more than the header's.
+        name = RENAMED.get(variant, variant).upper().replace("COLLECTIVEOPERATION", "OPERATION")
+        if not constant.replace("_", "").endswith(name):
+            differences.append(f"variant {variant}: {constant}")
+    same("constant of the crate", set(constants) - UNUSED, set(re.findall(r"sys::(NAGA_CHECK_\w+)", text)))
+
+
+def words_opcodes(text):
+    """The opcodes of the tables, which name each one at the beginning of a row or after a comma in its first column."""
+    tables = text[text.index("## Settings"):text.index("## What can't be read")]
+    before, forms = tables.split("## Expressions")
+    forms, after = forms.split("## Parts of a function")
+    rows = re.findall(r"^\| (\d+ .*?) \|", before + after, re.MULTILINE)
+    opcodes = {int(number) for row in rows for number in re.findall(r"(?:^|, )(\d+) ", row)}
+    return opcodes, {int(number) for number in re.findall(r"^\| (\d+) ", forms, re.MULTILINE)}
+
+
+def compare_words(constants, text):
+    opcodes, forms = words_opcodes(text)
+    named = {value for name, value in constants.items() if re.match(r"NAGA_CHECK_(OP|STATEMENT)_", name)}
+    same("opcode", named - {64, 128}, opcodes)
+    same("form", {value for name, value in constants.items() if name.startswith("NAGA_CHECK_FORM_")}, forms)
+
+
+def sources_of(crates, name):
+    return without_comments("".join(read(path) for path in sorted(glob.glob(f"{crates}/{name}/src/*.rt"))))
+
+
+def compare_exports(functions, structs, text):
+    exported = re.findall(r'#\[unsafe\(no_mangle\)\]\s*pub extern "C" fn (\w+)', text)
+    same("exported function", set(functions), set(exported))
+    fields = {tuple(field for _, field in of_struct) for of_struct in structs.values()}
+    for name, of_struct in rust_structs(text).items():
+        if tuple(field for _, field in of_struct) not in fields:
+            differences.append(f"struct {name} in Rattle: no struct of the header has its fields")
+
+
+def numbers_of_errors(text):
+    """The numbers that matches give the variants of errors."""
+    arms = re.findall(r"(\w+)::(\w+?)_?(?:\([^()]*\)|\s*\{[^{}]*\})? => (\d+),", text)
+    return {(name, variant): int(number) for name, variant, number in arms
+            if name in ERRORS and variant != "OutOfMemory" and number != "0"}
+
+
+def numbers_of_tables(text):
+    """The places of variants in lists of them."""
+    numbers = {}
+    for listed in re.findall(r"\[\s*((?:\w+::\w+,?\s*)+)\]", text):
+        variants = re.findall(r"(\w+)::(\w+)", listed)
+        numbers |= {variant: at for at, variant in enumerate(variants) if variant[0] in TABLES}
+    return numbers
+
+
+def compare_numbers(constants, names, numbers):
+    """Compares the constants of the header for some enums with the numbers of their variants."""
+    there = {names[name] for name, _ in numbers}
+    ours = {}
+    for (name, variant), number in numbers.items():
+        ours[(names[name] + RENAMED.get(variant, variant)).replace("_", "").upper()] = number
+    # An enum's name may begin another's: the longest that fits is meant.
+    by_length = sorted(list(ERRORS.values()) + list(TABLES.values()), key=len, reverse=True)
+    named = {}
+    for constant, value in constants.items():
+        rest = constant.removeprefix("NAGA_CHECK_")
+        prefix = next((prefix for prefix in by_length if rest.startswith(prefix + "_")), None)
+        if prefix in there:
+            named[rest.replace("_", "")] = value
+    same("number", named, ours)
+
+
+def compare_crates(constants, functions, structs, crates):
+    """Compares with the crates in Rattle, as far as they are there."""
+    exports, reader = sources_of(crates, "naga_c"), sources_of(crates, "naga_words")
+    if exports:
+        compare_exports(functions, structs, exports)
+        compare_numbers(constants, ERRORS, numbers_of_errors(exports))
+    if reader:
+        compare_numbers(constants, TABLES, numbers_of_tables(reader))
+    if not exports or not reader:
+        print(f"compare_interfaces: naga_c or naga_words is not in {crates}")
+
+
+def main():
+    header_path, sys_path, words_path, crates = sys.argv[1:]
+    header, rust = without_comments(read(header_path)), without_comments(read(sys_path))
+    constants = header_constants(header)
+    same("constant", constants, sys_constants(rust))
+    same("struct", header_structs(header), rust_structs(rust))
+    same("function", header_functions(header), sys_functions(rust))
+    compare_variants(constants, os.path.dirname(sys_path))
+    compare_words(constants, read(words_path))
+    compare_crates(constants, header_functions(header), header_structs(header), crates)
+    for difference in differences:
+        print(f"compare_interfaces: {difference}")
+    print(f"compare_interfaces: {len(constants)} constants, {len(differences)} differences")
+    sys.exit(bool(differences))
+
+
+main()

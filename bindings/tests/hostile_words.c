@@ -1,0 +1,95 @@
+/* Puts 0, 1, 2^31 and 2^32 - 1 in the place of each word of a module, and cuts it after each word. Each call has to
+ * return one of its statuses, and to keep to its buffers: behind each is a page that can't be read or written.
+ *
+ *   hostile_words WORDS
+ */
+#define _DEFAULT_SOURCE
+#include "answers.h"
+#include <sys/mman.h>
+#include <unistd.h>
+
+/* So many bytes that end where a page begins that can't be used. */
+static void *allocate_at_edge(size_t size) {
+  const size_t page = (size_t)sysconf(_SC_PAGESIZE);
+  const size_t pages = (size + page - 1) / page * page;
+  char *start = mmap(NULL, pages + page, PROT_READ | PROT_WRITE, MAP_PRIVATE | MAP_ANONYMOUS, -1, 0);
+  if (start == (char *)MAP_FAILED || mprotect(start + pages, page, PROT_NONE) != 0) {
+    perror("hostile_words");
+    exit(2);
+  }
+  return start + pages - size;
+}
+
+enum { FEW_TYPES = 40, FEW_CALLABLES = 8, FEW_LEAVES = 16, FEW_INDEXES = 32 };
+
+static uint32_t *words_end;
+static naga_check_type_info *infos;
+static naga_check_outcome *outcome;
+static naga_check_leaf *leaves;
+static naga_check_counts *counts;
+static uint32_t *stages, *paths, *type;
+static uint64_t *slots;
+static unsigned long seen[NAGA_CHECK_NO_TYPE + 1];
+
+static void require(int holds, const char *what) {
+  if (holds) return;
+  printf("hostile_words: %s\n", what);
+  exit(1);
+}
+
+static void note(naga_check_status status) {
+  require(status <= NAGA_CHECK_NO_TYPE, "a status that is none");
+  seen[status]++;
+}
+
+static void try_words(const uint32_t *module, size_t count) {
+  uint32_t *words = words_end - count;
+  naga_check_status first, second;
+  memcpy(words, module, count * sizeof *words);
+  first = naga_check_words(words, count, infos, FEW_TYPES, outcome);
+  note(first);
+  require(first != NAGA_CHECK_UNREADABLE || outcome->index <= count, "the item that can't be read is past the end");
+  require((first == NAGA_CHECK_REFUSED) == (outcome->stage != 0), "a stage without a refusal, or none with one");
+  second = naga_check_functions(words, count, stages, FEW_CALLABLES, outcome);
+  note(second);
+  require(outcome->written <= FEW_CALLABLES, "more stages than there is room for");
+  require(first != NAGA_CHECK_REFUSED || second == NAGA_CHECK_REFUSED, "functions of a refused module");
+  require((first == NAGA_CHECK_UNREADABLE) == (second == NAGA_CHECK_UNREADABLE), "two ways to read");
+  for (*type = 0; *type < 20; *type += 5) {
+    note(naga_check_leaves(words, count, type, 1, 2, leaves, FEW_LEAVES, paths, FEW_INDEXES, counts));
+    require(counts->leaves <= FEW_LEAVES && counts->paths <= FEW_INDEXES, "more leaves than there is room for");
+    note(naga_check_slots(words, count, *type, *type, slots));
+  }
+}
+
+int main(int argc, char **argv) {
+  static const uint32_t hostile[] = {0, 1, 0x80000000u, 0xFFFFFFFFu};
+  static question asked;
+  size_t at, value, cut;
+  (void)argc;
+  read_words(argv[1], &asked);
+  words_end = (uint32_t *)allocate_at_edge(sizeof asked.words) + MOST_WORDS;
+  infos = allocate_at_edge(FEW_TYPES * sizeof *infos);
+  outcome = allocate_at_edge(sizeof *outcome);
+  leaves = allocate_at_edge(FEW_LEAVES * sizeof *leaves);
+  counts = allocate_at_edge(sizeof *counts);
+  stages = allocate_at_edge(FEW_CALLABLES * sizeof *stages);
+  paths = allocate_at_edge(FEW_INDEXES * sizeof *paths);
+  type = allocate_at_edge(sizeof *type);
+  slots = allocate_at_edge(sizeof *slots);
+  for (at = 0; at < asked.word_count; at++) {
+    const uint32_t right = asked.words[at];
+    for (value = 0; value < sizeof hostile / sizeof *hostile; value++) {
+      asked.words[at] = hostile[value];
+      try_words(asked.words, asked.word_count);
+    }
+    asked.words[at] = right;
+  }
+  for (cut = 0; cut <= asked.word_count; cut++) try_words(asked.words, cut);
+  printf("hostile_words: statuses");
+  for (at = 0; at <= NAGA_CHECK_NO_TYPE; at++) printf(" %lu", seen[at]);
+  printf(" from 0 to 5\n");
+  for (at = NAGA_CHECK_OK; at <= NAGA_CHECK_UNREADABLE; at++) require(seen[at] != 0, "a status was never returned");
+  require(!seen[NAGA_CHECK_MEMORY], "memory was refused");
+  return 0;
+}

@@ -1,0 +1,311 @@
+#!/usr/bin/env python3
+"""Asks the library what the rows of the repository ask the program naga_query, with each module as words and as text,
+and compares the results. The last line is how many were the same.
+
+    rows.py LIBRARY HEADER FILE..
+"""
+
+import ctypes
+import re
+import sys
+
+from words_of_text import Unreadable, Writer
+
+OK, REFUSED, UNREADABLE, MEMORY, ROOM, NO_TYPE = range(6)
+STAGES = "handle layout type expression constant override".split()
+ITEMS = {"layout": "T", "type": "T", "expression": "G", "constant": "C", "override": "O"}
+ERRORS = {1: "HANDLE_ERROR", 2: "LAYOUT_ERROR", 3: "TYPE_ERROR", 4: "CONST_EXPRESSION_ERROR", 5: "CONSTANT_ERROR",
+          6: "OVERRIDE_ERROR", 7: "EXPRESSION_ERROR", 8: "EXPRESSION_ERROR"}
+# What an error holds, for those that hold an error.
+CAUSES = {"InvalidBlendSrc": "VARYING_ERROR", "WidthError": "WIDTH_ERROR", "Literal": "WIDTH_ERROR",
+          "Compose": "COMPOSE_ERROR", "Type": "RESOLVE_ERROR", "IndexableLength": "INDEXABLE_LENGTH_ERROR"}
+TYPE_FLAGS = "DATA SIZED COPY IO_SHAREABLE HOST_SHAREABLE CREATION_RESOLVED ARGUMENT CONSTRUCTIBLE".split()
+MOST_LEAVES = 1000
+ALL_CAPABILITIES = [2 << 8 | 2, 0xFFFFFFFF, 0xFFF]
+UNKNOWN = object()
+
+
+def struct(name, fields):
+    kinds = {"uint32_t": ctypes.c_uint32, "uint64_t": ctypes.c_uint64}
+    return type(name, (ctypes.Structure,), {"_fields_": [(field, kinds[ty]) for ty, field in fields]})
+
+
+class Header:
+    """The structs and numbers of the header."""
+
+    def __init__(self, path):
+        text = re.sub(r"/\*.*?\*/", "", open(path, encoding="utf-8").read(), flags=re.DOTALL)
+        found = re.findall(r"typedef struct naga_check_(\w+) \{(.*?)\}", text, re.DOTALL)
+        structs = {name: struct(name, re.findall(r"(\w+) (\w+);", body)) for name, body in found}
+        self.outcome, self.info, self.leaf, self.counts = (
+            structs[name] for name in ("outcome", "type_info", "leaf", "counts"))
+        self.numbers = {}
+        for name, value in re.findall(r"\bNAGA_CHECK_(\w+) = (\d+)", text):
+            self.numbers[name.replace("_", "")] = int(value)
+
+    def number(self, enum, variant):
+        return self.numbers[(enum + variant).replace("_", "").upper()]
+
+
+def array(kind, values):
+    """A buffer of values; of none, one of a length that no call is told."""
+    return (kind * max(len(values), 1))(*values)
+
+
+class Library:
+    """The calls, with results as Python has them."""
+
+    def __init__(self, path, header):
+        self.calls = ctypes.CDLL(path)
+        self.header = header
+
+    def call(self, name, *arguments):
+        passed = [ctypes.c_size_t(it) if isinstance(it, int) else it for it in arguments]
+        return getattr(self.calls, "naga_check_" + name)(*passed)
+
+    def text(self, text):
+        report, length = (ctypes.c_uint8 * 65536)(), ctypes.c_size_t()
+        status = self.call("text", array(ctypes.c_uint8, text), len(text), report, len(report), ctypes.byref(length))
+        return status, bytes(report[:length.value]).decode()
+
+    def words(self, words):
+        outcome, infos = self.header.outcome(), (self.header.info * 4096)()
+        given = array(ctypes.c_uint32, words)
+        status = self.call("words", given, len(words), infos, len(infos), ctypes.byref(outcome))
+        return status, outcome, infos[:outcome.types] if status == OK else []
+
+    def functions(self, words):
+        outcome, stages = self.header.outcome(), (ctypes.c_uint32 * 4096)()
+        given = array(ctypes.c_uint32, words)
+        status = self.call("functions", given, len(words), stages, len(stages), ctypes.byref(outcome))
+        return status, outcome, stages[:outcome.written]
+
+    def leaves(self, words, ty, length):
+        counts, leaves = self.header.counts(), (self.header.leaf * MOST_LEAVES)()
+        paths = (ctypes.c_uint32 * (64 * MOST_LEAVES))()
+        status = self.call("leaves", array(ctypes.c_uint32, words), len(words), array(ctypes.c_uint32, [ty]), 1,
+                           ctypes.c_uint32(length), leaves, len(leaves), paths, len(paths), ctypes.byref(counts))
+        found = [(leaf, paths[leaf.path_at:leaf.path_at + leaf.path_length]) for leaf in leaves[:counts.leaves]]
+        return status, found
+
+    def slots(self, words, ty, offset):
+        slots = ctypes.c_uint64()
+        status = self.call("slots", array(ctypes.c_uint32, words), len(words), ctypes.c_uint32(ty),
+                           ctypes.c_uint32(offset), ctypes.byref(slots))
+        return status, slots.value
+
+
+class Module:
+    """A module of a case: its text, its words, and where the item of each line begins."""
+
+    def __init__(self, lines):
+        self.text = "".join(line + "\n" for line in lines).encode()
+        writer = Writer()
+        self.starts = []
+        for line in lines:
+            self.starts.append(len(writer.words))
+            writer.line(line)
+        writer.end_function()
+        self.words = writer.words
+        self.resolve = writer.resolve
+        # Leaves and slots depend on no capability, and a call on them validates the module first.
+        has_capabilities = any(line.startswith("caps ") for line in lines)
+        self.capable_words = self.words if has_capabilities else self.words + ALL_CAPABILITIES
+
+
+def error_number(header, stage, error, cause):
+    """The numbers of an error and of the error in it, by naga's names."""
+    error = error.rstrip("_")
+    number = header.number(ERRORS[stage], error)
+    if error not in CAUSES or cause is None:
+        return number, None
+    return number, header.number(CAUSES[error], cause.rstrip("_"))
+
+
+def is_refusal(outcome, header, stage, index, error, cause=None):
+    number, within = error_number(header, stage, error, cause)
+    return (outcome.stage, outcome.index, outcome.error) == (stage, index, number) and within in (None, outcome.cause)
+
+
+def is_report(library, module, result):
+    """Whether a report is right: of the text itself, and of the words."""
+    *lines, last = result
+    status = int(last.removeprefix("status "))
+    if library.text(module.text) != (status, "".join(line + "\n" for line in lines)):
+        return False
+    given, outcome, infos = library.words(module.words)
+    if given != status:
+        return False
+    if status == UNREADABLE:
+        return outcome.index == module.starts[int(lines[0].split()[1]) - 1]
+    if status == REFUSED:
+        _, kind, *place, name = lines[0].split()
+        stage = STAGES.index(kind) + 1
+        index = int(place[0][1:]) if place else outcome.index
+        return is_refusal(outcome, library.header, stage, index, name)
+    return [report_line(library.header, at, info) for at, info in enumerate(infos)] + ["ok"] == lines
+
+
+def report_line(header, at, info):
+    layouts = [layout_name(header, info.uniform_alignment, info.uniform_error),
+               layout_name(header, info.storage_alignment, info.storage_error)]
+    return f"T{at} {info.flags:02x} {' '.join(layouts)}"
+
+
+def layout_name(header, alignment, error):
+    if alignment:
+        return str(alignment)
+    names = "ArrayStride StructSpan MemberOffset MemberOffsetAfterStruct UnsizedMember NonHostShareable".split()
+    return next(name for name in names if header.number("DISALIGNMENT", name) == error)
+
+
+def is_handles(library, module, result):
+    _, outcome, _ = library.words(module.words)
+    fault, *operands = result[0].split()
+    if fault == "ok":
+        return outcome.stage != 1
+    if fault == "MissingMember":
+        return is_refusal(outcome, library.header, 3, int(operands[0]), "InvalidData")
+    index = int(operands[0] if fault == "BadRange" else operands[1])
+    return is_refusal(outcome, library.header, 1, index, fault)
+
+
+def is_validated(library, module, result):
+    status, outcome, _ = library.words(module.words)
+    if result[0] == "ok":
+        return status == OK
+    stages = {"InvalidHandle": 1, "Layouter": 2, "Type_": 3, "ConstExpression": 4, "Constant": 5, "Override": 6}
+    name = re.match(r"\w+", result[0])[0]
+    if name == "InvalidHandle":
+        error, index = re.match(r"InvalidHandle\((\w+)\(\w+ \{.*?(?:index|subject|start): (\d+)", result[0]).groups()
+        return is_refusal(outcome, library.header, 1, int(index), error)
+    index = int(re.search(r"(?:handle|ty): \[(\d+)\]", result[0])[1])
+    error, cause = re.search(r"(?:source|inner): (\w+)(?:\((\w+))?", result[0]).groups()
+    if error == "Literal":
+        cause = re.search(r"Literal\(Width\((\w+)", result[0])[1]
+    return is_refusal(outcome, library.header, stages[name], index, error, cause)
+
+
+def is_type(library, module, result, ty):
+    _, _, infos = library.words(module.words)
+    found = re.match(r"T(\d+): size (\d+), alignment (\d+), TypeFlags\((.*?)\), uniform (.*), storage (.*), "
+                     r"immediates (Ok|Err)", result[0])
+    if found is None or not infos:
+        return found is None and not infos
+    at, size, alignment, flags, uniform, storage, immediates = found.groups()
+    info = infos[int(at)]
+    bits = sum(1 << TYPE_FLAGS.index(name) for name in flags.split(" | ") if name != "0x0")
+    layouts = [re.search(r"bytes: (\d+)|\], (\w+)", it) for it in (uniform, storage)]
+    expected = f"T{at} {bits:02x} " + " ".join(it[1] if text.startswith("Ok") else it[2]
+                                               for it, text in zip(layouts, (uniform, storage)))
+    return (int(at) == ty and (info.size, info.alignment, info.immediates) ==
+            (int(size), int(alignment), int(immediates == "Ok")) and report_line(library.header, ty, info) == expected)
+
+
+def is_leaves(library, module, result, ty, length=1):
+    status, found = library.leaves(module.capable_words, ty, length)
+    if status == REFUSED:
+        return UNKNOWN if not found else False
+    more = ["and so on"] if status == ROOM else []
+    lines = [f".{'.'.join(map(str, path))} at {leaf.first}, size {leaf.size}, alignment {leaf.alignment}"
+             for leaf, path in found]
+    return status in (OK, ROOM) and lines + more == result
+
+
+def is_slots(library, module, result, ty, offset):
+    status, slots = library.slots(module.capable_words, ty, offset)
+    if status == REFUSED:
+        return UNKNOWN if slots == 0 else False
+    if status == NO_TYPE:
+        _, _, infos = library.words(module.capable_words)
+        is_shareable = ty < len(infos) and infos[ty].flags >> TYPE_FLAGS.index("HOST_SHAREABLE") & 1
+        return False if is_shareable or slots != 0 else UNKNOWN
+    return status == OK and result[0].startswith(f"{slots:016x} ")
+
+
+def is_callables(library, module, result):
+    status, outcome, _ = library.functions(module.words)
+    if result[0] == "ok":
+        return status == OK
+    kind, index, expression, error, cause = re.match(
+        r"([FN])(\d+) E(\d+) refused (\w+)(?:\((\w+))?", result[0]).groups()
+    stage = 7 if kind == "F" else 8
+    if error == "Literal":
+        cause = None
+    is_place = outcome.expression == int(expression)
+    return is_place and is_refusal(outcome, library.header, stage, int(index), error, cause)
+
+
+def is_stages(library, module, result, index, is_entry_point=False):
+    _, outcome, stages = library.functions(module.words)
+    at = index + (outcome.functions if is_entry_point else 0)
+    if not result[-1].startswith("stages ") or at >= len(stages):
+        return UNKNOWN
+    return stages[at] == int(result[-1].split()[1], 16)
+
+
+CHECKS = {"report": is_report, "handles": is_handles, "validate": is_validated, "type": is_type, "leaves": is_leaves,
+          "typeslots": is_slots, "callables": is_callables, "function": is_stages,
+          "entry": lambda library, module, result, at: is_stages(library, module, result, at, True)}
+
+
+def cases_of(text):
+    """The cases of a file: each is a title, its lines, and its queries with their results."""
+    head, *cases = re.split(r"^== ", text, flags=re.MULTILINE)
+    shared = head.split("\n")
+    while shared and (not shared[0] or shared[0].startswith("#")):
+        shared.pop(0)
+    for case in cases:
+        title, *lines = case.split("\n")
+        yield title, *parts_of(shared + lines)
+
+
+def parts_of(lines):
+    module, queries = [], []
+    for line in lines:
+        if line.startswith("? "):
+            query, found, result = line[2:].partition(" -> ")
+            queries.append((query, [result] if found else []))
+        elif line.startswith("| "):
+            queries[-1][1].append(line[2:])
+        else:
+            module.append(line)
+    return module, queries
+
+
+def answer(library, module, query, result):
+    """Whether a result is right, or `UNKNOWN`."""
+    name, *operands = query.split(" ")
+    if name == "run" and result:
+        given = query[len("run "):].strip('"').encode().decode("unicode_escape").encode("latin-1")
+        *lines, last = result
+        return library.text(given) == (int(last.removeprefix("status ")), "".join(line + "\n" for line in lines))
+    if name not in CHECKS or module is None or not result:
+        return UNKNOWN
+    return CHECKS[name](library, module, result, *(int(module.resolve(operand)) for operand in operands))
+
+
+def main():
+    library = Library(sys.argv[1], Header(sys.argv[2]))
+    passed = failed = unknown = 0
+    for path in sys.argv[3:]:
+        for title, lines, queries in cases_of(open(path, encoding="utf-8").read()):
+            try:
+                module = Module(lines)
+            except Unreadable:
+                module = None
+            for query, result in queries:
+                is_right = answer(library, module, query, result)
+                if is_right is UNKNOWN:
+                    unknown += 1
+                elif is_right:
+                    passed += 1
+                else:
+                    failed += 1
+                    print(f"rows: {path}: {title}: {query[:100]}: {result[:3]}")
+    print(f"rows: {passed} results the same, {failed} others, {unknown} of queries whose result no call returns")
+    sys.exit(failed > 0 or passed == 0)
+
+
+if __name__ == "__main__":
+    main()

@@ -1,0 +1,493 @@
+#!/usr/bin/env python3
+"""Writes a module of the larger text (docs/TEXT.md) as words (docs/WORDS.md): a second encoder, beside the one in Rust.
+
+    words_of_text.py FILE      prints the words of the module in a file, a line each, without its queries and results
+"""
+
+import re
+import sys
+
+NONE = 0xFFFFFFFF
+KINDS = "sint uint float bool aint afloat".split()
+SPACES = "function private workgroup uniform storage handle immediate taskpayload raypayload incomingraypayload".split()
+LOAD, STORE, ATOMIC = 1, 2, 4
+LITERALS = "f64 f32 f16 u16 i16 u32 i32 u64 i64 bool aint afloat".split()
+LITERAL_BITS = (64, 32, 16, 16, 16, 32, 32, 64, 64, 1, 64, 64)
+UNARY = "negate not bitnot".split()
+BINARY = "add sub mul div mod eq ne lt le gt ge and xor or land lor shl shr".split()
+RELATIONAL = "all any isnan isinf".split()
+MATH = """abs min max clamp saturate cos cosh sin sinh tan tanh acos asin atan atan2 asinh acosh atanh radians degrees
+ceil floor round fract trunc exp exp2 log log2 pow dot cross distance length normalize faceforward reflect refract sign
+fma mix step smoothstep sqrt inversesqrt transpose determinant quantizetof16 counttrailingzeros countleadingzeros
+countonebits reversebits extractbits insertbits firsttrailingbit firstleadingbit pack2x16float
+unpack2x16float""".split()
+ATOMICS = "add sub and xor or min max".split()
+SUBGROUP = "all any add mul min max and or xor".split()
+GATHERS = "first broadcast shuffle shuffledown shuffleup shufflexor quadbroadcast quadswap".split()
+STATEMENT = {"emit": 192, "block": 193, "if": 194, "else": 195, "switch": 196, "case": 197, "loop": 198,
+             "continuing": 199, "end": 200, "break": 202, "continue": 203, "return": 204, "kill": 205, "barrier": 206,
+             "membarrier": 207, "store": 208, "imagestore": 209, "atomic": 210, "imageatomic": 211, "wgload": 212,
+             "call": 213, "rayquery": 214, "trace": 215, "ballot": 216, "gather": 217, "collective": 218,
+             "coopstore": 219}
+END_LOOP = 201
+FALSE = 0
+
+
+class Unreadable(ValueError):
+    """A line that has no words."""
+
+
+def number(word, most=NONE):
+    if not re.fullmatch(r"[0-9]{1,20}", word) or int(word) > most:
+        raise Unreadable(word)
+    return int(word)
+
+
+def index(word):
+    return number(word, NONE - 1)
+
+
+def optional(word):
+    return NONE if word == "-" else index(word)
+
+
+def flag(word):
+    return number(word, 1)
+
+
+def chosen(names, word):
+    if word not in names:
+        raise Unreadable(word)
+    return names.index(word)
+
+
+def text(value):
+    data = value.encode()
+    padded = data + bytes(-len(data) % 4)
+    return [len(data)] + [int.from_bytes(padded[at:at + 4], "little") for at in range(0, len(padded), 4)]
+
+
+def scalar(kind, width):
+    return [chosen(KINDS, kind), number(width, 255)]
+
+
+def size(word):
+    value = number(word, 4)
+    if value < 2:
+        raise Unreadable(word)
+    return value
+
+
+def space(word):
+    place = chosen(SPACES, word)
+    return [place, LOAD | STORE if word == "storage" else 0]
+
+
+def length(word):
+    if word == "dyn":
+        return [2, 0]
+    if word.startswith("o"):
+        return [1, index(word[1:])]
+    if number(word) == 0:
+        raise Unreadable(word)
+    return [0, number(word)]
+
+
+def member(word):
+    ty, offset, *binding = word.split(":")
+    if len(binding) > 2:
+        raise Unreadable(word)
+    where = [0, 0, 0] if not binding else [1 + len(binding), *map(number, binding), 0][:3]
+    return [NONE, index(ty), number(offset), *where]
+
+
+def image(dimension, arrayed, kind):
+    classes = {"float": [0, 2, 0], "floatms": [0, 2, 1], "sint": [0, 0, 0], "uint": [0, 1, 0], "depth": [1, 0, 0],
+               "depthms": [1, 1, 0], "storage": [2, 0, LOAD | STORE | ATOMIC], "external": [3, 0, 0]}
+    if kind not in classes:
+        raise Unreadable(kind)
+    return [chosen(["1", "2", "3", "cube"], dimension), flag(arrayed), *classes[kind]]
+
+
+def cooperative(columns, rows, kind, width, role):
+    if columns not in ("8", "16") or rows not in ("8", "16"):
+        raise Unreadable(columns)
+    return [int(columns), int(rows), *scalar(kind, width), chosen("A B C".split(), role)]
+
+
+TYPES = {
+    "scalar": (16, scalar),
+    "vector": (17, lambda n, k, w: [size(n), *scalar(k, w)]),
+    "matrix": (18, lambda c, r, k, w: [size(c), size(r), *scalar(k, w)]),
+    "coop": (19, cooperative),
+    "atomic": (20, scalar),
+    "pointer": (21, lambda t, s: [index(t), *space(s)]),
+    "valuepointer": (22, lambda n, k, w, s: [0 if n == "0" else size(n), *scalar(k, w), *space(s)]),
+    "array": (23, lambda t, z, stride: [index(t), *length(z), number(stride)]),
+    "struct": (24, lambda span, *members: [number(span), *sum(map(member, members), [])]),
+    "image": (25, image),
+    "sampler": (26, lambda b: [flag(b)]),
+    "accel": (27, lambda b: [flag(b)]),
+    "rayquery": (28, lambda b: [flag(b)]),
+    "bindingarray": (29, lambda t, z: [index(t), *length(z)]),
+}
+
+
+def literal(kind, value):
+    at = chosen(LITERALS, kind)
+    bits = LITERAL_BITS[at]
+    signed = kind in ("i16", "i32", "i64", "aint")
+    if not re.fullmatch(r"-?[0-9]{1,20}", value):
+        raise Unreadable(value)
+    least, most = (-(1 << bits - 1), (1 << bits - 1) - 1) if signed else (0, (1 << bits) - 1)
+    if not least <= int(value) <= most:
+        raise Unreadable(value)
+    value = int(value) % (1 << bits)
+    return [at, value & NONE, value >> 32]
+
+
+def swizzle(count, vector, pattern):
+    if len(pattern) != 4:
+        raise Unreadable(pattern)
+    return [size(count), index(vector), *(chosen("xyzw", letter) for letter in pattern)]
+
+
+def level(word):
+    name, *operands = word.split(":")
+    at = chosen("auto zero exact bias grad".split(), name)
+    if len(operands) != (0, 0, 1, 1, 2)[at]:
+        raise Unreadable(word)
+    return [at, *map(index, operands), 0, 0][:3]
+
+
+def sample(picture, sampler, at, gathered, layer, offset, by, depth, clamp):
+    component = NONE if gathered == "-" else chosen("xyzw", gathered)
+    return [index(picture), index(sampler), component, index(at), optional(layer), optional(offset), *level(by),
+            optional(depth), flag(clamp)]
+
+
+def query(picture, word):
+    name, *operands = word.split(":")
+    at = chosen("size levels layers samples".split(), name)
+    if at:
+        return [index(picture), at, 0]
+    return [index(picture), 0, index(operands[0]) if operands else NONE]
+
+
+FORMS = {
+    "lit": (0, literal),
+    "const": (1, lambda c: [index(c)]),
+    "override": (2, lambda o: [index(o)]),
+    "zero": (3, lambda t: [index(t)]),
+    "compose": (4, lambda t, *parts: [index(t), *map(index, parts)]),
+    "access": (5, lambda base, at: [index(base), index(at)]),
+    "accessindex": (6, lambda base, at: [index(base), number(at)]),
+    "splat": (7, lambda n, e: [size(n), index(e)]),
+    "swizzle": (8, swizzle),
+    "argument": (9, lambda n: [number(n)]),
+    "global": (10, lambda v: [index(v)]),
+    "local": (11, lambda v: [index(v)]),
+    "load": (12, lambda e: [index(e)]),
+    "sample": (13, sample),
+    "imageload": (14, lambda i, c, a, s, l: [index(i), index(c), *map(optional, (a, s, l))]),
+    "imagequery": (15, query),
+    "unary": (16, lambda op, e: [chosen(UNARY, op), index(e)]),
+    "binary": (17, lambda op, left, right: [chosen(BINARY, op), index(left), index(right)]),
+    "select": (18, lambda c, a, r: [index(c), index(a), index(r)]),
+    "derivative": (19, lambda e: [index(e)]),
+    "relational": (20, lambda fun, e: [chosen(RELATIONAL, fun), index(e)]),
+    "math": (21, lambda fun, e, a, b, c: [chosen(MATH, fun), index(e), *map(optional, (a, b, c))]),
+    "as": (22, lambda e, k, w: [index(e), chosen(KINDS, k), NONE if w == "-" else number(w, 255)]),
+    "callresult": (23, lambda f: [index(f)]),
+    "atomicresult": (24, lambda t, b: [index(t), flag(b)]),
+    "workgroupload": (25, lambda t: [index(t)]),
+    "arraylength": (26, lambda e: [index(e)]),
+    "proceedresult": (27, lambda: []),
+    "getintersection": (28, lambda e, b="0": [index(e), flag(b)]),
+    "vertexpositions": (29, lambda e, b="0": [index(e), flag(b)]),
+    "ballotresult": (30, lambda: []),
+    "subgroupresult": (31, lambda t: [index(t)]),
+    "coopload": (32, lambda e, s: [index(e), index(s)]),
+    "coopmuladd": (33, lambda a, b, c: [index(a), index(b), index(c)]),
+}
+
+
+def atomic(word):
+    name, *operands = word.split(":")
+    if name == "xchg":
+        return [7, NONE]
+    if name == "cas":
+        return [7, index(operands[0])]
+    return [chosen(ATOMICS, name), 0]
+
+
+def ray_step(name, *operands):
+    at = chosen("init proceed generate confirm terminate".split(), name)
+    if len(operands) != (2, 1, 1, 0, 0)[at]:
+        raise Unreadable(name)
+    return [at, *map(index, operands), 0, 0][:3]
+
+
+def gather(mode, value, result):
+    name, *operands = mode.split(":")
+    at = chosen(GATHERS, name)
+    if len(operands) != (0 if at in (0, 7) else 1):
+        raise Unreadable(mode)
+    return [at, *map(index, operands), 0][:2] + [index(value), index(result)]
+
+
+OPERANDS = {
+    "emit": lambda first, past: [number(first), number(past)],
+    "return": lambda e: [optional(e)],
+    "store": lambda p, v: [index(p), index(v)],
+    "imagestore": lambda i, c, a, v: [index(i), index(c), optional(a), index(v)],
+    "atomic": lambda p, fun, v, r: [index(p), *atomic(fun), index(v), optional(r)],
+    "imageatomic": lambda i, c, a, fun, v: [index(i), index(c), optional(a), *atomic(fun), index(v)],
+    "wgload": lambda p, r: [index(p), index(r)],
+    "call": lambda f, r, *arguments: [index(f), optional(r), *map(index, arguments)],
+    "rayquery": lambda q, *step: [index(q), *ray_step(*step)],
+    "trace": lambda a, d, p: [index(a), index(d), index(p)],
+    "ballot": lambda r, p: [index(r), optional(p)],
+    "gather": gather,
+    "collective": lambda e, r, op="add": [chosen(SUBGROUP, op), index(e), index(r)],
+    "coopstore": lambda t, p, s: [index(t), index(p), index(s)],
+}
+
+
+def call(function, words):
+    """Calls a function whose number of arguments is that of the words, or the words are not readable."""
+    try:
+        return function(*words)
+    except (TypeError, IndexError) as error:
+        raise Unreadable(str(words)) from error
+
+
+class Writer:
+    """The items of a module, line by line."""
+
+    def __init__(self):
+        self.words = []
+        self.name = None
+        self.counts = {}
+        self.labels = {}
+        self.in_function = False
+        self.open = []
+
+    def item(self, opcode, *operands):
+        self.words += [len(operands) << 8 | opcode, *operands]
+
+    def take_name(self):
+        name, self.name = self.name, None
+        return [NONE] if name is None else text(name)
+
+    def count(self, kind):
+        at = self.counts.get(kind, 0)
+        self.counts[kind] = at + 1
+        return at
+
+    def line(self, line):
+        """Adds what a line says."""
+        if not line or line.startswith("#"):
+            return
+        label, found, rest = line.partition(": ")
+        has_label = found and re.fullmatch(r"[A-Za-z_][A-Za-z0-9_]*", label)
+        words = [self.resolve(word) for word in (rest if has_label else line).split(" ")]
+        added = self.add(*words)
+        if has_label:
+            self.labels[label] = added
+
+    def resolve(self, word):
+        return re.sub(r"\$([A-Za-z_][A-Za-z0-9_]*)", lambda match: str(self.labels[match[1]]), word)
+
+    def add(self, keyword, *words):
+        """Adds what words say, and returns the index of the item that they add."""
+        adders = {"f": self.expression, "g": self.global_expression, "expr": self.global_expression,
+                  "s": self.statement, "type": self.type}
+        if keyword in adders:
+            return adders[keyword](*words)
+        method = getattr(self, "line_" + keyword, None)
+        if method is None:
+            raise Unreadable(keyword)
+        return call(method, words)
+
+    def type(self, form, *words):
+        opcode, operands = TYPES.get(form) or call(lambda: None, [form])
+        self.item(opcode, *self.take_name(), *call(operands, words))
+        return self.count("type")
+
+    def form(self, base, form, *words):
+        if form not in FORMS:
+            raise Unreadable(form)
+        at, operands = FORMS[form]
+        self.item(base + at, *call(operands, words))
+
+    def global_expression(self, *words):
+        self.form(64, *words)
+        return self.count("global expression")
+
+    def expression(self, *words):
+        if ":" in words:
+            words = words[:words.index(":")]
+        self.part()
+        self.form(128, *words)
+        return self.count("expression")
+
+    def part(self):
+        if not self.in_function:
+            raise Unreadable("a part of no function")
+
+    def statement(self, keyword, *words):
+        self.part()
+        blocks = {"block": 0, "if": 1, "switch": 1, "loop": 0}
+        if keyword in blocks:
+            self.item(STATEMENT[keyword], *call(lambda *e: [index(*e)] if e else [], words))
+            self.open.append(keyword)
+        elif keyword in ("else", "case", "continuing"):
+            self.item(STATEMENT[keyword], *([FALSE] if keyword == "case" else []))
+            self.open[-1] = keyword
+        elif keyword == "end":
+            self.close(*words)
+        else:
+            operands = OPERANDS.get(keyword, lambda: [])
+            self.item(STATEMENT[keyword], *call(operands, words))
+
+    def close(self, break_if="-"):
+        """Ends the innermost block, with the blocks that the larger text may leave out."""
+        opener = self.open.pop()
+        if opener == "if":
+            self.item(STATEMENT["else"])
+        if opener == "loop":
+            self.item(STATEMENT["continuing"])
+        if opener in ("loop", "continuing"):
+            self.item(END_LOOP, optional(break_if))
+        else:
+            self.item(STATEMENT["end"])
+
+    def end_function(self):
+        while self.open:
+            self.close()
+
+    def begin(self, kind, opcode, name):
+        self.end_function()
+        self.item(opcode, *name)
+        self.in_function = True
+        self.counts["expression"] = self.counts["local"] = 0
+        return self.count(kind)
+
+    def line_fn(self, _stages):
+        return self.begin("function", 35, self.take_name())
+
+    def line_entry(self):
+        name = self.take_name()
+        return self.begin("entry point", 36, [0] if name == [NONE] else name)
+
+    def line_name(self, word):
+        self.name = word
+
+    def line_flags(self, bits):
+        self.item(1, number(bits, 63))
+
+    def line_caps(self, bits):
+        value = number(bits, 17592186044415)
+        self.item(2, value & NONE, value >> 32)
+
+    def line_resolved(self):
+        self.item(3)
+
+    def line_special(self, *types):
+        self.item(4, *map(optional, types))
+
+    def line_others(self, *types):
+        for ty in types:
+            self.item(5, index(ty))
+
+    def line_filter(self, parent):
+        self.item(6, optional(parent))
+        return self.count("filter")
+
+    def line_filterleaf(self, leaf):
+        self.item(7, index(leaf))
+
+    def line_doc(self, ty, at):
+        self.item(9, index(ty), index(at))
+
+    def line_doctype(self, at):
+        self.item(8, index(at))
+
+    def line_docfn(self, at):
+        self.item(10, index(at))
+
+    def line_docentry(self, at):
+        self.item(11, index(at))
+
+    def line_docconst(self, at):
+        self.item(12, index(at))
+
+    def line_docglobal(self, at):
+        self.item(13, index(at))
+
+    def line_const(self, ty, init):
+        self.item(32, *self.take_name(), index(ty), index(init))
+        return self.count("constant")
+
+    def line_override(self, ty, init, number_or_none):
+        by = NONE if number_or_none == "-" else number(number_or_none, 65535)
+        self.item(33, *self.take_name(), index(ty), optional(init), by)
+        return self.count("override")
+
+    def line_global(self, where, ty, init):
+        self.item(34, *self.take_name(), *space(where), index(ty), optional(init))
+        return self.count("global variable")
+
+    def line_arg(self, ty):
+        self.part()
+        self.item(40, *self.take_name(), index(ty), 0, 0, 0)
+
+    def line_local(self, ty, init):
+        self.part()
+        self.item(41, *self.take_name(), index(ty), optional(init))
+        return self.count("local")
+
+    def line_result(self, ty):
+        self.part()
+        self.item(42, index(ty), 0, 0, 0)
+
+    def line_named(self, at):
+        self.part()
+        self.item(43, 0, index(at))
+
+    def line_leaf(self, leaf):
+        self.part()
+        self.item(44, index(leaf))
+
+    def line_wgsizes(self, *sizes):
+        self.part()
+        self.item(45, *map(optional, sizes))
+
+    def line_payload(self, variable):
+        self.part()
+        self.item(46, index(variable))
+
+    def line_mesh(self, variable, vertices, primitives, *most):
+        self.part()
+        self.item(47, index(variable), index(vertices), index(primitives), *map(optional, most))
+
+
+def words_of(lines):
+    """The words of a module, or `Unreadable`."""
+    writer = Writer()
+    for line in lines:
+        writer.line(line)
+    writer.end_function()
+    return writer.words
+
+
+def main():
+    with open(sys.argv[1], encoding="utf-8") as file:
+        lines = [line for line in file.read().splitlines() if not line.startswith(("?", "|"))]
+    for word in words_of(lines):
+        print(word)
+
+
+if __name__ == "__main__":
+    main()
