@@ -3,7 +3,7 @@
  * Every function is a call of its own. Nothing is kept between calls, there is no initialisation, and no
  * global state: calls may run on any number of threads at once, as long as they share no buffer that one of
  * them writes. Nothing is handed out that has to be freed. The library never ends the process and never
- * prints; if memory is refused a call returns NAGA_CHECK_MEMORY.
+ * prints; if memory is refused a call returns NAGA_CHECK_MEMORY, or naga_check_text the program's report of it.
  *
  * The library calls malloc, realloc, free, memmove, memcpy and memset of the C library, and nothing else of
  * the system. It is for x86-64 Linux.

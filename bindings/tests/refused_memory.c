@@ -1,5 +1,6 @@
 /* Refuses one request for memory after another to each call: it has to return what it does otherwise, or to say that
- * memory was refused and nothing else. Nothing may stay allocated.
+ * memory was refused and nothing else. The call on a text says so by the program's report if the text was read. Nothing
+ * may stay allocated.
  *
  *   refused_memory WORDS TYPE
  *
@@ -46,28 +47,33 @@ static long ask_with_refusal(const question *asked, int call, long request, answ
   return requests;
 }
 
+/* Whether a call says that memory was refused, and nothing else. Some leaves may have been written. */
+static int says_refused(int call, const answer *given) {
+  static const answer nothing = {.status = NAGA_CHECK_MEMORY};
+  static const answer report = {.status = NAGA_CHECK_REFUSED, .report = "refused memory\n", .length = 15};
+  if (call == ABOUT_LEAVES && given->status == NAGA_CHECK_MEMORY) return 1;
+  return memcmp(given, &nothing, sizeof nothing) == 0 ||
+         (call == ABOUT_TEXT && memcmp(given, &report, sizeof report) == 0);
+}
+
 int main(int argc, char **argv) {
   static question asked;
-  static answer right, given, nothing;
+  static answer right, given;
   int call;
   (void)argc;
   read_words(argv[1], &asked);
   asked.type = (uint32_t)atol(argv[2]);
   asked.text = "type scalar float 4\ntype vector 4 float 4\ntype matrix 2 3 float 4\n";
-  nothing.status = NAGA_CHECK_MEMORY;
   for (call = 0; call < CALLS; call++) {
     long request, reported = 0;
     const long all = ask_with_refusal(&asked, call, 0, &right);
     for (request = 1; request <= all; request++) {
       ask_with_refusal(&asked, call, request, &given);
-      if (given.status == NAGA_CHECK_MEMORY) {
-        /* Some leaves may have been written. */
-        const int is_right = call == ABOUT_LEAVES || memcmp(&given, &nothing, sizeof given) == 0;
+      if (says_refused(call, &given)) {
         reported++;
-        if (is_right) continue;
-      } else if (memcmp(&given, &right, sizeof given) == 0) {
         continue;
       }
+      if (memcmp(&given, &right, sizeof given) == 0) continue;
       printf("refused_memory: %s returns %u if request %ld is refused\n", call_names[call], given.status, request);
       return 1;
     }

@@ -183,7 +183,9 @@ def is_validated(library, module, result):
     error, cause = re.search(r"(?:source|inner): (\w+)(?:\((\w+))?", result[0]).groups()
     if error == "Literal":
         cause = re.search(r"Literal\(Width\((\w+)", result[0])[1]
-    return is_refusal(outcome, library.header, stages[name], index, error, cause)
+    is_same = is_refusal(outcome, library.header, stages[name], index, error, cause)
+    # The rows are of the plain typing, which gives no type where the library's, naga's own, may have one.
+    return is_same or (UNKNOWN if name == "ConstExpression" and error == "Type_" else False)
 
 
 def is_type(library, module, result, ty):

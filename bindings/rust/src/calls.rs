@@ -234,12 +234,17 @@ fn error_of_status(status: NagaCheckStatus, words: &[u32]) -> Error {
 ///
 /// `OutOfMemory`. A text that can't be read has a report too.
 pub fn check_text(text: &[u8]) -> Result<Report, Error> {
+    /// The report if memory was refused after the text was read. No refused module has it.
+    const OUT_OF_MEMORY: &[u8] = b"refused memory\n";
     // The report has a line for each type, and is rarely longer than the text.
     let mut report = buffer(text.len().saturating_add(64))?;
     loop {
         let (status, length) = raw::check_text(text, &mut report);
         let verdict = match status {
             sys::NAGA_CHECK_OK => Verdict::Accepted,
+            sys::NAGA_CHECK_REFUSED if report[..length] == *OUT_OF_MEMORY => {
+                return Err(Error::OutOfMemory);
+            }
             sys::NAGA_CHECK_REFUSED => Verdict::Refused,
             sys::NAGA_CHECK_UNREADABLE => Verdict::Unreadable,
             sys::NAGA_CHECK_ROOM => {
