@@ -35,7 +35,6 @@ mod raw;
 mod statements;
 #[allow(unsafe_code)]
 pub mod sys;
-mod type_table;
 mod types;
 mod words;
 

@@ -9,8 +9,8 @@ use crate::module::{
 use crate::operands::{Handle, Operand};
 use crate::statements::{Block, Statement, SwitchCase};
 use crate::sys;
-use crate::type_table::TypeTable;
 use crate::types::{OptionalBinding, Type};
+use std::collections::hash_map::{Entry, HashMap};
 use std::fmt;
 
 /// The most blocks that may be open at a time.
@@ -60,7 +60,8 @@ impl std::error::Error for BuildError {}
 #[derive(Clone, Debug, Default)]
 pub struct Words {
     words: Vec<u32>,
-    types: TypeTable,
+    /// The index of each type, by the words of its item.
+    types: HashMap<Box<[u32]>, u32>,
     constants: u32,
     overrides: u32,
     global_variables: u32,
@@ -121,13 +122,18 @@ impl Words {
     pub fn add_type(&mut self, ty: impl Into<Type>) -> Handle<Type> {
         let ty = ty.into();
         let start = self.words.len();
-        let index = u32::try_from(self.types.len()).ok();
         self.item(ty.inner.number(), |words| ty.write(words));
-        if let Some(equal) = self.types.insert(&self.words, start) {
-            self.words.truncate(start);
-            return Handle::new(equal);
-        }
-        self.handle_of(index.filter(|index| *index != sys::NAGA_CHECK_NONE))
+        let next = u32::try_from(self.types.len()).ok();
+        let index = match self.types.entry(self.words[start..].into()) {
+            Entry::Occupied(equal) => {
+                self.words.truncate(start);
+                Some(*equal.get())
+            }
+            Entry::Vacant(free) => next
+                .filter(|index| *index != sys::NAGA_CHECK_NONE)
+                .map(|index| *free.insert(index)),
+        };
+        self.handle_of(index)
     }
 
     /// Adds a type to those of the results of built-in functions.
