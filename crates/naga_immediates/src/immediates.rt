@@ -305,7 +305,7 @@ impl SlotWalk {
 
     /// Whether a struct type is noted to be walked through from a byte.
     fn has_walked(&self, ty: Handle<TypeTag>, byte: u8) -> bool
-        ensures { IsTrue result → slice_get self.now.noted (place_of ty byte) ≡ Some (Some ty) }
+        ensures { IsTrue result ↔ (slice_get self.now.noted (place_of ty byte) ≡ Some (Some ty)) }
     {
         match self.noted[place_of(ty, byte)] {
             Some(walked) => walked == ty,

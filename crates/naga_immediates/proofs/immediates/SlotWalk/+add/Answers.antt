@@ -67,7 +67,7 @@ returns-in_default t c =
     record { noted = λ byte t k at within u. gains.kept k (c.requires.noted byte t k at within u); gains = gains }
 
 pub returns-then-has_walked-clause-gains : goal.returns-then-has_walked-clause-gains
-returns-then-has_walked-clause-gains t c = noted_gains (lists_of c.args.gctx) c.args.self.now c.args.ty c.args.byte c.requires.noted (c.has_walked.ensures c.if-has_walked.true)
+returns-then-has_walked-clause-gains t c = noted_gains (lists_of c.args.gctx) c.args.self.now c.args.ty c.args.byte c.requires.noted (c.has_walked.ensures.0 c.if-has_walked.true)
 
 pub add-requires : goal.add-requires
 add-requires t c =
