@@ -7,8 +7,8 @@ use Rattle.naga_ir.specs.declared.expression.Expression.TheVariants as expr
 use Rattle.naga_text.specs.Forms.{Matches, expression_form, handle, never}
 use Rattle.naga_text.specs.Tables.{binary_operators, chosen, unary_operators}
 use Rattle.naga_text.specs.Words.{handle_of}
-use Rattle.naga_text.specs.steps.LineForms.{Reader, binary_of, compose_of, constant_expression_of, expression_of, expression_readers, literal_expression_of, literal_of, override_expression_of, splat_of, unary_of, zero_value_of}
-use Rattle.naga_text.specs.WordForms.{read_each, size_of}
+use Rattle.naga_text.specs.ExpressionReaders.{binary_of, compose_of, constant_expression_of, expression_of, expression_readers, literal_expression_of, literal_of, override_expression_of, splat_of, unary_of, zero_value_of}
+use Rattle.naga_text.specs.WordForms.{Reader, read_each, size_of}
 use Rattle.naga_text.proofs.EachLaws.{each_again, each_found}
 use Rattle.naga_text.proofs.LiteralLaws.{literal_again, literal_found}
 use Rattle.naga_text.proofs.PartLaws.{by_parts}

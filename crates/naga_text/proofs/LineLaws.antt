@@ -5,8 +5,9 @@ use Rattle.naga_flags.specs.Bits.{all_capabilities, all_validation_flags}
 use Rattle.naga_text.specs.Words.{handle_of, largest_u16, number_up_to}
 use Rattle.naga_text.specs.Forms.{IsForm, form}
 use Rattle.naga_text.specs.Tables.{chosen}
-use Rattle.naga_text.specs.steps.LineForms.{Reader, capabilities_of, constant_of, doc_of, expression_line_of, expression_of, flags_of, line_of, line_readers, override_of, resolved_of, type_line_of, type_of}
-use Rattle.naga_text.specs.WordForms.{optional_of}
+use Rattle.naga_text.specs.ExpressionReaders.{expression_of}
+use Rattle.naga_text.specs.WordForms.{Reader, optional_of}
+use Rattle.naga_text.specs.steps.LineForms.{capabilities_of, constant_of, doc_of, expression_line_of, flags_of, line_of, line_readers, override_of, resolved_of, type_line_of, type_of}
 use Rattle.naga_text.specs.declared.line.Line.{Line}
 use Rattle.naga_text.specs.declared.line.Line.TheVariants.{Flags, Capabilities, Resolved, Type_, Expression, Constant, Override, Doc}
 use Rattle.naga_text.proofs.ExpressionLaws.{expression_again, expression_found}

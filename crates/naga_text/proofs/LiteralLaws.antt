@@ -10,7 +10,7 @@ use Rattle.naga_ir.specs.declared.expression.Literal.TheVariants.{F64, F32, F16,
 use Rattle.naga_text.specs.Forms.{Matches, literal_form}
 use Rattle.naga_text.specs.Tables.{chosen}
 use Rattle.naga_text.specs.Words.{integer_up_to, largest_i16, largest_i32, largest_i64, largest_u16, number_up_to}
-use Rattle.naga_text.specs.steps.LineForms.{literal_expression_of, literal_of, literal_readers}
+use Rattle.naga_text.specs.ExpressionReaders.{literal_expression_of, literal_of, literal_readers}
 use Rattle.naga_text.proofs.PartLaws.{HoldsFilled, by_parts}
 use Rattle.naga_text.proofs.TableLaws.{chosen_holds}
 use Rattle.naga_text.proofs.WordLaws.{within}

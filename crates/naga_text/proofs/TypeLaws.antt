@@ -9,8 +9,8 @@ use Rattle.naga_ir.specs.declared.types.TypeInner.TheVariants.{Scalar, Vector, M
 use Rattle.naga_text.specs.Words.{handle_of, number_of, number_up_to}
 use Rattle.naga_text.specs.Forms.{Matches, member_part, type_form}
 use Rattle.naga_text.specs.Tables.{chosen, classes, dimensions, kinds, roles, spaces, truths}
-use Rattle.naga_text.specs.steps.LineForms.{Reader, acceleration_structure_of, array_of, atomic_of, binding_array_of, cooperative_matrix_of, image_of, matrix_of, pointer_of, ray_query_of, sampler_of, scalar_of, scalar_type_of, struct_of, type_of, type_readers, value_pointer_of, vector_of}
-use Rattle.naga_text.specs.WordForms.{array_size_of, cooperative_size_of, member_of, pointed_size_of, read_each, size_of}
+use Rattle.naga_text.specs.WordForms.{Reader, array_size_of, cooperative_size_of, member_of, pointed_size_of, read_each, size_of}
+use Rattle.naga_text.specs.steps.LineForms.{acceleration_structure_of, array_of, atomic_of, binding_array_of, cooperative_matrix_of, image_of, matrix_of, pointer_of, ray_query_of, sampler_of, scalar_of, scalar_type_of, struct_of, type_of, type_readers, value_pointer_of, vector_of}
 use Rattle.naga_text.proofs.EachLaws.{each_again, each_found}
 use Rattle.naga_text.proofs.MemberLaws.{member_again, member_found}
 use Rattle.naga_text.proofs.PartLaws.{by_parts}

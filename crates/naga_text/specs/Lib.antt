@@ -5,12 +5,14 @@
 -- Tables.chosen, kinds, spaces, classes: the words that stand for values
 -- Forms.type_form, expression_form, form, IsForm: how each type, each expression and each line is written
 -- WordForms.size_of, array_size_of, optional_of: what the readers of one word return
+-- ExpressionReaders.literal_of, expression_of: what the readers of literals and of expressions return
 -- Text.has_content, module_of, contents_of: which lines say something, and what lines say together
 -- Text.AreConsistent: which lines can make one text
 -- Text.IsText, IsFirstUnreadable: what a text says, or its first line that can't be read
 -- ErrorNames.text_error_name: the name of each variant of an error
 pub mod Bytes
 pub mod ErrorNames
+pub mod ExpressionReaders
 pub mod Forms
 pub mod LineWords
 pub mod Tables

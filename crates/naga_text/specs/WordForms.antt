@@ -12,6 +12,7 @@ use Rattle.naga_ir.specs.declared.types.StructMember.{StructMember}
 use Rattle.naga_ir.specs.declared.types.VectorSize.{VectorSize}
 use Rattle.naga_ir.specs.declared.types.VectorSize.TheVariants.{Bi, Tri, Quad}
 use Rattle.naga_text.specs.Bytes.{letter_o}
+use Rattle.naga_text.specs.Tables.{chosen}
 use Rattle.naga_text.specs.Words.{handle_of, number_of, number_up_to, pieces_of}
 
 -- what the second reads of the value of the first, as `?` in code
@@ -97,3 +98,13 @@ member_in _ = None
 -- the member that a word says
 abbrev pub member_of : List ℕ → Option StructMember
 member_of w = member_in (pieces_of w)
+
+-- what reads the words after a keyword
+abbrev pub Reader : Type 0 → Type 0
+Reader A = List (List ℕ) → Option A
+
+-- what the reader of a keyword reads of the words after it
+abbrev pub read_by : {A : Type 0} → List (List ℕ × Reader A) → List ℕ → Reader A
+read_by readers keyword words = do
+  reader ← chosen readers keyword
+  reader words

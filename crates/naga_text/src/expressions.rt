@@ -2,8 +2,8 @@
 
 ghost use Rattle.naga_text.specs.LineWords.{lines_after, words_left};
 ghost use Rattle.naga_text.specs.Words.{handle_of};
-ghost use Rattle.naga_text.specs.steps.LineForms.{binary_of, compose_of, constant_expression_of, expression_of, fixed_expression_readers, literal_expression_of, override_expression_of, read_by, splat_of, unary_of, zero_value_of};
-ghost use Rattle.naga_text.specs.WordForms.{read_each};
+ghost use Rattle.naga_text.specs.ExpressionReaders.{binary_of, compose_of, constant_expression_of, expression_of, fixed_expression_readers, literal_expression_of, override_expression_of, splat_of, unary_of, zero_value_of};
+ghost use Rattle.naga_text.specs.WordForms.{read_by, read_each};
 ghost use Rattle.std.specs.Prelude.{◌≡◌, IfOk, map};
 
 use crate::line_words::LineWords;

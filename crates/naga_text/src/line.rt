@@ -3,7 +3,8 @@
 ghost use Rattle.naga_flags.specs.Bits.{all_capabilities, all_validation_flags};
 ghost use Rattle.naga_text.specs.Forms.{IsForm};
 ghost use Rattle.naga_text.specs.LineWords.{lines_after, words_left};
-ghost use Rattle.naga_text.specs.steps.LineForms.{capabilities_of, constant_of, doc_of, expression_line_of, fixed_readers, flags_of, line_of, override_of, read_by, resolved_of, type_line_of};
+ghost use Rattle.naga_text.specs.WordForms.{read_by};
+ghost use Rattle.naga_text.specs.steps.LineForms.{capabilities_of, constant_of, doc_of, expression_line_of, fixed_readers, flags_of, line_of, override_of, resolved_of, type_line_of};
 ghost use Rattle.naga_text.specs.declared.line.Line.{Line};
 ghost use Rattle.std.specs.Prelude.{◌≡◌, IfOk, IfSome, Some, map};
 

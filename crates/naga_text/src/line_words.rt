@@ -51,6 +51,7 @@ impl<'a> LineWords<'a> {
     /// The next word, if one is left.
     pub fn next(&mut self) -> Option<&'a [u8]>
         ensures none { IfNone result (words_left self.old ≡ []) }
+        ensures end { IfNone result (words_left self.new ≡ []) }
         ensures word { IfSome result (λ word. words_left self.old ≡ word.now ∷ words_left self.new) }
         ensures lines { lines_after self.new ≡ lines_after self.old }
     {

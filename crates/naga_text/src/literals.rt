@@ -1,6 +1,6 @@
 //! Literals, each in two words: its type and its value.
 
-ghost use Rattle.naga_text.specs.steps.LineForms.{literal_of};
+ghost use Rattle.naga_text.specs.ExpressionReaders.{literal_of};
 ghost use Rattle.std.specs.Prelude.{◌≡◌};
 
 use crate::number::{integer_up_to, number, number_up_to};

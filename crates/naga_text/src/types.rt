@@ -1,7 +1,8 @@
 //! The types that words describe, one function a form.
 
 ghost use Rattle.naga_text.specs.LineWords.{lines_after, words_left};
-ghost use Rattle.naga_text.specs.steps.LineForms.{acceleration_structure_of, array_of, atomic_of, binding_array_of, cooperative_matrix_of, image_of, matrix_of, memberless_readers, pointer_of, ray_query_of, read_by, sampler_of, scalar_of, scalar_type_of, struct_of, type_of, value_pointer_of, vector_of};
+ghost use Rattle.naga_text.specs.WordForms.{read_by};
+ghost use Rattle.naga_text.specs.steps.LineForms.{acceleration_structure_of, array_of, atomic_of, binding_array_of, cooperative_matrix_of, image_of, matrix_of, memberless_readers, pointer_of, ray_query_of, sampler_of, scalar_of, scalar_type_of, struct_of, type_of, value_pointer_of, vector_of};
 ghost use Rattle.std.specs.Prelude.{◌≡◌, IfOk, map};
 
 use crate::line_words::LineWords;
