@@ -113,11 +113,36 @@ impl<V: Drop, K> HandleVec<V, K> {
         Ok(())
     }
 
+    /// Adds the value of the next item, for which there is room.
+    pub fn push_reserved(&mut self, value: V)
+        requires { length self.old.items < self.old.room }
+        ensures { self.new ≡ record self.old { items = self.old.items ++ value ∷ [] } }
+    {
+        self.inner.push_reserved(value);
+    }
+
     /// Forgets all values, and keeps the room.
     pub fn clear(&mut self)
         ensures { self.new ≡ record self.old { items = [] } }
     {
         self.inner.clear();
+    }
+}
+
+impl<V: Copy, K> HandleVec<V, K> {
+    /// Adds values of the next items, all of them or none. Within the room this takes no memory.
+    ///
+    /// # Errors
+    ///
+    /// `OutOfMemory` if memory was refused, which leaves the values as they were.
+    pub fn extend_from_slice(&mut self, values: &[V]) -> Result<(), OutOfMemory>
+        ensures added { OnOk result (self.new.items ≡ self.old.items ++ values.now) }
+        ensures refused { OnErr result (self.new.items ≡ self.old.items) }
+        ensures within_room { length self.old.items + length values.now ≤ self.old.room → IsOk result }
+        ensures grows { self.old.room ≤ self.new.room }
+    {
+        self.inner.extend_from_slice(values)?;
+        Ok(())
     }
 }
 

@@ -101,23 +101,6 @@ impl Model for ModuleInfo {
     } };
 }
 
-/// Adds flags at the end of others, all of them or none.
-fn append_flags(
-    all: &mut HandleVec<TypeFlags, TypeTag>,
-    added: &[TypeFlags],
-) -> Result<(), OutOfMemory>
-    ensures added { OnOk result (all.new.items ≡ all.old.items ++ added.now) }
-    ensures refused { OnErr result (all.new.items ≡ all.old.items) }
-    ensures within_room { length all.old.items + length added.now ≤ all.old.room → IsOk result }
-    ensures grows { all.old.room ≤ all.new.room }
-{
-    all.reserve(added.len())?;
-    for flags in added {
-        all.push(*flags).unwrap();
-    }
-    Ok(())
-}
-
 impl ModuleInfo {
     /// The info of a module that holds nothing.
     pub fn new(alloc: Global) -> ModuleInfo
@@ -183,7 +166,7 @@ impl ModuleInfo {
         ensures grows { self.old.type_room ≤ self.new.type_room }
         ensures other_room { self.new.expression_room ≡ self.old.expression_room }
     {
-        append_flags(&mut self.type_flags, infos.flags())
+        self.type_flags.extend_from_slice(infos.flags())
     }
 
     /// Adds the type of the next global expression. Within the room this takes no memory.

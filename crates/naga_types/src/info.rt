@@ -159,12 +159,11 @@ impl TypeInfos {
     {
         // All columns have room before the first grows.
         self.reserve_one()?;
-        self.flags.push(info.flags).unwrap();
-        self.uniform_layouts.push(info.uniform_layout).unwrap();
-        self.storage_layouts.push(info.storage_layout).unwrap();
+        self.flags.push_reserved(info.flags);
+        self.uniform_layouts.push_reserved(info.uniform_layout);
+        self.storage_layouts.push_reserved(info.storage_layout);
         self.immediates_compatibilities
-            .push(info.immediates_compatibility)
-            .unwrap();
+            .push_reserved(info.immediates_compatibility);
         Ok(())
     }
 
