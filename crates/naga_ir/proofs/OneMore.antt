@@ -1,5 +1,5 @@
 -- What a list keeps when one more item is added, and what the paths of an arena of types keep.
-use Rattle.std.proofs.Common.{◌≡◌, ◌∙◌, ◌+◌, ◌*◌, ◌<◌, ◌≤◌, ⊎_elim, ℕ, zero, suc, List, [], ◌∷◌, ◌++◌, Some, Contains, length, slice_get, slice_set, refl, sym, ap, subst, arith, length-append, append_assoc, get_or-set_same, get_or-set_other}
+use Rattle.std.proofs.Common.{◌≡◌, ◌∙◌, ◌+◌, ◌/◌, ◌%◌, ◌<◌, ◌≤◌, ⊎_elim, ℕ, zero, suc, List, [], ◌∷◌, ◌++◌, Some, Contains, length, slice_get, slice_set, refl, sym, ap, subst, arith, length-append, append_assoc, get_or-set_same, get_or-set_other}
 use Rattle.std.proofs.Math.Nat.{eq-or-lt_of_le}
 use Rattle.std.proofs.lemmas.Bool.Decides.{eqb_tells}
 use Rattle.std.proofs.lemmas.List.{length-set}
@@ -9,7 +9,7 @@ use Rattle.naga_arena.proofs.InOrder.{get_stays}
 use Rattle.naga_arena.proofs.Progress.{slice_get-seam}
 use Rattle.naga_ir.specs.declared.types.«Type».{«Type»}
 use Rattle.naga_ir.specs.Distinct.{AllDistinct}
-use Rattle.naga_ir.specs.steps.TypePaths.{first_hash, next_bits, Leads, IsReached, AllReached, LinksGoOn, AreFirstHashes, KeepsLinks, with_node, IsFreeLink}
+use Rattle.naga_ir.specs.steps.TypePaths.{first_hash, first_links, next_bits, Leads, IsReached, AllReached, LinksGoOn, AreFirstHashes, KeepsLinks, IsFreeLink, IsLinked, link_at, link_of, links_of}
 
 module _ {X : Type 0} (xs : List X) (x : X) where
   -- a list contains the item at each of its indices
@@ -39,40 +39,11 @@ module _ {X : Type 0} (xs : List X) (x : X) where
       p
       q
 
--- a list of numbers, with v at index i
-module _ (xs : List ℕ) (i v : ℕ) where
-  pub set_here : i < length xs → slice_get (slice_set xs i v) i ≡ Some v
-  set_here inside =
-      let within : i < length (slice_set xs i v) = omega (arith, inside, length-set xs i v) in
-      slice_get-get_or (slice_set xs i v) i 0 within ∙ ap Some (get_or-set_same xs i v 0 inside)
-
-  pub set_elsewhere : (j w : ℕ) → (j ≡ i → ⊥) → slice_get xs j ≡ Some w → slice_get (slice_set xs i v) j ≡ Some w
-  set_elsewhere j w apart at =
-      let within : j < length (slice_set xs i v) = omega (arith, slice_get_within xs j w at, length-set xs i v) in
-      slice_get-get_or (slice_set xs i v) j 0 within ∙ ap Some (get_or-set_other xs i j v 0 apart ∙ get_or_from_slice_get xs j w 0 at)
-
-  pub was_elsewhere : (j w : ℕ) → (j ≡ i → ⊥) → slice_get (slice_set xs i v) j ≡ Some w → slice_get xs j ≡ Some w
-  was_elsewhere j w apart at =
-      let within : j < length xs = omega (arith, slice_get_within (slice_set xs i v) j w at, length-set xs i v) in
-      slice_get-get_or xs j 0 within ∙ ap Some (sym (get_or-set_other xs i j v 0 apart) ∙ get_or_from_slice_get (slice_set xs i v) j w 0 at)
-
--- a number behind a 0 that was added stood there before
-before_zero : (xs : List ℕ) (j next : ℕ) → slice_get (xs ++ 0 ∷ []) j ≡ Some next → 0 < next → slice_get xs j ≡ Some next
-before_zero xs j next = each_and_last xs 0 (λ k y. 0 < y → slice_get xs k ≡ Some y) (λ k y at later. at) (λ later. absurd (omega (arith, later))) j next
-
--- a link that leads somewhere is none of a node that was just added
-pub old_link : (links : List ℕ) (j next : ℕ) → slice_get (with_node links) j ≡ Some next → 0 < next → slice_get links j ≡ Some next
-old_link links j next at later =
-    let zeros = (((links ++ 0 ∷ []) ++ 0 ∷ []) ++ 0 ∷ []) ++ 0 ∷ [] in
-    let same : with_node links ≡ zeros = simp append_assoc refl in
-    let at' : slice_get zeros j ≡ Some next = ap (λ (l : List ℕ). slice_get l j) (sym same) ∙ at in
-    before_zero links j next (before_zero (links ++ 0 ∷ []) j next (before_zero ((links ++ 0 ∷ []) ++ 0 ∷ []) j next (before_zero (((links ++ 0 ∷ []) ++ 0 ∷ []) ++ 0 ∷ []) j next at' later) later) later) later
-
 -- a path leads where it led if no link is lost
-pub path_kept : (links more : List ℕ) (ty : «Type») → KeepsLinks links more → (steps depth bits node k : ℕ) → Leads links ty depth bits node steps k → Leads more ty depth bits node steps k
-path_kept links more ty keeps zero depth bits node k leads = leads
-path_kept links more ty keeps (suc steps) depth bits node k leads =
-    (leads.0, keeps _ leads.0 leads.1 leads.2, leads.2, path_kept links more ty keeps steps (depth + 1) (next_bits ty depth bits) leads.0 k leads.3)
+pub path_kept : (links more : List ℕ) (ty : «Type») → KeepsLinks links more → (steps depth bits link k : ℕ) → Leads links ty depth bits link steps k → Leads more ty depth bits link steps k
+path_kept links more ty keeps zero depth bits link k leads = keeps link k leads
+path_kept links more ty keeps (suc steps) depth bits link k leads =
+    (leads.0, keeps link leads.0 leads.1, path_kept links more ty keeps steps (depth + 1) (next_bits ty depth bits) (link_of leads.0 bits) k leads.2)
 
 -- the first hashes of types and of one more
 pub more_hashes : (hashes : List ℕ) (types : List «Type») (ty : «Type») → AreFirstHashes hashes types → AreFirstHashes (hashes ++ first_hash ty ∷ []) (types ++ ty ∷ [])
@@ -88,44 +59,37 @@ more_hashes hashes types ty are =
     )
 
 -- link i, which led nowhere, leads to node n, the new one
-module _ (links : List ℕ) (n i : ℕ) (free : slice_get (with_node links) i ≡ Some 0) where
-  all_links : List ℕ
-  all_links = slice_set (with_node links) i n
+module _ (links more : List ℕ) (i n : ℕ) (free : link_at links i ≡ 0) (linked : IsLinked links more i n) where
+  pub all_kept : KeepsLinks links more
+  all_kept j node at =
+      ⊎_elim
+      (λ same. absurd (omega (arith, sym at ∙ ap (link_at links) same.1 ∙ free)))
+      (λ apart. linked.elsewhere j apart.1 ∙ at)
+      (eqb_tells j i)
 
-  inside : i < length (with_node links)
-  inside = slice_get_within (with_node links) i 0 free
-
-  pub all_kept : KeepsLinks (with_node links) (slice_set (with_node links) i n)
-  all_kept j next at later =
-      set_elsewhere (with_node links) i n j next (λ same. absurd (omega (arith, later, same_Some next 0 (sym at ∙ ap (slice_get (with_node links)) same ∙ free)))) at
-
-  pub go_on : LinksGoOn links n → (0 < n → i < 4 * n) → LinksGoOn (slice_set (with_node links) i n) (n + 1)
+  pub go_on : LinksGoOn links n → i < links_of n → LinksGoOn more (n + 1)
   go_on before room = (
-    omega (arith, length-set (with_node links) i n, length-append links (0 ∷ 0 ∷ 0 ∷ 0 ∷ []), before.0),
-    λ j next at later. ⊎_elim
-        (λ e.
-        let is : n ≡ next = same_Some n next (sym (set_here (with_node links) i n inside) ∙ ap (slice_get (slice_set (with_node links) i n)) (sym e.1) ∙ at) in
-        let some : 0 < n = omega (arith, is, later) in
-        (omega (arith, is), omega (arith, is, e.1, room some)))
-        (λ e.
-        let old = before.1 j next (old_link links j next (was_elsewhere (with_node links) i n j next e.1 at) later) later in
+    omega (arith, linked.many),
+    λ j node at. ⊎_elim
+        (λ same.
+        let is : suc n ≡ suc node = sym linked.here ∙ ap (link_at more) (sym same.1) ∙ at in
+        (omega (arith, is), omega (arith, is, same.1, room)))
+        (λ apart.
+        let old = before.1 j node (sym (linked.elsewhere j apart.1) ∙ at) in
         (omega (arith, old.0), old.1))
         (eqb_tells j i),
   )
 
-  pub reach : (types : List «Type») (ty : «Type») → length types ≡ n → AllReached links types → IsFreeLink (with_node links) ty n i → AllReached (slice_set (with_node links) i n) (types ++ ty ∷ [])
+  pub reach : (types : List «Type») (ty : «Type») → length types ≡ n → AllReached links types → IsFreeLink links ty n i → AllReached more (types ++ ty ∷ [])
   reach types ty whole reached end =
-      let new : List ℕ = slice_set (with_node links) i n in
-      let kept : KeepsLinks links new = λ j next at later.
-      all_kept j next (get_stays links (0 ∷ 0 ∷ 0 ∷ 0 ∷ []) j (slice_get_within links j next at) ∙ at) later in
       each_and_last
       types
       ty
-      (λ k t. IsReached new t k)
+      (λ k t. IsReached more t k)
       (λ k t at.
       let was = reached k t at in
-      (was.0, path_kept links new t kept was.0 0 (first_hash t) 0 k was.1))
-      (subst (λ m. IsReached new ty m) (sym whole) (end.1 new all_kept (set_here (with_node links) i n inside)))
+      (was.0, path_kept links more t all_kept was.0 0 (first_hash t / first_links) (first_hash t % first_links) k was.1))
+      (subst (λ m. IsReached more ty m) (sym whole) (end.1 more all_kept linked.here))
 
 -- what holds of the fields of an arena of types: the types, the number of spans, the hashes and the links
 abbrev pub IsWhole : List «Type» → ℕ → List ℕ → List ℕ → Type 0
@@ -141,20 +105,44 @@ whole_alike types all spans count hashes now links new e f g h whole =
     (subst (λ n. IsWhole types n now new) (sym f) (subst (λ hs. IsWhole types spans hs new) (sym g) (subst (λ ls. IsWhole types spans hashes ls) (sym h) whole)))
 
 -- `IsWhole` holds with one more type that the others lack, at the end of its path
-pub whole_with : (types : List «Type») (spans : ℕ) (hashes links : List ℕ) (ty : «Type») (i : ℕ)
+pub whole_with : (types : List «Type») (spans : ℕ) (hashes links more : List ℕ) (ty : «Type») (i : ℕ)
     → IsWhole types spans hashes links
     → length types < largest_u32
     → (Contains types ty → ⊥)
-    → IsFreeLink (with_node links) ty (length types) i
-    → (0 < length types → i < 4 * length types)
-    → IsWhole (types ++ ty ∷ []) (spans + 1) (hashes ++ first_hash ty ∷ []) (slice_set (with_node links) i (length types))
-whole_with types spans hashes links ty i whole room none end before =
+    → IsFreeLink links ty (length types) i
+    → i < links_of (length types)
+    → IsLinked links more i (length types)
+    → IsWhole (types ++ ty ∷ []) (spans + 1) (hashes ++ first_hash ty ∷ []) more
+whole_with types spans hashes links more ty i whole room none end before linked =
     let n = length types in
-    let more : length (types ++ ty ∷ []) ≡ n + 1 = length-append types (ty ∷ []) in (
-      omega (arith, whole.0, more),
-      omega (arith, more, room),
+    let one_more : length (types ++ ty ∷ []) ≡ n + 1 = length-append types (ty ∷ []) in (
+      omega (arith, whole.0, one_more),
+      omega (arith, one_more, room),
       still_distinct types ty whole.2 none,
       more_hashes hashes types ty whole.3,
-      subst (λ m. LinksGoOn (slice_set (with_node links) i n) m) (sym more) (go_on links n i end.0 whole.4 before),
-      reach links n i end.0 types ty refl whole.5 end,
+      subst (λ m. LinksGoOn more m) (sym one_more) (go_on links more i n end.0 linked whole.4 before),
+      reach links more i n end.0 linked types ty refl whole.5 end,
     )
+
+-- what is searched for a type: lists that are equal to those of an arena
+module _ (searched types : List «Type») (same : searched ≡ types) where
+  -- a type that the searched list lacks has no index
+  pub no_index : (ty : «Type») (k : ℕ) → (Contains searched ty → ⊥) → slice_get types k ≡ Some ty → ⊥
+  no_index ty k none at = none (listed searched ty k (ap (λ l. slice_get l k) same ∙ at))
+
+  -- a type that has an index is contained
+  pub has_index : (ty : «Type») (k : ℕ) → slice_get searched k ≡ Some ty → Contains types ty
+  has_index ty k at = listed types ty k (ap (λ l. slice_get l k) (sym same) ∙ at)
+
+  -- the index of a type is that of a handle
+  pub index_below : (ty : «Type») (k : ℕ) → length types ≤ largest_u32 → slice_get searched k ≡ Some ty → k < largest_u32
+  index_below ty k few at = omega (arith, few, slice_get_within types k ty (ap (λ l. slice_get l k) (sym same) ∙ at))
+
+  -- links go on as they did
+  pub go_on_in : (followed links : List ℕ) → followed ≡ links → LinksGoOn links (length types) → LinksGoOn followed (length searched)
+  go_on_in followed links alike on =
+      subst (λ ls. LinksGoOn ls (length searched)) (sym alike) (subst (λ (ts : List «Type»). LinksGoOn links (length ts)) (sym same) on)
+
+  -- the end of a path is that of the type in these lists
+  pub end_in : (followed links : List ℕ) (ty : «Type») (i : ℕ) → followed ≡ links → IsFreeLink followed ty (length searched) i → IsFreeLink links ty (length types) i
+  end_in followed links ty i alike end = subst (λ ls. IsFreeLink ls ty (length types) i) alike (subst (λ (ts : List «Type»). IsFreeLink followed ty (length ts) i) same end)

@@ -1,20 +1,25 @@
 //! The paths by which an arena finds the index of a type.
 //!
-//! Each type is a node of a tree and has four links to types that were added later. A search begins at the first
-//! type: two bits of a hash of the type that is searched for choose the link to follow, the next two bits the next
-//! link, until a node is that type or a link is free: there it is added. In a hash table, types that were chosen to
-//! share the bits of one bucket are compared with each other. Here those bits are soon used up, and the next ones
-//! lead apart.
+//! Each type is a node of a tree, with four links to nodes that were added later. A search begins at one of 256 links,
+//! which eight bits of a hash of the type that is searched for choose. At a node that is another type, two more bits
+//! choose one of its links, until a node is that type or a link is free: there it is added. In a hash table, types that
+//! were chosen to share the bits of one bucket are compared with each other. Here those bits are soon used up, and the
+//! next ones lead apart.
 
-ghost use Rattle.std.specs.Prelude.{◌≡◌, ◌+◌, ◌*◌, ◌<◌, ◌≤◌, ◌↔◌, IsTrue, IfOk, IfErr, OnErr, length, Contains, Some, slice_get, slice_set, vec_len, vec_capacity};
-ghost use Rattle.naga_ir.specs.steps.TypePaths.{first_hash, second_hash, next_bits, AllReached, LinksGoOn, AreFirstHashes, with_node, IsFreeLink};
+ghost use Rattle.std.specs.Prelude.{◌≡◌, ◌<◌, ◌≤◌, ◌↔◌, ℕ, IsTrue, IfOk, IfErr, MatchOption, OnErr, OnOk, length, max, suc, Contains, Some, slice_get};
+ghost use Rattle.naga_arena.specs.Numbers.{largest_u32, largest_u64};
+ghost use Rattle.naga_ir.specs.steps.TypePaths.{first_hash, second_hash, next_bits, AllReached, LinksGoOn, AreFirstHashes, IsFreeLink, IsLinked, link_at, links_of};
 
 use crate::types::Type;
+use naga_arena::memory::OutOfMemory;
 use std::hash::{DefaultHasher, FoldHasher, Hash, Hasher};
+
+/// How many links there are at which paths begin.
+const FIRST_LINKS: usize = 256;
 
 /// The depth of the last link that the first hash of a type chooses. By then 24 of its bits are used: unless types
 /// were chosen to collide, few of up to a million have a path that goes on.
-const LAST_BY_FIRST_HASH: usize = 11;
+const LAST_BY_FIRST_HASH: usize = 7;
 
 /// Where the path of a type ends that is not there: at a link that leads nowhere yet.
 #[derive(Clone, Copy)]
@@ -46,7 +51,7 @@ fn second_hash(ty: &Type) -> u64
     hasher.finish()
 }
 
-/// The bits that choose the links after one at this depth, which took the two lowest of `bits`.
+/// The bits that choose the links after one of a node at this depth, which took the two lowest of `bits`.
 fn next_bits(ty: &Type, depth: usize, bits: u64) -> u64
     ensures { result ≡ next_bits ty.now depth bits }
 {
@@ -71,6 +76,17 @@ fn is_node(types: &[Type], hashes: &[u64], node: usize, ty: &Type, hash: u64) ->
     types[node] == *ty
 }
 
+/// The node to which a link leads. One that isn't in the list yet leads nowhere.
+#[inline]
+fn node_at(links: &[u32], link: usize) -> Option<usize>
+    ensures { MatchOption result (link_at links.now link ≡ 0) (λ node. link_at links.now link ≡ suc node) }
+{
+    match links.get(link) {
+        Some(next) => (*next as usize).checked_sub(1),
+        None => None,
+    }
+}
+
 /// The index of the type that is equal, or else the end of its path.
 pub(crate) fn find(
     types: &[Type],
@@ -78,46 +94,60 @@ pub(crate) fn find(
     links: &[u32],
     ty: &Type,
 ) -> Result<usize, PathEnd>
+    requires few { length types.now ≤ largest_u32 }
     requires links { LinksGoOn links.now (length types.now) }
     requires hashes { AreFirstHashes hashes.now types.now }
     requires reached { AllReached links.now types.now }
     ensures found { IfOk result (λ k. slice_get types.now k ≡ Some ty.now) }
     ensures absent { OnErr result (¬ (Contains types.now ty.now)) }
-    ensures link { IfErr result (λ end. IsFreeLink (with_node links.now) ty.now (length types.now) end.link) }
-    ensures before { IfErr result (λ end. 0 < length types.now → end.link < 4 * length types.now) }
+    ensures link { IfErr result (λ end. IsFreeLink links.now ty.now (length types.now) end.link) }
+    ensures before { IfErr result (λ end. end.link < links_of (length types.now)) }
     ensures hash { IfErr result (λ end. end.hash ≡ first_hash ty.now) }
 {
     let hash = first_hash(ty);
-    if types.is_empty() {
-        return Err(PathEnd { link: 0, hash });
-    }
-    let mut node = 0;
+    let mut link = (hash % FIRST_LINKS as u64) as usize;
+    let mut bits = hash / FIRST_LINKS as u64;
     let mut depth = 0;
-    let mut bits = hash;
-    loop {
+    while let Some(node) = node_at(links, link) {
         if is_node(types, hashes, node, ty, hash) {
             return Ok(node);
         }
-        let link = 4 * node + (bits % 4) as usize;
-        let next = links[link] as usize;
-        if next == 0 {
-            return Err(PathEnd { link, hash });
-        }
+        link = FIRST_LINKS + 4 * node + (bits % 4) as usize;
         bits = next_bits(ty, depth, bits);
         depth += 1;
-        node = next;
     }
+    Err(PathEnd { link, hash })
 }
 
-/// Adds a node, to which a link leads.
-pub(crate) fn add_node(links: &mut Vec<u32>, link: usize, node: u32)
-    requires room { vec_len links.old + 4 ≤ vec_capacity links.old }
-    requires link { link < vec_len links.old + 4 }
-    ensures { links.new.items ≡ slice_set (with_node links.old.items) link node }
+/// Makes room for a link in the list. Links that were added for that lead nowhere, as before.
+#[inline]
+fn make_room(links: &mut Vec<u32>, link: usize) -> Result<(), OutOfMemory>
+    requires { link < largest_u64 }
+    ensures inside { OnOk result (link < length links.new.items) }
+    ensures same { OnOk result ((j : ℕ) → link_at links.new.items j ≡ link_at links.old.items j) }
+    ensures many { OnOk result (length links.new.items ≤ max (length links.old.items) (suc link)) }
+    ensures refused { OnErr result (links.new.items ≡ links.old.items) }
 {
-    links.push_reserved(0);
-    links.push_reserved(0);
-    links.push_reserved(0);
-    links.push_reserved(0);
-    links[link] = node;
+    if link < links.len() {
+        return Ok(());
+    }
+    links.resize(link + 1, 0)?;
+    Ok(())
+}
+
+/// Lets a link lead to a node, the one that is added next.
+///
+/// # Errors
+///
+/// `OutOfMemory` if memory was refused, which leaves the links as they were.
+pub(crate) fn add_link(links: &mut Vec<u32>, link: usize, node: u32) -> Result<(), OutOfMemory>
+    requires node { node < largest_u32 }
+    requires many { length links.old.items ≤ links_of node }
+    requires link { link < links_of node }
+    ensures linked { OnOk result (IsLinked links.old.items links.new.items link node) }
+    ensures refused { OnErr result (links.new.items ≡ links.old.items) }
+{
+    make_room(links, link)?;
+    links[link] = node + 1;
+    Ok(())
 }

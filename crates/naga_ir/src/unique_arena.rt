@@ -6,7 +6,7 @@ ghost use Rattle.naga_arena.specs.Numbers.{largest_u32};
 ghost use Rattle.std.specs.List.{enumerate_from};
 ghost use Rattle.naga_ir.specs.Distinct.{AllDistinct};
 
-use crate::type_paths::{add_node, find};
+use crate::type_paths::{add_link, find};
 use crate::types::Type;
 use naga_arena::handle::{BadHandle, Handle};
 use naga_arena::iter::Iter;
@@ -23,8 +23,8 @@ use std::ops::Index;
 /// source. Contracts see the list of the types.
 ///
 /// An insertion hashes the type and follows the bits of its hash from type to type, some `log n` of n types. After
-/// twelve of these links, which only types that were chosen to collide have in common with many others, the bits of
-/// a second hash, SipHash, choose the way. However types are chosen, there are at most 44 links, unless types share
+/// nine of these links, which only types that were chosen to collide have in common with many others, the bits of
+/// a second hash, SipHash, choose the way. However types are chosen, there are at most 41 links, unless types share
 /// all 64 bits of SipHash.
 #[derive(Drop)]
 pub struct UniqueArena {
@@ -32,7 +32,7 @@ pub struct UniqueArena {
     span_info: Vec<Span>,
     /// The first hash of each type.
     hashes: Vec<u64>,
-    /// Four links of each type to others.
+    /// Links at which paths to types begin, and four of each type to others.
     links: Vec<u32>,
 }
 
@@ -64,21 +64,17 @@ fn reserve(
     types: &mut Vec<Type>,
     span_info: &mut Vec<Span>,
     hashes: &mut Vec<u64>,
-    links: &mut Vec<u32>,
 ) -> Result<(), OutOfMemory>
     ensures types { types.new.items ≡ types.old.items }
     ensures span_info { span_info.new.items ≡ span_info.old.items }
     ensures hashes { hashes.new.items ≡ hashes.old.items }
-    ensures links { links.new.items ≡ links.old.items }
     ensures type_room { OnOk result (vec_len types.new < vec_capacity types.new) }
     ensures span_room { OnOk result (vec_len span_info.new < vec_capacity span_info.new) }
     ensures hash_room { OnOk result (vec_len hashes.new < vec_capacity hashes.new) }
-    ensures link_room { OnOk result (vec_len links.new + 4 ≤ vec_capacity links.new) }
 {
     types.reserve(1)?;
     span_info.reserve(1)?;
     hashes.reserve(1)?;
-    links.reserve(4)?;
     Ok(())
 }
 
@@ -192,16 +188,12 @@ impl UniqueArena {
             Err(end) => end,
         };
         let index = self.types.len() as u32;
-        reserve(
-            &mut self.types,
-            &mut self.span_info,
-            &mut self.hashes,
-            &mut self.links,
-        )?;
+        reserve(&mut self.types, &mut self.span_info, &mut self.hashes)?;
+        // The link is the last that may be refused memory: it leads to the type that follows.
+        add_link(&mut self.links, end.link, index)?;
         self.types.push_reserved(value);
         self.span_info.push_reserved(span);
         self.hashes.push_reserved(end.hash);
-        add_node(&mut self.links, end.link, index);
         Ok(Handle::new(index))
     }
 }

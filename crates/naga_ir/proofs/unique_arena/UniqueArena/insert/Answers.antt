@@ -1,30 +1,36 @@
-use Rattle.std.proofs.Common.{◌≡◌, ◌∙◌, ◌+◌, ◌*◌, ◌<◌, [], ◌∷◌, ◌++◌, ℕ, List, Some, Contains, length, rules, slice_get, slice_set, ap, sym, subst, arith, length-append}
+use Rattle.std.proofs.Common.{◌≡◌, ◌∙◌, ◌+◌, ◌<◌, ◌≤◌, [], ◌∷◌, ◌++◌, List, Some, Contains, length, rules, slice_get, refl, sym, ap, subst, arith, length-append}
 use Rattle.naga_arena.specs.Numbers.{largest_u32}
 use Rattle.naga_arena.proofs.Progress.{slice_get-seam}
 use Rattle.naga_ir.specs.declared.types.«Type».{«Type»}
-use Rattle.naga_ir.specs.steps.TypePaths.{first_hash, with_node, IsFreeLink}
-use Rattle.naga_ir.proofs.OneMore.{listed, whole_alike, whole_with}
+use Rattle.naga_ir.specs.steps.TypePaths.{first_hash, IsLinked, links_of}
+use Rattle.naga_ir.proofs.OneMore.{end_in, go_on_in, has_index, index_below, no_index, whole_alike, whole_with}
 use Rattle.naga_ir.proofs.unique_arena.UniqueArena.insert.Goals as goal
 
--- a type that a list lacks has no index in an equal list
-no_index : (searched types : List «Type») (ty : «Type») (k : ℕ) → searched ≡ types → (Contains searched ty → ⊥) → slice_get types k ≡ Some ty → ⊥
-no_index searched types ty k same none at = none (listed searched ty k (ap (λ l. slice_get l k) same ∙ at))
+pub find-requires-clause-links : goal.find-requires-clause-links
+find-requires-clause-links c = go_on_in c.as_slice.result.now c.self.inside.types.items c.as_slice.ensures.value c.as_slice-3.result.now c.self.inside.links.items c.as_slice-3.ensures.value c.self.invariant.4
 
--- a type that has an index is contained in an equal list
-has_index : (searched types : List «Type») (ty : «Type») (k : ℕ) → searched ≡ types → slice_get searched k ≡ Some ty → Contains types ty
-has_index searched types ty k same at = listed types ty k (ap (λ l. slice_get l k) (sym same) ∙ at)
+pub overflow_cast-index : goal.overflow_cast-index
+overflow_cast-index c =
+    let below = index_below c.as_slice.result.now c.self.inside.types.items c.as_slice.ensures.value c.args.value c.in-Ok.index c.self.invariant.1 c.in-Ok.ensures.found in
+    omega (arith, below)
+
+pub new-requires : goal.new-requires
+new-requires c = index_below c.as_slice.result.now c.self.inside.types.items c.as_slice.ensures.value c.args.value c.in-Ok.index c.self.invariant.1 c.in-Ok.ensures.found
 
 pub returns-in-Ok-clause-place : goal.returns-in-Ok-clause-place
-returns-in-Ok-clause-place c none = absurd (none (has_index c.as_slice.result.now c.args.self.now c.args.value c.in-Ok.index (c.as_slice.ensures.value ∙ c.self.view_is) c.in-Ok.ensures.found))
+returns-in-Ok-clause-place c none = absurd (none (has_index c.as_slice.result.now c.args.self.now (c.as_slice.ensures.value ∙ c.self.view_is) c.args.value c.in-Ok.index c.in-Ok.ensures.found))
 
 pub returns-in-Ok-clause-appended : goal.returns-in-Ok-clause-appended
-returns-in-Ok-clause-appended c none = absurd (none (has_index c.as_slice.result.now c.args.self.now c.args.value c.in-Ok.index (c.as_slice.ensures.value ∙ c.self.view_is) c.in-Ok.ensures.found))
+returns-in-Ok-clause-appended c none = absurd (none (has_index c.as_slice.result.now c.args.self.now (c.as_slice.ensures.value ∙ c.self.view_is) c.args.value c.in-Ok.index c.in-Ok.ensures.found))
 
 pub returns-in_err-reserve-clause-present : goal.returns-in_err-reserve-clause-present
-returns-in_err-reserve-clause-present c k at = absurd (no_index c.as_slice.result.now c.args.self.now c.args.value k (c.as_slice.ensures.value ∙ c.self.view_is) c.in-Err.ensures.absent at)
+returns-in_err-reserve-clause-present c k at = absurd (no_index c.as_slice.result.now c.args.self.now (c.as_slice.ensures.value ∙ c.self.view_is) c.args.value k c.in-Err.ensures.absent at)
+
+pub returns-in_err-add_link-clause-present : goal.returns-in_err-add_link-clause-present
+returns-in_err-add_link-clause-present c k at = absurd (no_index c.as_slice.result.now c.args.self.now (c.as_slice.ensures.value ∙ c.self.view_is) c.args.value k c.in-Err.ensures.absent at)
 
 pub returns-clause-present : goal.returns-clause-present
-returns-clause-present c k at = absurd (no_index c.as_slice.result.now c.args.self.now c.args.value k (c.as_slice.ensures.value ∙ c.self.view_is) c.in-Err.ensures.absent at)
+returns-clause-present c k at = absurd (no_index c.as_slice.result.now c.args.self.now (c.as_slice.ensures.value ∙ c.self.view_is) c.args.value k c.in-Err.ensures.absent at)
 
 pub returns-clause-found : goal.returns-clause-found
 returns-clause-found c =
@@ -33,9 +39,27 @@ returns-clause-found c =
     let at : c.new-2.result ≡ length types = search rules in
     ap (λ l. slice_get l c.new-2.result) new ∙ ap (slice_get (types ++ c.args.value ∷ [])) at ∙ slice_get-seam types [] c.args.value
 
--- the end of a path, in the lists that were searched
-end_in : (searched types : List «Type») (followed links : List ℕ) (ty : «Type») (i : ℕ) → searched ≡ types → followed ≡ links → IsFreeLink (with_node followed) ty (length searched) i → IsFreeLink (with_node links) ty (length types) i
-end_in searched types followed links ty i same alike end = subst (λ ls. IsFreeLink (with_node ls) ty (length types) i) alike (subst (λ ts. IsFreeLink (with_node followed) ty (length ts) i) same end)
+pub add_link-requires : goal.add_link-requires
+add_link-requires c =
+    let types = c.self.inside.types.items in
+    let index : c.len-index.result ≡ length types = search rules in
+    let before : c.in-Err.end.link < links_of (length types) = subst (λ (ts : List «Type»). c.in-Err.end.link < links_of (length ts)) c.as_slice.ensures.value c.in-Err.ensures.before in record {
+      node = omega (arith, index, c.requires, ap length c.self.view_is);
+      many = omega (arith, index, (c.self.invariant.4).0);
+      link = omega (arith, index, before);
+    }
+
+pub invariant_of-self : goal.invariant_of-self
+invariant_of-self c =
+    let i = c.self.inside in
+    whole_alike i.types.items c.reserve.new.types.items (length i.span_info.items) (length c.reserve.new.span_info.items) i.hashes.items c.reserve.new.hashes.items i.links.items i.links.items
+    c.reserve.ensures.types (ap length c.reserve.ensures.span_info) c.reserve.ensures.hashes refl c.self.invariant
+
+pub invariant_of-self-in_err-add_link : goal.invariant_of-self-in_err-add_link
+invariant_of-self-in_err-add_link c =
+    let i = c.self.inside in
+    whole_alike i.types.items c.reserve.new.types.items (length i.span_info.items) (length c.reserve.new.span_info.items) i.hashes.items c.reserve.new.hashes.items i.links.items c.add_link.new.links.items
+    c.reserve.ensures.types (ap length c.reserve.ensures.span_info) c.reserve.ensures.hashes c.in_err-add_link.ensures.refused c.self.invariant
 
 pub invariant_of-self-2 : goal.invariant_of-self-2
 invariant_of-self-2 c =
@@ -43,21 +67,20 @@ invariant_of-self-2 c =
     let spans = c.self.inside.span_info.items in
     let hashes = c.self.inside.hashes.items in
     let links = c.self.inside.links.items in
+    let more = c.add_link.new.links.items in
     let value = c.args.value in
     let end = c.in-Err.end in
     let searched : c.as_slice.result.now ≡ types = c.as_slice.ensures.value in
-    let followed : c.as_slice-3.result.now ≡ links = c.as_slice-3.ensures.value in
     let new_types : c.push_reserved.new.self.items ≡ types ++ value ∷ [] = c.push_reserved.ensures.items ∙ ap (λ l. l ++ value ∷ []) c.reserve.ensures.types in
     let new_spans : c.push_reserved-2.new.self.items ≡ spans ++ c.args.span ∷ [] = c.push_reserved-2.ensures.items ∙ ap (λ l. l ++ c.args.span ∷ []) c.reserve.ensures.span_info in
     let count : length c.push_reserved-2.new.self.items ≡ length spans + 1 = ap length new_spans ∙ length-append spans (c.args.span ∷ []) in
     let new_hashes : c.push_reserved-3.new.self.items ≡ hashes ++ first_hash value ∷ [] =
     c.push_reserved-3.ensures.items ∙ ap (λ l. l ++ end.hash ∷ []) c.reserve.ensures.hashes ∙ ap (λ h. hashes ++ h ∷ []) c.in-Err.ensures.hash in
     let index : c.len-index.result ≡ length types = search rules in
-    let new_links : c.add_node.new.links.items ≡ slice_set (with_node links) end.link (length types) =
-    c.add_node.ensures ∙ ap (λ l. slice_set (with_node l) end.link c.len-index.result) c.reserve.ensures.links ∙ ap (slice_set (with_node links) end.link) index in
+    let linked : IsLinked links more end.link (length types) = subst (IsLinked links more end.link) index c.in_ok-add_link.ensures.linked in
     let room : length types < largest_u32 = omega (arith, c.requires, ap length c.self.view_is) in
     let none = λ (has : Contains types value). c.in-Err.ensures.absent (subst (λ l. Contains l value) (sym searched) has) in
-    let before : 0 < length types → end.link < 4 * length types = subst (λ (ts : List «Type»). 0 < length ts → end.link < 4 * length ts) searched c.in-Err.ensures.before in
+    let before : end.link < links_of (length types) = subst (λ (ts : List «Type»). end.link < links_of (length ts)) searched c.in-Err.ensures.before in
     whole_alike
     (types ++ value ∷ [])
     c.push_reserved.new.self.items
@@ -65,10 +88,10 @@ invariant_of-self-2 c =
     (length c.push_reserved-2.new.self.items)
     (hashes ++ first_hash value ∷ [])
     c.push_reserved-3.new.self.items
-    (slice_set (with_node links) end.link (length types))
-    c.add_node.new.links.items
+    more
+    more
     new_types
     count
     new_hashes
-    new_links
-    (whole_with types (length spans) hashes links value end.link c.self.invariant room none (end_in c.as_slice.result.now types c.as_slice-3.result.now links value end.link searched followed c.in-Err.ensures.link) before)
+    refl
+    (whole_with types (length spans) hashes links more value end.link c.self.invariant room none (end_in c.as_slice.result.now types searched c.as_slice-3.result.now links value end.link c.as_slice-3.ensures.value c.in-Err.ensures.link) before linked)
