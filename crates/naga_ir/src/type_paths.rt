@@ -1,7 +1,7 @@
 //! The paths by which an arena finds the index of a type.
 //!
-//! Each type is a node of a tree, with four links to nodes that were added later. A search begins at one of 256 links,
-//! which eight bits of a hash of the type that is searched for choose. At a node that is another type, two more bits
+//! Each type is a node of a tree, with four links to nodes that were added later. A search begins at one of 1024 links,
+//! which ten bits of a hash of the type that is searched for choose. At a node that is another type, two more bits
 //! choose one of its links, until a node is that type or a link is free: there it is added. In a hash table, types that
 //! were chosen to share the bits of one bucket are compared with each other. Here those bits are soon used up, and the
 //! next ones lead apart.
@@ -15,11 +15,11 @@ use naga_arena::memory::OutOfMemory;
 use std::hash::{DefaultHasher, FoldHasher, Hash, Hasher};
 
 /// How many links there are at which paths begin.
-const FIRST_LINKS: usize = 256;
+const FIRST_LINKS: usize = 1024;
 
 /// The depth of the last link that the first hash of a type chooses. By then 24 of its bits are used: unless types
 /// were chosen to collide, few of up to a million have a path that goes on.
-const LAST_BY_FIRST_HASH: usize = 7;
+const LAST_BY_FIRST_HASH: usize = 6;
 
 /// Where the path of a type ends that is not there: at a link that leads nowhere yet.
 #[derive(Clone, Copy)]

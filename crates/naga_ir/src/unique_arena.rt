@@ -23,8 +23,8 @@ use std::ops::Index;
 /// source. Contracts see the list of the types.
 ///
 /// An insertion hashes the type and follows the bits of its hash from type to type, some `log n` of n types. After
-/// nine of these links, which only types that were chosen to collide have in common with many others, the bits of
-/// a second hash, SipHash, choose the way. However types are chosen, there are at most 41 links, unless types share
+/// eight of these links, which only types that were chosen to collide have in common with many others, the bits of
+/// a second hash, SipHash, choose the way. However types are chosen, there are at most 40 links, unless types share
 /// all 64 bits of SipHash.
 #[derive(Drop)]
 pub struct UniqueArena {

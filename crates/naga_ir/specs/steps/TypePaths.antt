@@ -18,7 +18,7 @@ second_hash ty = sip.finish (fold sip.write sip.initial (ghosts.hash_input ty))
 
 -- the number of links at which paths begin
 abbrev pub first_links : ℕ
-first_links = 256
+first_links = 1024
 
 -- the number of links of so many nodes, with those at which paths begin
 abbrev pub links_of : ℕ → ℕ
@@ -30,7 +30,7 @@ link_of node bits = links_of node + bits % 4
 
 -- the depth of the last link that the first hash chooses
 abbrev pub last_by_first_hash : ℕ
-last_by_first_hash = 7
+last_by_first_hash = 6
 
 -- what is left of the bits of the path of type ty after a link of a node at a depth, which takes the two lowest
 abbrev pub next_bits : «Type» → ℕ → ℕ → ℕ
