@@ -38,8 +38,8 @@ pub struct Report {
 }
 
 /// Adds the alignment of a layout in bytes, or the name of the reason why there is none.
-fn add_layout(text: &mut String, layout: LayoutCompatibility) -> Result<(), AllocError>
-    ensures { OnOk result (string_bytes text.new ≡ string_bytes text.old ++ layout_text layout) }
+fn add_layout(text: &mut String, layout: &LayoutCompatibility) -> Result<(), AllocError>
+    ensures { OnOk result (string_bytes text.new ≡ string_bytes text.old ++ layout_text layout.now) }
 {
     match layout {
         Ok(alignment) => {
@@ -66,9 +66,9 @@ fn add_type(text: &mut String, handle: Handle<TypeTag>, info: TypeInfo) -> Resul
     ensures { OnOk result (string_bytes text.new ≡ string_bytes text.old ++ type_line handle info) }
 {
     add_flags(text, handle, info.flags)?;
-    add_layout(text, info.uniform_layout)?;
+    add_layout(text, &info.uniform_layout)?;
     text.push_str(" ")?;
-    add_layout(text, info.storage_layout)?;
+    add_layout(text, &info.storage_layout)?;
     text.push_str("\n")
 }
 
