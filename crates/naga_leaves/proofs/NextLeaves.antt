@@ -3,6 +3,7 @@ use Rattle.std.proofs.Common.{◌≡◌, ◌<◌, ◌≤◌, ℕ, suc, true, fal
 use Rattle.std.specs.Option.{option_map}
 use Rattle.std.proofs.lemmas.List.Elements.{All-nil}
 use Rattle.naga_arena.specs.Numbers.{largest_u32}
+use Rattle.naga_arena.specs.WithRoom.{WithRoom}
 use Rattle.naga_ir.specs.ItemReferences.{GlobalLists}
 use Rattle.naga_leaves.proofs.Places.{no_end}
 use Rattle.naga_leaves.proofs.Steps.{first_is, leaf_here, no_leaf_passed, past_none, same_start, then_same, unmoved_start}
@@ -49,12 +50,12 @@ over P a b same h =
     (subst (λ n. P (lists_under b) n a.place.ty) same.length
     (subst (λ t. P (lists_under b) b.length t) same.ty h))
 
-then_over : (a b : Leaves) (place : Place) → IsOverSame a b → place.ty ≡ b.place.ty → IsOverSame a (record b { place = place })
-then_over a b place same e = record { lists = same.lists; length = same.length; ty = e ∙ same.ty }
+then_over : (a b : Leaves) (place : Place) (known : WithRoom Bool) → IsOverSame a b → place.ty ≡ b.place.ty → IsOverSame a (record b { place = place; has_leaves = known })
+then_over a b place known same e = record { lists = same.lists; length = same.length; ty = e ∙ same.ty }
 
-module _ (a b : Leaves) (come : YieldsSame a b) (begun : b.is_begun ≡ true) (place : Place) (ty : place.ty ≡ b.place.ty) where
+module _ (a b : Leaves) (come : YieldsSame a b) (begun : b.is_begun ≡ true) (place : Place) (known : WithRoom Bool) (ty : place.ty ≡ b.place.ty) where
   abbrev Now : Leaves
-  Now = record b { place = place }
+  Now = record b { place = place; has_leaves = known }
 
   -- after leaves that were passed comes the next one
   pub comes_to_next : (l : LeafBytes) → fuel b ≤ fuel a
@@ -65,7 +66,7 @@ module _ (a b : Leaves) (come : YieldsSame a b) (begun : b.is_begun ≡ true) (p
       subst (λ s. IsFirstLeaf (lists_under b) (elements_for b) b.place.ty s place.path.items (start_of Now) l) (sym (start_begun b begun))
       (subst (λ r. IsFirstLeaf (lists_under b) (elements_for b) b.place.ty (place_start b.place) place.path.items r l) (sym (start_begun Now begun)) first) in
       record {
-        over = then_over a b place come.over ty;
+        over = then_over a b place known come.over ty;
         first =
             then_first (lists_under a) (elements_for a) a.place.ty (start_of a) (start_of b) come.same place.path.items (start_of Now) l
             (over (λ g n t. IsFirstLeaf g (elements g n) t (start_of b) place.path.items (start_of Now) l) a b come.over from_start);
@@ -82,7 +83,7 @@ module _ (a b : Leaves) (come : YieldsSame a b) (begun : b.is_begun ≡ true) (p
       subst (λ s. HasSameFrom (lists_under b) (elements_for b) b.place.ty s (start_of Now)) (sym (start_begun b begun))
       (subst (HasSameFrom (lists_under b) (elements_for b) b.place.ty (place_start b.place)) (sym (start_begun Now begun)) next) in
       record {
-        over = then_over a b place come.over ty;
+        over = then_over a b place known come.over ty;
         same =
             then_same (lists_under a) (elements_for a) a.place.ty (start_of a) (start_of b) come.same (start_of Now)
             (over (λ g n t. HasSameFrom g (elements g n) t (start_of b) (start_of Now)) a b come.over from_start);

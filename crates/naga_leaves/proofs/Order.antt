@@ -91,6 +91,11 @@ from_lesser (k ∷ p) [] n m le h = absurd h
 from_lesser (k ∷ p) (j ∷ q) n m le (inl lt) = inl lt
 from_lesser (k ∷ p) (j ∷ q) n m le (inr h) = inr (h.0, from_lesser p q n m le h.1)
 
+-- what extends a path at an index comes from that index
+pub from_own : (p : List ℕ) (i : ℕ) (rest : List ℕ) → IsAtOrAfter (p ++ i ∷ []) (p ++ i ∷ rest)
+from_own [] i rest = inr (refl, tt)
+from_own (j ∷ p) i rest = inr (refl, from_own p i rest)
+
 -- what comes from the next index of a path comes from every index of its extension
 pub from_below : (p q : List ℕ) (i n : ℕ) → IsAtOrAfter (p ++ (i + 1) ∷ []) q → IsAtOrAfter ((p ++ i ∷ []) ++ n ∷ []) q
 from_below [] [] i n h = absurd h
@@ -99,13 +104,3 @@ from_below [] (j ∷ q) i n (inr h) = let same : i + 1 ≡ j = h.0 in inl (omega
 from_below (k ∷ p) [] i n h = absurd h
 from_below (k ∷ p) (j ∷ q) i n (inl lt) = inl lt
 from_below (k ∷ p) (j ∷ q) i n (inr h) = inr (h.0, from_below p q i n h.1)
-
--- what comes from an index of a path extends it there, or comes from the next
-pub extends_or_next : (p q : List ℕ) (n : ℕ) → IsAtOrAfter (p ++ n ∷ []) q → ((rest : List ℕ) × (q ≡ p ++ n ∷ rest)) ⊎ IsAtOrAfter (p ++ (n + 1) ∷ []) q
-extends_or_next [] [] n h = absurd h
-extends_or_next [] (j ∷ q) n (inl lt) = ⊎_elim (λ (l : n + 1 < j). inr (inl l)) (λ (e : (n + 1 ≡ j) ⊎ (j < n + 1)). ⊎_elim (λ (same : n + 1 ≡ j). inr (inr (same, tt))) (λ (l : j < n + 1). inr (inl (omega arith))) e) (less (n + 1) j)
-extends_or_next [] (j ∷ q) n (inr h) = inl (q, ap (λ j. j ∷ q) (sym h.0))
-extends_or_next (i ∷ p) [] n h = absurd h
-extends_or_next (i ∷ p) (j ∷ q) n (inl lt) = inr (inl lt)
-extends_or_next (i ∷ p) (j ∷ q) n (inr h) =
-    ⊎_elim (λ (e : (rest : List ℕ) × (q ≡ p ++ n ∷ rest)). inl (e.0, ap (λ j. j ∷ q) (sym h.0) ∙ ap (λ q. i ∷ q) e.1)) (λ (l : IsAtOrAfter (p ++ (n + 1) ∷ []) q). inr (inr (h.0, l))) (extends_or_next p q n h.1)

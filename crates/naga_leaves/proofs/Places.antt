@@ -1,16 +1,18 @@
 -- Places among the parts of a value, and their leaves.
-use Rattle.std.proofs.Common.{◌≡◌, ◌<◌, ◌≤◌, ◌*◌, leb, Bool, ⊎_elim, ℕ, zero, suc, true, false, List, [], ◌∷◌, ◌++◌, Option, Some, None, All, if◌then◌else◌, length, refl, sym, subst, ap, ◌∙◌, arith}
+use Rattle.std.proofs.Common.{◌≡◌, ◌<◌, ◌≤◌, ◌+◌, ◌*◌, leb, ltb, Bool, ⊎_elim, ℕ, zero, suc, true, false, List, [], ◌∷◌, ◌++◌, Option, Some, None, All, if◌then◌else◌, length, refl, sym, subst, ap, ◌∙◌, arith}
 use Rattle.std.specs.List.{slice_get}
 use Rattle.std.specs.Option.{option_and_then, option_map}
+use Rattle.std.proofs.Math.Nat.{mul-le-mul_right}
 use Rattle.std.proofs.lemmas.Bool.{cases_lt}
 use Rattle.std.proofs.lemmas.Bool.Decides.{leb_tells}
 use Rattle.std.proofs.lemmas.List.{append_assoc, length-append}
 use Rattle.std.proofs.lemmas.List.Elements.{All-nil, All-push}
-use Rattle.std.proofs.lemmas.Option.{none-some, slice_get_past, slice_get_within}
+use Rattle.std.proofs.lemmas.Option.{cond_some, none-some, slice_get_past, slice_get_within}
 use Rattle.naga_arena.specs.Numbers.{largest_u32}
 use Rattle.naga_ir.specs.Handles.{GlobalReferencesOk}
 use Rattle.naga_ir.specs.ItemReferences.{GlobalLists}
 use Rattle.naga_ir.specs.declared.types.«Type».{«Type»}
+use Rattle.naga_ir.specs.declared.types.ArraySize.{ArraySize}
 use Rattle.naga_ir.specs.declared.types.StructMember.{StructMember}
 use Rattle.naga_ir.specs.declared.types.TypeInner.{TypeInner}
 use Rattle.naga_ir.specs.declared.types.TypeInner.TheVariants.{Array, Struct}
@@ -19,6 +21,7 @@ use Rattle.naga_leaves.proofs.Parts.{part_comes_before}
 use Rattle.naga_leaves.proofs.Path.{moved_by_none, moved_twice}
 use Rattle.naga_leaves.specs.declared.leaf.Part.{Part}
 use Rattle.naga_leaves.specs.Places.{LeadsTo, further, itself, part_of_type}
+use Rattle.naga_leaves.specs.steps.Steps.{IsIndexAfter}
 use Rattle.naga_typing.specs.Leaves as spec
 use Rattle.naga_typing.specs.Leaves.{Elements, LeafBytes, inner_at, leaf_at, moved}
 
@@ -155,3 +158,53 @@ module _ (g : GlobalLists) (elements_of : Elements) where
         let at : LeadsTo g elements_of whole a path part = subst (λ a. LeadsTo g elements_of whole a path part) w.0 h in
         let bt : LeadsTo g elements_of whole a q part = subst (λ q. LeadsTo g elements_of whole a q part) v.0 at in
         (subst (λ p. LeadsTo g elements_of whole a q p) w.1 bt, subst (λ i. i ≤ largest_u32) v.1 within)
+
+    -- there is a part around a part to which an index leads
+    pub around_of : (outer : List Part) (path : List ℕ) (part : Part) → LeadsTo g elements_of whole outer path part
+        → (q : List ℕ) (i : ℕ) → path ≡ q ++ i ∷ [] → (a : List Part) × (p : Part) × (outer ≡ a ++ p ∷ [])
+    around_of _ _ _ itself q i e = absurd (no_end q i e)
+    around_of _ _ _ (further outer path part j child h is within) q i e = (outer, part, refl)
+
+    -- the types of the parts around it exist
+    pub outer_there : GlobalReferencesOk g → whole < length g.types → (outer : List Part) (path : List ℕ) (part : Part) → LeadsTo g elements_of whole outer path part
+        → All (λ (p : Part). p.ty < length g.types) outer
+    outer_there ok there _ _ _ itself = All-nil (λ (p : Part). p.ty < length g.types)
+    outer_there ok there _ _ _ (further outer path part j child h is within) =
+        All-push (λ (p : Part). p.ty < length g.types) outer part (outer_there ok there outer path part h) (part_there ok there outer path part h)
+
+-- all elements of an array have one type, and begin one after another
+pub after_elements : (g : GlobalLists) (elements_of : Elements) (t i base : ℕ) (size : ArraySize) (stride : ℕ) → inner_at g t ≡ Some (Array base size stride) → i ≤ largest_u32 → IsIndexAfter g elements_of t i (suc largest_u32)
+after_elements g elements_of t i base size stride is within = record {
+  above = omega arith;
+  within = omega arith;
+  alike = λ k part from below at.
+      let there : spec.part_at elements_of (Array base size stride) k ≡ Some part = sym (ap (option_and_then (λ inner. spec.part_at elements_of inner k)) is) ∙ at in
+      let w = cond_some (ltb k (elements_of size)) (record { ty = base; first = k * stride }) part there in
+      let first : i * stride ≤ k * stride = mul-le-mul_right stride from in (
+        record { ty = base; first = i * stride },
+        ap (option_and_then (λ inner. spec.part_at elements_of inner i)) is
+            ∙ ap (λ (b : Bool). let element : Option spec.Part = if b then Some (record { ty = base; first = i * stride }) else None in element) (earlier k from w.0),
+        ap (λ (p : spec.Part). p.ty) w.1,
+        subst (λ (p : spec.Part). i * stride ≤ p.first) w.1 first,
+      );
+}
+  where
+    earlier : (k : ℕ) → i ≤ k → ltb k (elements_of size) ≡ true → ltb i (elements_of size) ≡ true
+    earlier k from below =
+        ⊎_elim (λ (w : (leb (suc i) (elements_of size) ≡ true) × (suc i ≤ elements_of size)). w.0)
+        (λ (w : (leb (suc i) (elements_of size) ≡ false) × (elements_of size < suc i)). absurd (past w.1))
+        (leb_tells (suc i) (elements_of size))
+      where
+        past : elements_of size < suc i → ⊥
+        past above =
+            ⊎_elim (λ (v : (leb (suc k) (elements_of size) ≡ true) × (suc k ≤ elements_of size)). let more : suc k ≤ elements_of size = v.1 in omega arith)
+            (λ (v : (leb (suc k) (elements_of size) ≡ false) × (elements_of size < suc k)). let no : true ≡ false = sym below ∙ v.0 in cc)
+            (leb_tells (suc k) (elements_of size))
+
+-- one part is like itself
+pub after_one : (g : GlobalLists) (elements_of : Elements) (t i : ℕ) → i ≤ largest_u32 → IsIndexAfter g elements_of t i (i + 1)
+after_one g elements_of t i within = record {
+  above = omega arith;
+  within = omega arith;
+  alike = λ k part from below at. let same : k ≡ i = omega arith in (part, ap (part_of_type g elements_of t) (sym same) ∙ at, refl, omega arith);
+}

@@ -2,22 +2,24 @@
 use Rattle.std.proofs.Common.{◌≡◌, ◌+◌, ◌<◌, ◌≤◌, ⊎_elim, ℕ, suc, List, [], ◌∷◌, ◌++◌, Option, Some, None, IfSome, All, get_or, length, take, refl, sym, subst, ap, ◌∙◌, arith}
 use Rattle.std.specs.Option.{option_map}
 use Rattle.std.proofs.Math.Seq.{take-length}
-use Rattle.std.proofs.lemmas.List.{append-nil, take_more}
+use Rattle.std.proofs.lemmas.Bool.{cases_lt}
+use Rattle.std.proofs.lemmas.List.{append-nil, append_assoc, take_more}
 use Rattle.std.proofs.lemmas.List.Elements.{All-contains, Contains-append_right}
 use Rattle.std.proofs.lemmas.Option.{none-some}
 use Rattle.naga_arena.specs.Numbers.{largest_u32, largest_u64}
 use Rattle.naga_ir.specs.Handles.{GlobalReferencesOk}
 use Rattle.naga_ir.specs.ItemReferences.{GlobalLists}
-use Rattle.naga_leaves.proofs.Order.{Extends, Past, extends_or_next, extends_or_past, from_below, from_extension, from_itself, from_lesser, past_from, past_next, to_extension}
+use Rattle.naga_leaves.proofs.Order.{Extends, Past, extends_or_past, from_below, from_extension, from_itself, from_lesser, from_own, past_from, past_next, to_extension}
 use Rattle.naga_leaves.proofs.Path.{moved_begins, moved_twice}
-use Rattle.naga_leaves.proofs.Places.{are_indexes, as_many, back, leaf_at_none, leaf_at_part, leaf_in_place, no_end, none_of_type_after, part_precedes, part_there, same_ends}
+use Rattle.naga_leaves.proofs.Places.{are_indexes, around_of, as_many, back, leaf_at_none, leaf_at_part, leaf_in_place, no_end, none_of_type_after, part_precedes, part_there, same_ends}
 use Rattle.naga_leaves.proofs.Weights.{outer_more, entering, later, leaving, passing}
+use Rattle.naga_leaves.specs.HasLeaves.{HasNoLeaf}
 use Rattle.naga_leaves.specs.LeavesFrom.{HasLeafFrom, HasNoneFrom, HasSameFrom, IsFirstLeaf}
 use Rattle.naga_leaves.specs.Order.{IsAtOrAfter}
 use Rattle.naga_leaves.specs.declared.cursor.Place.{Place}
 use Rattle.naga_leaves.specs.declared.cursor.Step.{Step}
 use Rattle.naga_leaves.specs.declared.cursor.Step.TheVariants.{Leaf, Other, End}
-use Rattle.naga_leaves.specs.steps.Steps.{HasNoLeafBefore, IsFollowing, IsTurned, Leaves, Steps}
+use Rattle.naga_leaves.specs.steps.Steps.{HasNoLeafBefore, HasNoLeafFrom, IsFollowing, IsIndexAfter, IsTurned, Leaves, Skips, Steps}
 use Rattle.naga_leaves.specs.declared.leaf.Part.{Part}
 use Rattle.naga_leaves.specs.Places.{IsEntered, IsLeft, IsPlace, IsUnmoved, LeadsTo, outer_left, further, part_left, part_of_type, place_left, place_start}
 use Rattle.naga_typing.specs.Leaves as spec
@@ -47,19 +49,56 @@ module _ (g : GlobalLists) (elements_of : Elements) (t : ℕ) where
     no_more = λ q k h. let w = from_extension b q h.after in (record { has = h.has; after = w.0 }, w.1);
   }
 
-  -- a part whose leaves all begin past all numbers may be passed
-  pub past_far : (p : List ℕ) (n : ℕ) → ((rest : List ℕ) → IfSome (leaf_at g elements_of t (p ++ n ∷ rest)) (λ leaf. largest_u64 < leaf.first))
-      → HasSameFrom g elements_of t (p ++ n ∷ []) (p ++ (n + 1) ∷ [])
-  past_far p n far = record {
-    into = λ q l h. record { has = h.has; after = ⊎_elim (λ (e : (rest : List ℕ) × (q ≡ p ++ n ∷ rest)). absurd (too_far q l h e.0 e.1)) (λ (a : IsAtOrAfter (p ++ (n + 1) ∷ []) q). a) (extends_or_next p q n h.after) };
-    back = λ q l h. record { has = h.has; after = from_lesser p q n (n + 1) (omega arith) h.after };
+  -- parts whose leaves all begin past all numbers may be passed
+  pub past_far : (p : List ℕ) (n m : ℕ) → n ≤ m → ((k : ℕ) (rest : List ℕ) → n ≤ k → k < m → IfSome (leaf_at g elements_of t (p ++ k ∷ rest)) (λ leaf. largest_u64 < leaf.first))
+      → HasSameFrom g elements_of t (p ++ n ∷ []) (p ++ m ∷ [])
+  past_far p n m le far = record {
+    into = λ q l h. record { has = h.has; after = ⊎_elim (λ (e : Extends p q n). extended q l h e) (λ (a : Past p q). past_from p q m a) (extends_or_past p q n h.after) };
+    back = λ q l h. record { has = h.has; after = from_lesser p q n m le h.after };
   }
     where
-      too_far : (q : List ℕ) (l : LeafBytes) → HasLeafFrom g elements_of t (p ++ n ∷ []) q l → (rest : List ℕ) → q ≡ p ++ n ∷ rest → ⊥
-      too_far q l h rest e =
-          let there : leaf_at g elements_of t (p ++ n ∷ rest) ≡ Some l = ap (leaf_at g elements_of t) (sym e) ∙ h.has.there in
-          let past : largest_u64 < l.first = subst (λ (o : Option LeafBytes). IfSome o (λ leaf. largest_u64 < leaf.first)) there (far rest) in
+      too_far : (q : List ℕ) (l : LeafBytes) → HasLeafFrom g elements_of t (p ++ n ∷ []) q l → (e : Extends p q n) → e.index < m → ⊥
+      too_far q l h e below =
+          let there : leaf_at g elements_of t (p ++ e.index ∷ e.rest) ≡ Some l = ap (leaf_at g elements_of t) (sym e.is) ∙ h.has.there in
+          let past : largest_u64 < l.first = subst (λ (o : Option LeafBytes). IfSome o (λ leaf. largest_u64 < leaf.first)) there (far e.index e.rest e.from below) in
           let begins : l.first ≤ largest_u64 = h.has.begins in omega arith
+
+      extended : (q : List ℕ) (l : LeafBytes) → HasLeafFrom g elements_of t (p ++ n ∷ []) q l → Extends p q n → IsAtOrAfter (p ++ m ∷ []) q
+      extended q l h e =
+          ⊎_elim (λ (below : e.index < m). absurd (too_far q l h e below))
+          (λ (from : m ≤ e.index). subst (IsAtOrAfter (p ++ m ∷ [])) (sym e.is) (from_lesser p (p ++ e.index ∷ e.rest) m e.index from (from_own p e.index e.rest)))
+          (cases_lt e.index m)
+
+  -- the leaves at an index, moved, begin past all numbers
+  abbrev pub IsFar : ℕ → ℕ → Type 0
+  IsFar by i = (rest : List ℕ) → IfSome (option_map (moved by) (leaf_at g elements_of t (i ∷ rest))) (λ leaf. largest_u64 < leaf.first)
+
+  -- a part that begins past all numbers is far, and a part without leaves is
+  pub far_part : (by i : ℕ) (child : spec.Part) → part_of_type g elements_of t i ≡ Some child → largest_u64 < by + child.first → IsFar by i
+  far_part by i child at far rest =
+      subst (λ (o : Option LeafBytes). IfSome o (λ leaf. largest_u64 < leaf.first))
+      (sym (ap (option_map (moved by)) (leaf_at_part g elements_of t i rest child at) ∙ moved_twice by child.first (leaf_at g elements_of child.ty rest)))
+      (moved_begins (by + child.first) (leaf_at g elements_of child.ty rest) far)
+
+  -- parts that are like a far part, and come after it, are far
+  pub far_alike : (by i next : ℕ) → IsIndexAfter g elements_of t i next → IsFar by i → (k : ℕ) → i ≤ k → k < next → IsFar by k
+  far_alike by i next after is k from below rest = at (part_of_type g elements_of t k) refl
+    where
+      later : (a b : ℕ) (o : Option LeafBytes) → a ≤ b → IfSome (option_map (moved by) (option_map (moved a) o)) (λ leaf. largest_u64 < leaf.first)
+          → IfSome (option_map (moved by) (option_map (moved b) o)) (λ leaf. largest_u64 < leaf.first)
+      later a b None le h = tt
+      later a b (Some leaf) le h = omega arith
+
+      at : (o : Option spec.Part) → part_of_type g elements_of t k ≡ o → IfSome (option_map (moved by) (leaf_at g elements_of t (k ∷ rest))) (λ leaf. largest_u64 < leaf.first)
+      at None none = subst (λ (o : Option LeafBytes). IfSome (option_map (moved by) o) (λ leaf. largest_u64 < leaf.first)) (sym (leaf_at_none g elements_of t k rest none)) tt
+      at (Some part) there =
+          let w = after.alike k part from below there in
+          let first : IfSome (option_map (moved by) (option_map (moved w.0.first) (leaf_at g elements_of w.0.ty rest))) (λ leaf. largest_u64 < leaf.first) =
+          subst (λ (o : Option LeafBytes). IfSome (option_map (moved by) o) (λ leaf. largest_u64 < leaf.first)) (leaf_at_part g elements_of t i rest w.0 w.1) (is rest) in
+          let same : IfSome (option_map (moved by) (option_map (moved w.0.first) (leaf_at g elements_of part.ty rest))) (λ leaf. largest_u64 < leaf.first) =
+          subst (λ (ty : ℕ). IfSome (option_map (moved by) (option_map (moved w.0.first) (leaf_at g elements_of ty rest))) (λ leaf. largest_u64 < leaf.first)) w.2 first in
+          subst (λ (o : Option LeafBytes). IfSome (option_map (moved by) o) (λ leaf. largest_u64 < leaf.first)) (sym (leaf_at_part g elements_of t k rest part there))
+          (later w.0.first part.first (leaf_at g elements_of part.ty rest) w.3 same)
 
   module _ (p : List ℕ) (n : ℕ) (none : (m : ℕ) (rest : List ℕ) → n ≤ m → m ≤ largest_u32 → leaf_at g elements_of t (p ++ m ∷ rest) ≡ None) where
     not_extended : (q : List ℕ) (l : LeafBytes) → HasLeafFrom g elements_of t (p ++ n ∷ []) q l → Extends p q n → ⊥
@@ -230,25 +269,51 @@ module _ (g : GlobalLists) (ok : GlobalReferencesOk g) (elements_of : Elements) 
           (λ m rest from below. in_around m rest ∙ ap (option_map (moved around.first)) (leaf_at_none g elements_of around.ty m rest (none_of_type_after g elements_of around.ty index m none from)))
           (suc largest_u32) (omega arith))
 
-      -- no leaf is in a part that begins past all numbers of 64 bits
-      pub far_part_follows : (child : spec.Part) → part_of_type g elements_of around.ty index ≡ Some child → largest_u64 < around.first + child.first → index ≤ largest_u32
-          → HasNoLeafBefore g elements_of before (index + 1)
-      far_part_follows child at far within =
-          skips_to (index + 1) (omega arith) (omega arith)
-          (past_far g elements_of before.ty (take n before.path.items) index
-          (λ rest. subst (λ (o : Option LeafBytes). IfSome o (λ leaf. largest_u64 < leaf.first))
-          (sym (in_around index rest ∙ ap (option_map (moved around.first)) (leaf_at_part g elements_of around.ty index rest child at) ∙ moved_twice around.first child.first (leaf_at g elements_of child.ty rest)))
-          (moved_begins (around.first + child.first) (leaf_at g elements_of child.ty rest) far)))
+      -- no leaf is in a part that begins past all numbers of 64 bits, nor in those after it that are alike
+      pub far_part_follows : (child : spec.Part) (next : ℕ) → part_of_type g elements_of around.ty index ≡ Some child → largest_u64 < around.first + child.first
+          → IsIndexAfter g elements_of around.ty index next → HasNoLeafBefore g elements_of before next
+      far_part_follows child next at far after =
+          let above : index < next = after.above in
+          skips_to next (omega arith) after.within
+          (past_far g elements_of before.ty (take n before.path.items) index next (omega arith)
+          (λ k rest from below. subst (λ (o : Option LeafBytes). IfSome o (λ leaf. largest_u64 < leaf.first)) (sym (in_around k rest))
+          (far_alike g elements_of around.ty around.first index next after (far_part g elements_of around.ty around.first index child at far) k from below rest)))
+
+  -- no leaf is in a part without leaves, nor in those after it that are alike
+  pub no_leaf_skipped : HasNoLeaf g elements_of before.part.ty → (next : ℕ)
+      → ((outer : List Part) (around : Part) (path : List ℕ) (last : ℕ) → before.outer.items ≡ outer ++ around ∷ [] → before.path.items ≡ path ++ last ∷ [] → IsIndexAfter g elements_of around.ty last next)
+      → HasNoLeafBefore g elements_of before next
+  no_leaf_skipped none next after path last path_is =
+      let a = around_of g elements_of before.ty before.outer.items before.path.items before.part is.leads path last path_is in
+      let around_leads = back g elements_of before.ty before.outer.items before.path.items before.part is.leads a.0 path a.1 last a.2 path_is in
+      let follows : IsIndexAfter g elements_of a.1.ty last next = after a.0 a.1 path last a.2 path_is in
+      let above : last < next = follows.above in
+      let around_leaf = leaf_in_place g elements_of before.ty a.0 path a.1 around_leads.0 in
+      let far : IsFar g elements_of a.1.ty a.1.first last =
+      λ rest. subst (λ (o : Option LeafBytes). IfSome o (λ leaf. largest_u64 < leaf.first)) (sym (sym (around_leaf (last ∷ rest)) ∙ no_leaf_here path last path_is rest)) tt in (
+        omega arith,
+        follows.within,
+        past_far g elements_of before.ty path (last + 1) next (omega arith)
+            (λ k rest from below. subst (λ (o : Option LeafBytes). IfSome o (λ leaf. largest_u64 < leaf.first)) (sym (around_leaf (k ∷ rest)))
+            (far_alike g elements_of a.1.ty a.1.first last next follows far k (omega arith) below rest)),
+      )
+    where
+      no_leaf_here : (path : List ℕ) (last : ℕ) → before.path.items ≡ path ++ last ∷ [] → (rest : List ℕ) → leaf_at g elements_of before.ty (path ++ last ∷ rest) ≡ None
+      no_leaf_here path last path_is rest =
+          ap (leaf_at g elements_of before.ty) (sym (append_assoc path (last ∷ []) rest))
+          ∙ ap (λ p. leaf_at g elements_of before.ty (p ++ rest)) (sym path_is)
+          ∙ leaf_in_place g elements_of before.ty before.outer.items before.path.items before.part is.leads rest
+          ∙ ap (option_map (moved before.part.first)) (none rest)
 
   -- nothing is around the whole
   pub nothing_around : (next : ℕ) → before.path.items ≡ [] → HasNoLeafBefore g elements_of before next
   nothing_around next empty path i e = absurd (no_end path i (sym empty ∙ e))
 
-  module _ (none : (m : ℕ) → before.next ≤ m → m ≤ largest_u32 → part_of_type g elements_of before.part.ty m ≡ None) where
+  module _ (none : HasNoLeafFrom g elements_of before.part.ty before.next) where
     no_leaf : (m : ℕ) (rest : List ℕ) → before.next ≤ m → m ≤ largest_u32 → leaf_at g elements_of before.ty (before.path.items ++ m ∷ rest) ≡ None
     no_leaf m rest from within =
         leaf_in_place g elements_of before.ty before.outer.items before.path.items before.part is.leads (m ∷ rest)
-        ∙ ap (option_map (moved before.part.first)) (leaf_at_none g elements_of before.part.ty m rest (none m from within))
+        ∙ ap (option_map (moved before.part.first)) (none m rest from within)
 
     pub rest_same : (m : ℕ) → before.next ≤ m → HasSameFrom g elements_of before.ty (place_start before) (before.path.items ++ m ∷ [])
     rest_same m le = past_rest g elements_of before.ty before.path.items before.next no_leaf m le
@@ -334,27 +399,32 @@ module _ (g : GlobalLists) (ok : GlobalReferencesOk g) (elements_of : Elements) 
         ∙ ap (option_map (moved before.part.first)) (leaf_at_part g elements_of before.part.ty n rest child at)
         ∙ moved_twice before.part.first child.first (leaf_at g elements_of child.ty rest)
 
-    -- a part that begins past all numbers is passed
-    module _ (now : Place) (path_is : now.path.items ≡ before.path.items) (new_is : now.next ≡ before.next + 1) where
+    -- a part that begins past all numbers is passed, and those after it that are alike
+    module _ (now : Place) (next : ℕ) (after : IsIndexAfter g elements_of before.part.ty n next) (path_is : now.path.items ≡ before.path.items) (new_is : now.next ≡ next) where
       pub passed_same : largest_u64 < before.part.first + child.first → HasSameFrom g elements_of before.ty (place_start before) (place_start now)
       passed_same far =
+          let above : n < next = after.above in
           subst (λ b. HasSameFrom g elements_of before.ty b (place_start now)) (same_start before.path.items before.path.items n before.next refl next_is)
-          (subst (HasSameFrom g elements_of before.ty (before.path.items ++ n ∷ [])) (sym (same_start now.path.items before.path.items now.next (n + 1) path_is (new_is ∙ ap (λ k. k + 1) (sym next_is))))
-          (past_far g elements_of before.ty before.path.items n (λ rest. subst (λ (o : Option LeafBytes). IfSome o (λ leaf. largest_u64 < leaf.first)) (sym (in_child rest)) (moved_begins (before.part.first + child.first) (leaf_at g elements_of child.ty rest) far))))
+          (subst (HasSameFrom g elements_of before.ty (before.path.items ++ n ∷ [])) (sym (same_start now.path.items before.path.items now.next next path_is new_is))
+          (past_far g elements_of before.ty before.path.items n next (omega arith)
+          (λ k rest from below. subst (λ (o : Option LeafBytes). IfSome o (λ leaf. largest_u64 < leaf.first))
+          (sym (leaf_in_place g elements_of before.ty before.outer.items before.path.items before.part is.leads (k ∷ rest)))
+          (far_alike g elements_of before.part.ty before.part.first n next after (far_part g elements_of before.part.ty before.part.first n child at far) k from below rest))))
 
       module _ (ty_is : now.ty ≡ before.ty) (outer_is : now.outer.items ≡ before.outer.items) (part_is : now.part ≡ before.part) where
         pub passed_place : IsPlace g elements_of now
         passed_place =
-            place_by g elements_of now before.ty before.outer.items before.path.items before.part (before.next + 1) ty_is outer_is path_is part_is new_is is.exists is.leads (omega arith)
+            place_by g elements_of now before.ty before.outer.items before.path.items before.part next ty_is outer_is path_is part_is new_is is.exists is.leads after.within
 
         pub passed_fewer : place_left now < place_left before
         passed_fewer =
-            let new : place_left now ≡ outer_left before.outer.items before.path.items + part_left before.part.ty (before.next + 1) =
-            left_by g elements_of now before.ty before.outer.items before.path.items before.part (before.next + 1) ty_is outer_is path_is part_is new_is in
-            sums (place_left now) _ _ (part_left before.part.ty before.next) new (passing before.part.ty before.next (omega arith))
+            let new : place_left now ≡ outer_left before.outer.items before.path.items + part_left before.part.ty next =
+            left_by g elements_of now before.ty before.outer.items before.path.items before.part next ty_is outer_is path_is part_is new_is in
+            let above : before.next < next = omega (arith, after.above) in
+            sums (place_left now) _ _ _ (part_left before.part.ty before.next) new (later before.part.ty (before.next + 1) next (omega arith)) (passing before.part.ty before.next (omega arith))
           where
-            sums : (new outer a b : ℕ) → new ≡ outer + a → a < b → new < outer + b
-            sums new outer a b e h = omega arith
+            sums : (new outer a b c : ℕ) → new ≡ outer + a → a ≤ b → b < c → new < outer + c
+            sums new outer a b c e f h = omega arith
 
     module _ (now : Place) (part : Part) (entered : IsEntered before now n part) (part_is : part ≡ record { ty = child.ty; first = before.part.first + child.first }) where
       leads_on : LeadsTo g elements_of before.ty (before.outer.items ++ before.part ∷ []) (before.path.items ++ n ∷ []) (record { ty = child.ty; first = before.part.first + child.first })
@@ -400,7 +470,7 @@ module _ (g : GlobalLists) (elements_of : Elements) (before now : Place) (same :
   unmoved_start = same_start now.path.items before.path.items now.next before.next same.path same.next
 
 module _ (g : GlobalLists) (ok : GlobalReferencesOk g) (elements_of : Elements) (before now : Place) (is : IsPlace g elements_of before)
-    (none : (m : ℕ) → before.next ≤ m → m ≤ largest_u32 → part_of_type g elements_of before.part.ty m ≡ None) where
+    (none : HasNoLeafFrom g elements_of before.part.ty before.next) where
   module _ (next : ℕ) (skips : HasNoLeafBefore g elements_of before next) where
     -- to leave a part without more parts is a step
     pub left_is_place : (s : Step) → Leaves before now next s → IsPlace g elements_of now
@@ -412,3 +482,23 @@ module _ (g : GlobalLists) (ok : GlobalReferencesOk g) (elements_of : Elements) 
     left_steps (Leaf leaf) h = absurd h
     left_steps Other h = (left_same g ok elements_of before is none now h.0 next h.1 skips, left_fewer g ok elements_of before is none now h.0 next h.1 skips)
     left_steps End h = (at_end g ok elements_of before is none h.0, h.1)
+
+module _ (g : GlobalLists) (ok : GlobalReferencesOk g) (elements_of : Elements) (before now : Place) (is : IsPlace g elements_of before)
+    (none : HasNoLeaf g elements_of before.part.ty) (s : Step) (skips : Skips g before now s) where
+  none_from : HasNoLeafFrom g elements_of before.part.ty before.next
+  none_from m rest from within = none (m ∷ rest)
+
+  no_leaf_before : HasNoLeafBefore g elements_of before skips.next
+  no_leaf_before = no_leaf_skipped g ok elements_of before is none skips.next (skips.after elements_of)
+
+  -- to skip a part without leaves is a step
+  pub skipped_place : IsPlace g elements_of now
+  skipped_place = left_is_place g ok elements_of before now is none_from skips.next no_leaf_before s skips.leaves
+
+  pub skipped_steps : Steps g elements_of before now s
+  skipped_steps = left_steps g ok elements_of before now is none_from skips.next no_leaf_before s skips.leaves
+
+  pub skipped_ty : (s : Step) → Leaves before now skips.next s → now.ty ≡ before.ty
+  skipped_ty (Leaf leaf) h = absurd h
+  skipped_ty Other h = h.1.ty
+  skipped_ty End h = h.1.ty

@@ -8,6 +8,7 @@ use Rattle.naga_ir.specs.ItemReferences.{GlobalLists}
 use Rattle.naga_ir.specs.declared.types.TypeInner.{TypeInner}
 use Rattle.naga_ir.specs.declared.types.TypeInner.TheVariants.{Array, Struct}
 use Rattle.naga_leaves.proofs.NextLeaves.{then_first}
+use Rattle.naga_leaves.proofs.Places.{leaf_at_none}
 use Rattle.naga_leaves.proofs.Steps.{Arrives, first_is, indexes_here, leaf_here, left_by, past_none, place_by, rest_same, same_start, then_same}
 use Rattle.naga_leaves.proofs.Weights.{later}
 use Rattle.naga_leaves.specs.Leaf.{bytes_of}
@@ -17,14 +18,14 @@ use Rattle.naga_leaves.specs.declared.cursor.Place.{Place}
 use Rattle.naga_leaves.specs.declared.cursor.Step.{Step}
 use Rattle.naga_leaves.specs.declared.cursor.Step.TheVariants.{Leaf, Other, End}
 use Rattle.naga_leaves.specs.declared.leaf.Leaf as leaf
-use Rattle.naga_leaves.specs.steps.Steps.{HasNoPartFrom, IsVisited, Steps, leaf_of_part}
+use Rattle.naga_leaves.specs.steps.Steps.{HasNoLeafFrom, IsVisited, Steps, leaf_of_part}
 use Rattle.naga_typing.specs.Leaves as spec
 use Rattle.naga_typing.specs.Leaves.{Elements, LeafBytes, inner_at, leaf_at, moved, whole_leaf}
 
--- a leaf has no parts
-leaf_has_no_part : (g : GlobalLists) (elements_of : Elements) (t k : ℕ) (l : LeafBytes) → option_map (moved k) (leaf_at g elements_of t []) ≡ Some l → HasNoPartFrom g elements_of t 0
+-- a leaf has no parts, and so no leaf in them
+leaf_has_no_part : (g : GlobalLists) (elements_of : Elements) (t k : ℕ) (l : LeafBytes) → option_map (moved k) (leaf_at g elements_of t []) ≡ Some l → HasNoLeafFrom g elements_of t 0
 unfolding leaf_at
-leaf_has_no_part g elements_of t k l h m from within = by (inner_at g t) h
+leaf_has_no_part g elements_of t k l h m rest from within = leaf_at_none g elements_of t m rest (by (inner_at g t) h)
   where
     of : (inner : TypeInner) → option_map (moved k) (whole_leaf g inner) ≡ Some l → spec.part_at elements_of inner m ≡ None
     of (Array base size stride) h = absurd (none-some l h)
@@ -54,8 +55,8 @@ module _ (g : GlobalLists) (ok : GlobalReferencesOk g) (elements_of : Elements) 
       → IsFirstLeaf g elements_of before.ty (place_start before) at.path.items (place_start now) (bytes_of leaf)
   visits_leaf leaf is same_first start =
       let there : leaf_at g elements_of at.ty at.path.items ≡ Some (bytes_of leaf) = leaf_here g ok elements_of at arrives.place ∙ is in
-      let none : HasNoPartFrom g elements_of at.part.ty at.next =
-      λ (m : ℕ) (from : at.next ≤ m) (within : m ≤ largest_u32). leaf_has_no_part g elements_of at.part.ty at.part.first (bytes_of leaf) is m (omega arith) within in
+      let none : HasNoLeafFrom g elements_of at.part.ty at.next =
+      λ (m : ℕ) (rest : List ℕ) (from : at.next ≤ m) (within : m ≤ largest_u32). leaf_has_no_part g elements_of at.part.ty at.part.first (bytes_of leaf) is m rest (omega arith) within in
       let rest : HasSameFrom g elements_of at.ty (at.path.items ++ 0 ∷ []) (place_start now) =
       subst (λ a. HasSameFrom g elements_of at.ty a (place_start now)) starts_at
       (subst (HasSameFrom g elements_of at.ty (place_start at)) (sym start)

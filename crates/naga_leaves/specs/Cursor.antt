@@ -2,6 +2,7 @@
 use Rattle.std.specs.Prelude.{◌≡◌, ◌<◌, ℕ, suc, false, List, [], if◌then◌else◌}
 use Rattle.naga_ir.specs.Handles.{GlobalReferencesOk}
 use Rattle.naga_ir.specs.ItemReferences.{GlobalLists}
+use Rattle.naga_leaves.specs.HasLeaves.{AreLeavesKnown}
 use Rattle.naga_leaves.specs.LeavesFrom.{HasLeaf, HasLeafFrom, HasNoneFrom, HasSameFrom, IsFirstLeaf}
 use Rattle.naga_leaves.specs.declared.cursor.Leaves.{Leaves}
 use Rattle.naga_leaves.specs.Places.{IsPlace, place_left, place_start}
@@ -32,10 +33,11 @@ fuel leaves = if leaves.is_begun then place_left leaves.place else suc (place_le
 abbrev pub IsRemaining : Leaves → List ℕ → LeafBytes → Type 0
 IsRemaining leaves path leaf = HasLeafFrom (lists_under leaves) (elements_for leaves) leaves.place.ty (start_of leaves) path leaf
 
--- a cursor is at a part of a value, and before its first step at the whole
+-- a cursor is at a part of a value, and before its first step at the whole, and knows rightly which types have a leaf
 pub record IsCursor (leaves : Leaves) : Type 0 where
   pub references : GlobalReferencesOk (lists_under leaves)
   pub place : IsPlace (lists_under leaves) (elements_for leaves) leaves.place
+  pub known : AreLeavesKnown (lists_under leaves) (elements_for leaves) leaves.has_leaves.items
   pub whole : leaves.is_begun ≡ false → (leaves.place.path.items ≡ []) × (leaves.place.next ≡ 0)
 
 -- a cursor has still to come to all leaves of the type of index `t`, and to no others

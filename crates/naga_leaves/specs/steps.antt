@@ -1,4 +1,5 @@
 -- What only private functions promise one another.
+pub mod HasLeaves
 pub mod NextLeaf
 pub mod Parts
 pub mod Steps

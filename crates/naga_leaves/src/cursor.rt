@@ -1,28 +1,29 @@
 //! All leaves of a type, one after another.
 
-ghost use Rattle.std.specs.Prelude.{◌≡◌, ◌+◌, ◌<◌, [], ◌≤◌, suc, length as length_of, IfErr, IfOk, IfSome, MatchOption, OnErr, OnOk, None, Some, option_map, true};
+ghost use Rattle.std.specs.Prelude.{◌≡◌, ◌+◌, ◌<◌, [], ◌≤◌, suc, length as length_of, All, IfErr, IfOk, IfSome, IsTrue, MatchOption, OnErr, OnOk, None, Some, option_map, true};
 ghost use Rattle.naga_arena.specs.Numbers.{largest_u32};
 ghost use Rattle.naga_ir.specs.Handles.{GlobalReferencesOk};
 ghost use Rattle.naga_ir.specs.ItemReferences.{global_lists};
+ghost use Rattle.naga_leaves.specs.HasLeaves.{AreLeavesKnown, HasNoLeaf};
 ghost use Rattle.naga_leaves.specs.Leaf.{bytes_of};
 ghost use Rattle.naga_leaves.specs.Cursor.{YieldsAll, YieldsSame, IsAtEnd, IsCursor, IsNext, path_of};
 ghost use Rattle.naga_leaves.specs.steps.NextLeaf.{ComesOn};
 ghost use Rattle.naga_leaves.specs.steps.Parts.{part_of};
 ghost use Rattle.naga_leaves.specs.Places.{IsEntered, IsPlace, IsUnmoved, part_of_type};
-ghost use Rattle.naga_leaves.specs.steps.Steps.{HasNoLeafBefore, HasNoPartFrom, IsFollowing, IsTurned, IsVisited, Leaves as LeavesPart, Steps};
+ghost use Rattle.naga_leaves.specs.steps.Steps.{Follows, HasNoLeafBefore, HasNoLeafFrom, IsTurned, IsVisited, Leaves as LeavesPart, Skips, Steps};
+ghost use Rattle.naga_leaves.specs.declared.leaf.Part as part;
 ghost use Rattle.naga_typing.specs.Context.{lists_of};
 ghost use Rattle.naga_typing.specs.Leaves.{Elements, elements, leaf_at, moved};
 
-use crate::leaf::{Leaf, Part, part_at, whole_leaf};
+use crate::has_leaves::find_leaves;
+use crate::leaf::{Leaf, PAST_PARTS, Part, index_after, part_at, whole_leaf};
 use naga_ir::handle::Handle;
+use naga_ir::handle_vec::HandleVec;
 use naga_ir::ir::Module;
 use naga_ir::memory::OutOfMemory;
 use naga_ir::tags::TypeTag;
 use naga_typing::context::{GlobalCtx, to_ctx};
 use std::alloc::Global;
-
-/// An index past the indexes of all elements and members, which are `u32`s.
-const PAST_PARTS: u64 = u32::MAX as u64 + 1;
 
 /// What a step comes to.
 #[derive(Clone, Copy)]
@@ -33,6 +34,14 @@ enum Step {
     Other,
     /// The end of the whole value.
     End,
+}
+
+/// What follows a part in the part around it.
+enum Following {
+    /// The element or member of an index.
+    Part(u32, Part),
+    /// No leaf before the element or member of an index.
+    Index(u64),
 }
 
 /// A place among the parts of a value.
@@ -70,7 +79,7 @@ impl Place {
         requires exists { self.now.part.ty < length_of gctx.types.now }
         requires references { GlobalReferencesOk (lists_of gctx) }
         ensures { MatchOption result
-            (HasNoPartFrom (lists_of gctx.entry) (elements (lists_of gctx.entry) length) self.now.part.ty self.now.next)
+            (HasNoLeafFrom (lists_of gctx.entry) (elements (lists_of gctx.entry) length) self.now.part.ty self.now.next)
             (λ r. (r.0 ≡ self.now.next) × (r.0 ≤ largest_u32)
             × (part_of_type (lists_of gctx.entry) (elements (lists_of gctx.entry) length) self.now.part.ty r.0
             ≡ Some (part_of r.1))) }
@@ -127,26 +136,24 @@ impl Place {
         self.next = 0;
     }
 
-    /// The index of the element or member that follows the part in the part around it, if there is
-    /// one, and this element or member itself unless it begins past `u64::MAX`.
+    /// What follows the part in the part around it, if anything does: an element or member that begins
+    /// past `u64::MAX` is passed, since all its leaves are left out.
     #[inline]
-    fn following(&self, length: u32, gctx: GlobalCtx<'_>) -> Option<(u32, Option<Part>)>
+    fn following(&self, length: u32, gctx: GlobalCtx<'_>) -> Option<Following>
         requires place { IsPlace (lists_of gctx) (elements (lists_of gctx) length) self.now }
         requires references { GlobalReferencesOk (lists_of gctx) }
         ensures { MatchOption result
             (HasNoLeafBefore (lists_of gctx.entry) (elements (lists_of gctx.entry) length) self.now (suc largest_u32))
-            (λ r. MatchOption r.1
-            (HasNoLeafBefore (lists_of gctx.entry) (elements (lists_of gctx.entry) length) self.now (r.0 + 1))
-            (λ part. IsFollowing (lists_of gctx.entry) (elements (lists_of gctx.entry) length) self.now r.0 part)) }
+            (Follows (lists_of gctx.entry) (elements (lists_of gctx.entry) length) self.now) }
     {
         let last = self.path.len().checked_sub(1)?;
         let around = self.outer[last];
         let index = self.path[last].checked_add(1)?;
         let part = part_at(&gctx.types[around.ty].inner, index, length, gctx)?;
         let Some(first) = around.first.checked_add(part.first) else {
-            return Some((index, None));
+            return Some(Following::Index(index_after(around.ty, index, gctx)));
         };
-        Some((index, Some(Part { ty: part.ty, first })))
+        Some(Following::Part(index, Part { ty: part.ty, first }))
     }
 
     /// Visits the part, to which a step has led: the step comes to a leaf if the part is one.
@@ -169,40 +176,90 @@ impl Place {
     fn pass(&mut self, length: u32, gctx: GlobalCtx<'_>) -> Step
         requires place { IsPlace (lists_of gctx) (elements (lists_of gctx) length) self.old }
         requires references { GlobalReferencesOk (lists_of gctx) }
-        requires none { HasNoPartFrom (lists_of gctx) (elements (lists_of gctx) length) self.old.part.ty self.old.next }
+        requires none { HasNoLeafFrom (lists_of gctx) (elements (lists_of gctx) length) self.old.part.ty self.old.next }
         ensures place { IsPlace (lists_of gctx.entry) (elements (lists_of gctx.entry) length) self.new }
         ensures ty { self.new.ty ≡ self.old.ty }
         ensures steps { Steps (lists_of gctx.entry) (elements (lists_of gctx.entry) length) self.old self.new result }
     {
         match self.following(length, gctx) {
             // What follows has the same parts around it, so a step to it needs no memory.
-            Some((index, Some(part))) => {
+            Some(Following::Part(index, part)) => {
                 self.turn(index, part);
                 self.visit(gctx)
             }
-            // All leaves of a part that begins past `u64::MAX` are left out, so it isn't entered.
-            Some((index, None)) => self.leave(u64::from(index) + 1),
+            Some(Following::Index(next)) => self.leave(next),
             // The part around has no more, so the next step passes it without a look at its type.
             None => self.leave(PAST_PARTS),
         }
     }
 
-    /// Visits the next element or member of the part, or passes the part if it has no more.
-    fn step(&mut self, length: u32, gctx: GlobalCtx<'_>) -> Result<Step, OutOfMemory>
+    /// Whether the part is known to have no leaf. The first part in another that has no part itself
+    /// makes it known of all types up to the type of the whole value.
+    #[inline]
+    fn has_no_leaf(
+        &self,
+        has_part: bool,
+        has_leaves: &mut HandleVec<bool, TypeTag>,
+        length: u32,
+        gctx: GlobalCtx<'_>,
+    ) -> Result<bool, OutOfMemory>
+        requires exists { self.now.ty < length_of gctx.types.now }
+        requires references { GlobalReferencesOk (lists_of gctx) }
+        requires known { AreLeavesKnown (lists_of gctx) (elements (lists_of gctx) length) has_leaves.old.items }
+        ensures known { AreLeavesKnown (lists_of gctx.entry) (elements (lists_of gctx.entry) length)
+            has_leaves.new.items }
+        ensures none { IfOk result (λ none. IsTrue none
+            → HasNoLeaf (lists_of gctx.entry) (elements (lists_of gctx.entry) length) self.now.part.ty) }
+    {
+        // The visits end with the whole value, so there is nothing to pass.
+        if !has_part && !self.path.is_empty() {
+            find_leaves(has_leaves, self.ty, length, gctx)?;
+        }
+        Ok(has_leaves.as_slice().get(self.part.ty.index()) == Some(&false))
+    }
+
+    /// Passes the part, which has no leaf, and all elements after it if it is an element.
+    #[cold]
+    fn skip(&mut self, gctx: GlobalCtx<'_>) -> Step
+        requires around { All (λ (around : part.Part). around.ty < length_of gctx.types.now) self.old.outer.items }
+        requires lengths { length_of self.old.outer.items ≡ length_of self.old.path.items }
+        ensures { Skips (lists_of gctx.entry) self.old self.new result }
+    {
+        let Some(last) = self.path.len().checked_sub(1) else {
+            return Step::End;
+        };
+        let next = index_after(self.outer[last].ty, self.path[last], gctx);
+        self.leave(next)
+    }
+
+    /// Visits the next element or member of the part, or passes the part if it has no more, or no leaf.
+    fn step(
+        &mut self,
+        has_leaves: &mut HandleVec<bool, TypeTag>,
+        length: u32,
+        gctx: GlobalCtx<'_>,
+    ) -> Result<Step, OutOfMemory>
         requires place { IsPlace (lists_of gctx) (elements (lists_of gctx) length) self.old }
         requires references { GlobalReferencesOk (lists_of gctx) }
+        requires known { AreLeavesKnown (lists_of gctx) (elements (lists_of gctx) length) has_leaves.old.items }
         ensures place { IsPlace (lists_of gctx.entry) (elements (lists_of gctx.entry) length) self.new }
+        ensures known { AreLeavesKnown (lists_of gctx.entry) (elements (lists_of gctx.entry) length)
+            has_leaves.new.items }
         ensures ty { self.new.ty ≡ self.old.ty }
         ensures ok { IfOk result (λ step. Steps (lists_of gctx.entry) (elements (lists_of gctx.entry) length) self.old
             self.new step) }
         ensures err { OnErr result (IsUnmoved self.old self.new) }
     {
-        let Some((index, part)) = self.next_part(length, gctx) else {
+        let next_part = self.next_part(length, gctx);
+        if self.next == 0 && self.has_no_leaf(next_part.is_some(), has_leaves, length, gctx)? {
+            return Ok(self.skip(gctx));
+        }
+        let Some((index, part)) = next_part else {
             return Ok(self.pass(length, gctx));
         };
         // All leaves of a part that begins past `u64::MAX` are left out, so it isn't entered.
         let Some(first) = self.part.first.checked_add(part.first) else {
-            self.next += 1;
+            self.next = index_after(self.part.ty, index, gctx);
             return Ok(Step::Other);
         };
         self.enter(index, Part { ty: part.ty, first })?;
@@ -212,8 +269,9 @@ impl Place {
 
 /// The leaves of a type, one after another, in the lexicographic order of their paths.
 ///
-/// It requests memory only for a path, as deep as arrays and structs are nested, and visits an
-/// element when it comes to it: an array may have 4294967295.
+/// It requests memory for a path, as deep as arrays and structs are nested, and once for a byte for
+/// each type, if it comes to a part that is neither a leaf nor has a part. It visits an element when it
+/// comes to it: an array may have 4294967295.
 #[derive(Drop)]
 pub struct Leaves<'a> {
     gctx: GlobalCtx<'a>,
@@ -222,6 +280,8 @@ pub struct Leaves<'a> {
     /// Whether the whole value was visited.
     is_begun: bool,
     place: Place,
+    /// Which types have a leaf, from the first type on, as far as it is known.
+    has_leaves: HandleVec<bool, TypeTag>,
 }
 
 /// The leaves of the type `ty`, if runtime-sized arrays have `length` elements. Paths take their
@@ -255,6 +315,7 @@ pub fn leaves_of<'a>(
             outer: Vec::new(alloc),
             path: Vec::new(alloc),
         },
+        has_leaves: HandleVec::new(alloc),
     }
 }
 
@@ -303,7 +364,10 @@ impl<'a> Leaves<'a> {
             return Ok(Some(leaf));
         }
         'steps: loop {
-            match self.place.step(self.length, self.gctx)? {
+            let step = self
+                .place
+                .step(&mut self.has_leaves, self.length, self.gctx)?;
+            match step {
                 Step::Leaf(leaf) => return Ok(Some(leaf)),
                 Step::Other => {}
                 Step::End => return Ok(None),

@@ -8,10 +8,11 @@ ghost use Rattle.naga_ir.specs.ItemReferences.{GlobalLists, global_lists};
 ghost use Rattle.naga_ir.specs.Parts.{pending};
 ghost use Rattle.naga_leaves.specs.Leaf.{bytes_of};
 ghost use Rattle.naga_leaves.specs.steps.Parts.{part_of};
+ghost use Rattle.naga_leaves.specs.steps.Steps.{IsIndexAfter};
 ghost use Rattle.naga_typing.specs.Constants.{override_count as override_count_of};
 ghost use Rattle.naga_typing.specs.Context.{ReferencesExist, lists_of};
 ghost use Rattle.naga_typing.specs.Leaves as spec;
-ghost use Rattle.naga_typing.specs.Leaves.{elements};
+ghost use Rattle.naga_typing.specs.Leaves.{Elements, elements};
 
 use naga_ir::alignment::Alignment;
 use naga_ir::handle::Handle;
@@ -20,6 +21,9 @@ use naga_ir::tags::{OverrideTag, TypeTag};
 use naga_ir::types::{ArraySize, TypeInner};
 use naga_typing::context::{GlobalCtx, to_ctx};
 use naga_typing::type_methods::override_count;
+
+/// An index past the indexes of all elements and members, which are `u32`s.
+pub(crate) const PAST_PARTS: u64 = u32::MAX as u64 + 1;
 
 /// Where a leaf is: a scalar, a vector, a matrix or an atomic.
 #[derive(Clone, Copy, Debug, PartialEq, Eq)]
@@ -56,7 +60,7 @@ fn pending_count(override_: Handle<OverrideTag>, gctx: GlobalCtx<'_>) -> u32
 /// How many elements an array has if a runtime-sized one has `dynamic` elements: none if it is sized
 /// by an override that gives no count.
 #[inline]
-fn element_count(size: ArraySize, dynamic: u32, gctx: GlobalCtx<'_>) -> u32
+pub(crate) fn element_count(size: ArraySize, dynamic: u32, gctx: GlobalCtx<'_>) -> u32
     requires exists { IfSome (pending size) (λ o. o < length gctx.overrides.now) }
     requires references { GlobalReferencesOk (lists_of gctx) }
     ensures { result ≡ elements (lists_of gctx.entry) dynamic size }
@@ -110,6 +114,19 @@ pub(crate) fn part_at(
         | TypeInner::AccelerationStructure { .. }
         | TypeInner::RayQuery { .. }
         | TypeInner::BindingArray { .. } => None,
+    }
+}
+
+/// The index at which to go on among the parts of a type if the part at `index` has no leaf: past all
+/// elements of an array, which have one type and begin one after another.
+#[cold]
+pub(crate) fn index_after(ty: Handle<TypeTag>, index: u32, gctx: GlobalCtx<'_>) -> u64
+    requires { ty < length gctx.types.now }
+    ensures { (e : Elements) → IsIndexAfter (lists_of gctx.entry) e ty index result }
+{
+    match gctx.types[ty].inner {
+        TypeInner::Array { .. } => PAST_PARTS,
+        _ => u64::from(index) + 1,
     }
 }
 

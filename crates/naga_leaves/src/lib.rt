@@ -3,4 +3,5 @@
 #![tactic(auto)]
 
 pub mod cursor;
+mod has_leaves;
 pub mod leaf;

@@ -3,6 +3,8 @@ use Rattle.std.specs.Prelude.{◌≡◌, ◌+◌, ◌<◌, ◌≤◌, ℕ, suc, 
 use Rattle.naga_arena.specs.Numbers.{largest_u32, largest_u64}
 use Rattle.naga_ir.specs.ItemReferences.{GlobalLists}
 use Rattle.naga_leaves.specs.Leaf.{bytes_of}
+use Rattle.naga_leaves.specs.declared.cursor.Following.{Following}
+use Rattle.naga_leaves.specs.declared.cursor.Following.TheVariants as following
 use Rattle.naga_leaves.specs.declared.cursor.Place.{Place}
 use Rattle.naga_leaves.specs.declared.cursor.Step.{Step}
 use Rattle.naga_leaves.specs.declared.cursor.Step.TheVariants.{Leaf, Other, End}
@@ -12,9 +14,16 @@ use Rattle.naga_leaves.specs.LeavesFrom.{HasNoneFrom, HasSameFrom, IsFirstLeaf}
 use Rattle.naga_typing.specs.Leaves as spec
 use Rattle.naga_typing.specs.Leaves.{Elements, LeafBytes, leaf_at, moved}
 
--- the type of index `t` has no part from the index `next` on
-abbrev pub HasNoPartFrom : GlobalLists → Elements → ℕ → ℕ → Type 0
-HasNoPartFrom g elements_of t next = (m : ℕ) → next ≤ m → m ≤ largest_u32 → part_of_type g elements_of t m ≡ None
+-- the type of index `t` has no leaf in its parts from the index `next` on
+abbrev pub HasNoLeafFrom : GlobalLists → Elements → ℕ → ℕ → Type 0
+HasNoLeafFrom g elements_of t next = (m : ℕ) (rest : List ℕ) → next ≤ m → m ≤ largest_u32 → leaf_at g elements_of t (m ∷ rest) ≡ None
+
+-- the parts of the type of index `t` from the index `i` to before `next` have one type, and the first begins no later
+pub record IsIndexAfter (g : GlobalLists) (elements_of : Elements) (t i next : ℕ) : Type 0 where
+  pub above : i < next
+  pub within : next ≤ suc largest_u32
+  pub alike : (k : ℕ) (part : spec.Part) → i ≤ k → k < next → part_of_type g elements_of t k ≡ Some part
+      → (first : spec.Part) × (part_of_type g elements_of t i ≡ Some first) × (first.ty ≡ part.ty) × (first.first ≤ part.first)
 
 -- a place went on to `part`, another part of the part around its part, at `index`
 pub record IsTurned (before now : Place) (index : ℕ) (part : Part) : Type 0 where
@@ -44,6 +53,11 @@ abbrev pub HasNoLeafBefore : GlobalLists → Elements → Place → ℕ → Type
 HasNoLeafBefore g elements_of place next = (path : List ℕ) (last : ℕ) → place.path.items ≡ path ++ last ∷ []
     → (last + 1 ≤ next) × (next ≤ suc largest_u32) × HasSameFrom g elements_of place.ty (path ++ (last + 1) ∷ []) (path ++ next ∷ [])
 
+-- what follows the part of `place` is a part, or no leaf is before an index
+abbrev pub Follows : GlobalLists → Elements → Place → Following → Type 0
+Follows g elements_of place (following.Part index part) = IsFollowing g elements_of place index part
+Follows g elements_of place (following.Index next) = HasNoLeafBefore g elements_of place next
+
 -- the leaf that the part of a place is
 abbrev pub leaf_of_part : GlobalLists → Elements → Place → Option LeafBytes
 leaf_of_part g elements_of place = option_map (moved place.part.first) (leaf_at g elements_of place.part.ty [])
@@ -67,6 +81,13 @@ abbrev pub Leaves : Place → Place → ℕ → Step → Type 0
 Leaves before now next (Leaf leaf) = ⊥
 Leaves before now next Other = (index : ℕ) × IsLeft before now index next
 Leaves before now next End = (before.path.items ≡ []) × IsUnmoved before now
+
+-- a part was left for the index after it and all parts of its type that follow it, or the whole has ended
+pub record Skips (g : GlobalLists) (before now : Place) (step : Step) : Type 0 where
+  pub next : ℕ
+  pub after : (elements_of : Elements) (outer : List Part) (around : Part) (path : List ℕ) (last : ℕ) → before.outer.items ≡ outer ++ around ∷ []
+      → before.path.items ≡ path ++ last ∷ [] → IsIndexAfter g elements_of around.ty last next
+  pub leaves : Leaves before now next step
 
 -- a step came to the next leaf, or past no leaf, or there is no leaf any more
 abbrev pub Steps : GlobalLists → Elements → Place → Place → Step → Type 0

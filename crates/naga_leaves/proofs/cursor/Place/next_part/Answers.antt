@@ -1,5 +1,5 @@
 use Rattle.std.proofs.Common.{◌≡◌, Option, None, MatchOption, sym, subst, ◌∙◌}
-use Rattle.naga_leaves.proofs.Places.{none_of_type_after, part_there_is}
+use Rattle.naga_leaves.proofs.Places.{leaf_at_none, none_of_type_after, part_there_is}
 use Rattle.naga_leaves.specs.Places.{part_of_type}
 use Rattle.naga_typing.proofs.Existence.{references_exist}
 use Rattle.naga_typing.specs.Context.{lists_of}
@@ -18,4 +18,5 @@ returns-in_err-part c =
     let none : part_of_type (lists_of c.args.gctx) (elements (lists_of c.args.gctx) c.args.length) c.args.self.now.part.ty c.args.self.now.next ≡ None =
     part_there_is (lists_of c.args.gctx) (elements (lists_of c.args.gctx) c.args.length) c.args.self.now.part.ty c.args.self.now.next _ c.index.ensures ∙ sym c.in_err-part.ensures in
     nothing _ _ _ c.from_residual.ensures
-    (λ m from within. none_of_type_after (lists_of c.args.gctx) (elements (lists_of c.args.gctx) c.args.length) c.args.self.now.part.ty c.args.self.now.next m none (from))
+    (λ m rest from within. leaf_at_none (lists_of c.args.gctx) (elements (lists_of c.args.gctx) c.args.length) c.args.self.now.part.ty m rest
+    (none_of_type_after (lists_of c.args.gctx) (elements (lists_of c.args.gctx) c.args.length) c.args.self.now.part.ty c.args.self.now.next m none from))

@@ -1,0 +1,84 @@
+//! Which types have a leaf.
+
+ghost use Rattle.std.specs.Prelude.{◌<◌, ◌↔◌, All, IsTrue, OnOk, length as length_of};
+ghost use Rattle.naga_ir.specs.Handles.{GlobalReferencesOk};
+ghost use Rattle.naga_ir.specs.declared.types.StructMember as member;
+ghost use Rattle.naga_leaves.specs.HasLeaves.{AreLeavesKnown};
+ghost use Rattle.naga_leaves.specs.steps.HasLeaves.{ArePartsKnown, HasLeavesBy, HasMemberWithLeaves};
+ghost use Rattle.naga_typing.specs.Context.{ReferencesExist, lists_of};
+ghost use Rattle.naga_typing.specs.Leaves.{elements};
+
+use crate::leaf::{element_count, whole_leaf};
+use naga_ir::handle::Handle;
+use naga_ir::handle_vec::HandleVec;
+use naga_ir::memory::OutOfMemory;
+use naga_ir::tags::TypeTag;
+use naga_ir::types::{StructMember, TypeInner};
+use naga_typing::context::GlobalCtx;
+
+/// Whether the type of a member has a leaf.
+fn any_has_leaves(members: &[StructMember], has_leaves: &HandleVec<bool, TypeTag>) -> bool
+    requires { All (λ (m : member.StructMember). m.ty < length_of has_leaves.now.items) members.now }
+    ensures { IsTrue result ↔ HasMemberWithLeaves has_leaves.now.items members.now }
+{
+    for member in members {
+        if has_leaves[member.ty] {
+            return true;
+        }
+    }
+    false
+}
+
+/// Whether a value is a leaf or has a part whose type has one.
+fn has_any_leaf(
+    inner: &TypeInner,
+    has_leaves: &HandleVec<bool, TypeTag>,
+    length: u32,
+    gctx: GlobalCtx<'_>,
+) -> bool
+    requires parts { ArePartsKnown has_leaves.now.items inner.now }
+    requires exist { ReferencesExist (lists_of gctx) inner.now }
+    requires references { GlobalReferencesOk (lists_of gctx) }
+    ensures { IsTrue result ↔ HasLeavesBy (elements (lists_of gctx.entry) length) has_leaves.now.items inner.now }
+{
+    match inner {
+        TypeInner::Array { base, size, .. } => {
+            element_count(*size, length, gctx) > 0 && has_leaves[*base]
+        }
+        TypeInner::Struct { members, .. } => any_has_leaves(members.as_slice(), has_leaves),
+        _ => whole_leaf(inner).is_some(),
+    }
+}
+
+/// Finds which types have a leaf, up to the type `ty`, if runtime-sized arrays have `length` elements.
+///
+/// The cost is linear in the types for which it isn't known yet, and their members.
+///
+/// # Errors
+///
+/// `OutOfMemory` if memory was refused, which leaves what is known.
+#[cold]
+#[inline(never)]
+pub(crate) fn find_leaves(
+    has_leaves: &mut HandleVec<bool, TypeTag>,
+    ty: Handle<TypeTag>,
+    length: u32,
+    gctx: GlobalCtx<'_>,
+) -> Result<(), OutOfMemory>
+    requires exists { ty < length_of gctx.types.now }
+    requires references { GlobalReferencesOk (lists_of gctx) }
+    requires known { AreLeavesKnown (lists_of gctx) (elements (lists_of gctx) length) has_leaves.old.items }
+    ensures known { AreLeavesKnown (lists_of gctx.entry) (elements (lists_of gctx.entry) length)
+        has_leaves.new.items }
+    ensures all { OnOk result (ty < length_of has_leaves.new.items) }
+{
+    let end = ty.index() + 1;
+    has_leaves.reserve(end.saturating_sub(has_leaves.len()))?;
+    for index in has_leaves.len()..end {
+        // The types of parts precede the type, so it is known which of them have a leaf.
+        let inner = &gctx.types.as_slice()[index].inner;
+        let has_leaf = has_any_leaf(inner, has_leaves, length, gctx);
+        has_leaves.push(has_leaf)?;
+    }
+    Ok(())
+}
