@@ -1,8 +1,9 @@
 -- Whether a type has a leaf, by its parts.
 use Rattle.std.proofs.Common.{◌≡◌, ◌<◌, ◌≤◌, ◌+◌, ◌*◌, ◌↔◌, ◌⊎◌, ⊎_elim, inl, inr, ltb, ℕ, Bool, true, false, IsTrue, List, [], ◌∷◌, ◌++◌, Option, Some, None, Contains, if◌then◌else◌, cond, get_or, length, refl, sym, subst, ap, ◌∙◌, arith}
 use Rattle.std.specs.List.{slice_get}
-use Rattle.std.specs.Option.{option_map}
+use Rattle.std.specs.Option.{is_some, option_map}
 use Rattle.std.proofs.lemmas.Bool.{cases_order}
+use Rattle.std.proofs.lemmas.Bool.Decides.{nat_tests}
 use Rattle.std.proofs.lemmas.List.{get_or_append_left}
 use Rattle.std.proofs.lemmas.Option.{cond_some, get_or_from_slice_get, none-some, same_Some, slice_get-get_or, slice_get_within}
 use Rattle.std.proofs.lemmas.List.{length-append}
@@ -10,11 +11,17 @@ use Rattle.naga_arena.proofs.Progress.{slice_get-seam}
 use Rattle.naga_ir.specs.Handles.{GlobalReferencesOk}
 use Rattle.naga_ir.specs.ItemReferences.{GlobalLists}
 use Rattle.naga_ir.specs.declared.types.«Type».{«Type»}
+use Rattle.naga_ir.specs.declared.types.ArraySize.{ArraySize}
+use Rattle.naga_ir.specs.declared.types.StructMember.{StructMember}
 use Rattle.naga_ir.specs.declared.types.TypeInner.{TypeInner}
-use Rattle.naga_leaves.proofs.Parts.{part_is_named}
+use Rattle.naga_ir.specs.declared.types.TypeInner.TheVariants.{Array, Struct}
+use Rattle.naga_leaves.proofs.Members.{member_part}
+use Rattle.naga_leaves.proofs.Parts.{part_is_named, some_image}
 use Rattle.naga_leaves.proofs.Path.{leaf_in_part, leaf_of_nothing, none_in_no_part}
 use Rattle.naga_leaves.specs.HasLeaves.{AreLeavesKnown, HasLeaves, HasNoLeaf}
-use Rattle.naga_leaves.specs.steps.HasLeaves.{ArePartsKnown, HasLeavesBy, HasPartWithLeaves}
+use Rattle.naga_leaves.specs.Leaf.{bytes_of}
+use Rattle.naga_leaves.specs.declared.leaf.Leaf.{Leaf}
+use Rattle.naga_leaves.specs.steps.HasLeaves.{ArePartsKnown, HasLeavesBy, HasMemberWithLeaves, HasPartWithLeaves}
 use Rattle.naga_typing.specs.Layout.{alignment_of, size_of}
 use Rattle.naga_typing.specs.Leaves as spec
 use Rattle.naga_typing.specs.Leaves.{Elements, LeafBytes, is_leaf, leaf_at, moved, part_at, whole_leaf}
@@ -100,3 +107,58 @@ module _ (g : GlobalLists) (elements_of : Elements) (known : List Bool) (are : A
 -- of no type is it known at first
 pub nothing_known : (g : GlobalLists) (elements_of : Elements) (known : List Bool) → known ≡ [] → AreLeavesKnown g elements_of known
 nothing_known g elements_of known e = subst (AreLeavesKnown g elements_of) (sym e) (record { each = λ t has at. absurd (none-some has at) })
+
+-- a value has a leaf by its parts: an array if it has an element, and its base has one
+pub array_has : (elements_of : Elements) (known : List Bool) (inner : TypeInner) (base : ℕ) (size : ArraySize) (stride : ℕ) (has : Bool) → inner ≡ Array base size stride
+    → 0 < elements_of size → slice_get known base ≡ Some has → IsTrue has ↔ HasLeavesBy elements_of known inner
+array_has elements_of known inner base size stride has e some at = subst (λ inner. IsTrue has ↔ HasLeavesBy elements_of known inner) (sym e) (there, back)
+  where
+    first : ltb 0 (elements_of size) ≡ true → part_at elements_of (Array base size stride) 0 ≡ Some (record { ty = base; first = 0 * stride })
+    first within = ap (λ (b : Bool). let element : Option spec.Part = if b then Some (record { ty = base; first = 0 * stride }) else None in element) within
+
+    there : IsTrue has → HasLeavesBy elements_of known (Array base size stride)
+    there h =
+        let within : ltb 0 (elements_of size) ≡ true = grind (arith, nat_tests) in
+        inr (record { index = 0; part = record { ty = base; first = 0 * stride }; there = first within; has = at ∙ ap Some h })
+
+    back : HasLeavesBy elements_of known (Array base size stride) → IsTrue has
+    back (inl leaf) = let no : false ≡ true = leaf in cc
+    back (inr h) =
+        let w = cond_some (ltb h.index (elements_of size)) (record { ty = base; first = h.index * stride }) h.part h.there in
+        same_Some has true (sym at ∙ ap (λ (p : spec.Part). slice_get known p.ty) w.1 ∙ h.has)
+
+-- a struct if a member has one
+pub struct_has : (elements_of : Elements) (known : List Bool) (inner : TypeInner) (members : List StructMember) (span : ℕ) (has : Bool) → inner ≡ Struct members span
+    → IsTrue has ↔ HasMemberWithLeaves known members → IsTrue has ↔ HasLeavesBy elements_of known inner
+struct_has elements_of known inner members span has e is = subst (λ inner. IsTrue has ↔ HasLeavesBy elements_of known inner) (sym e) ((λ h. there (is.0 h)), λ h. is.1 (back h))
+  where
+    there : HasMemberWithLeaves known members → HasLeavesBy elements_of known (Struct members span)
+    there h = inr (record { index = h.index; part = member_part h.member; there = ap (option_map member_part) h.there; has = h.has })
+
+    back : HasLeavesBy elements_of known (Struct members span) → HasMemberWithLeaves known members
+    back (inl leaf) = let no : false ≡ true = leaf in absurd (cc)
+    back (inr h) =
+        let w = some_image members h.index h.part (slice_get members h.index) refl h.there in
+        record { index = h.index; member = w.0; there = w.1; has = ap (λ (p : spec.Part). slice_get known p.ty) w.2 ∙ h.has }
+
+-- and all else if it is a leaf
+pub other_has : (g : GlobalLists) (elements_of : Elements) (known : List Bool) (inner : TypeInner) (leaf : Option Leaf)
+    → ((base : ℕ) (size : ArraySize) (stride : ℕ) → ¬ (inner ≡ Array base size stride)) → ((members : List StructMember) (span : ℕ) → ¬ (inner ≡ Struct members span))
+    → option_map bytes_of leaf ≡ whole_leaf g inner → IsTrue (is_some leaf) ↔ HasLeavesBy elements_of known inner
+other_has g elements_of known inner leaf no_array no_struct is = ((λ h. inl (sym (same leaf (is_leaf inner) is) ∙ h)), back)
+  where
+    same : (leaf : Option Leaf) (b : Bool) → option_map bytes_of leaf ≡ (if b then Some (record { first = 0; size = size_of g inner; alignment = alignment_of [] inner }) else None) → is_some leaf ≡ b
+    same None true e = absurd (none-some _ e)
+    same None false e = refl
+    same (Some l) true e = refl
+    same (Some l) false e = absurd (none-some (bytes_of l) (sym e))
+
+    no_part : (inner : TypeInner) → ((base : ℕ) (size : ArraySize) (stride : ℕ) → ¬ (inner ≡ Array base size stride)) → ((members : List StructMember) (span : ℕ) → ¬ (inner ≡ Struct members span))
+        → (i : ℕ) → part_at elements_of inner i ≡ None
+    no_part (Array base size stride) no_array no_struct i = absurd (no_array base size stride refl)
+    no_part (Struct members span) no_array no_struct i = absurd (no_struct members span refl)
+    no_part _ no_array no_struct i = refl
+
+    back : HasLeavesBy elements_of known inner → IsTrue (is_some leaf)
+    back (inl h) = same leaf (is_leaf inner) is ∙ h
+    back (inr h) = absurd (none-some h.part (sym (no_part inner no_array no_struct h.index) ∙ h.there))

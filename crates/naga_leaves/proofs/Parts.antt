@@ -16,7 +16,7 @@ use Rattle.naga_leaves.proofs.Members.{member_part}
 use Rattle.naga_typing.specs.Leaves.{Elements, Part, part_at}
 
 -- an element of a list of options
-some_image : (members : List StructMember) (i : ℕ) (part : Part) (o : Option StructMember) → slice_get members i ≡ o → option_map member_part o ≡ Some part
+pub some_image : (members : List StructMember) (i : ℕ) (part : Part) (o : Option StructMember) → slice_get members i ≡ o → option_map member_part o ≡ Some part
     → (m : StructMember) × (slice_get members i ≡ Some m) × (member_part m ≡ part)
 some_image members i part None e h = absurd (none-some part h)
 some_image members i part (Some m) e h = (m, e, same_Some (member_part m) part h)

@@ -152,6 +152,10 @@ last_apart : {A : Type 0} (xs : List A) (n : ℕ) (x : A) → length xs ≡ n + 
 last_apart xs n x many is =
     sym (take-length xs) ∙ ap (λ k. take k xs) many ∙ take_more xs n x (omega arith) ∙ ap (λ y. take n xs ++ y ∷ []) (sym is)
 
+-- what is last in a list is the end of it
+pub end_is : {A : Type 0} (xs ys : List A) (n : ℕ) (x y : A) → length xs ≡ n + 1 → x ≡ get_or xs n x → xs ≡ ys ++ y ∷ [] → x ≡ y
+end_is xs ys n x y many is e = (same_ends (take n xs) ys x y (sym (last_apart xs n x many is) ∙ e)).1
+
 -- two paths of equal parts are equal
 pub same_start : (p q : List ℕ) (m n : ℕ) → p ≡ q → m ≡ n → p ++ m ∷ [] ≡ q ++ n ∷ []
 same_start p q m n e f = ap (λ p. p ++ m ∷ []) e ∙ ap (λ m. q ++ m ∷ []) f

@@ -1,6 +1,7 @@
 use Rattle.std.proofs.Common.{◌<◌, [], length, refl, sym, subst, arith}
 use Rattle.naga_ir.specs.Handles.{GlobalReferencesOk}
 use Rattle.naga_ir.specs.ItemReferences.{GlobalLists}
+use Rattle.naga_leaves.proofs.HasLeaves.{nothing_known}
 use Rattle.naga_leaves.proofs.Steps.{place_by}
 use Rattle.naga_leaves.specs.declared.cursor.Place.{Place}
 use Rattle.naga_leaves.specs.Places.{itself}
@@ -17,5 +18,6 @@ returns-clause-cursor c =
       place =
           place_by (lists_of c.to_ctx.result) (elements (lists_of c.to_ctx.result) c.args.length) place c.args.ty [] [] (record { ty = c.args.ty; first = 0 }) 0 refl c.new.ensures.items c.new-2.ensures.items refl refl
           (subst (λ (g : GlobalLists). c.args.ty < length g.types) lists c.requires.exists) itself (omega arith);
+      known = nothing_known (lists_of c.to_ctx.result) (elements (lists_of c.to_ctx.result) c.args.length) c.new-3.result.items c.new-3.ensures;
       whole = λ e. (c.new-2.ensures.items, refl);
     }

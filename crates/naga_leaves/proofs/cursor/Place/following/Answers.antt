@@ -57,9 +57,9 @@ returns-in_err-part c =
 pub returns-in_default : goal.returns-in_default
 returns-in_default c =
     far_part_follows (lists_of c.args.gctx) c.requires.references (elements (lists_of c.args.gctx) c.args.length) c.args.self.now c.requires.place
-    c.in_ok-last.last c.index-around.result.now c.index.result.now (omega arith) c.index-around.ensures c.index.ensures c.in_ok-index.index (search rules) (part_of c.in_ok-part.part)
+    c.in_ok-last.last c.index-around.result.now c.index.result.now (omega arith) c.index-around.ensures c.index.ensures c.in_ok-index.index (search rules) (part_of c.in_ok-part.part) c.index_after.result
     (part_there_is (lists_of c.args.gctx) (elements (lists_of c.args.gctx) c.args.length) c.index-around.result.now.ty c.in_ok-index.index _ c.index-2.ensures ∙ sym c.in_ok-part.ensures)
-    (omega (arith, c.in_default.ensures)) (omega (arith, c.in_ok-index.ensures))
+    (omega (arith, c.in_default.ensures)) (c.index_after.ensures (elements (lists_of c.args.gctx) c.args.length))
 
 pub returns : goal.returns
 returns c =

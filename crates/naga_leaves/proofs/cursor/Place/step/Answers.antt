@@ -1,6 +1,7 @@
 use Rattle.std.proofs.Common.{◌≡◌, ◌+◌, ◌<◌, ◌^◌, ℕ, refl, ap, ◌∙◌, arith, rules}
 use Rattle.naga_arena.specs.Numbers.{largest_u64}
-use Rattle.naga_leaves.proofs.Steps.{Arrives, entered_arrives, passed_fewer, passed_same, type_there, unmoved_place}
+use Rattle.naga_leaves.proofs.Places.{outer_there}
+use Rattle.naga_leaves.proofs.Steps.{Arrives, entered_arrives, passed_fewer, passed_place, passed_same, same_lengths, skipped_place, skipped_steps, type_there, unmoved_place}
 use Rattle.naga_leaves.proofs.Visits.{visited_place, visited_steps}
 use Rattle.naga_leaves.specs.declared.leaf.Part.{Part}
 use Rattle.naga_leaves.specs.steps.Parts.{part_of}
@@ -12,14 +13,36 @@ use Rattle.naga_leaves.proofs.cursor.Place.step.Goals as goal
 part_by : (ty first sum : ℕ) → first ≡ sum → ◌≡◌ {A = Part} (record { ty = ty; first = first }) (record { ty = ty; first = sum })
 part_by ty first sum e = ap (λ (first : ℕ). let part : Part = record { ty = ty; first = first } in part) e
 
-pub next_part-requires-clause-exists : goal.next_part-requires-clause-exists
-next_part-requires-clause-exists c = type_there (lists_of c.args.gctx) c.requires.references _ c.args.self.now c.requires.place
+pub next_part-next_part-requires-clause-exists : goal.next_part-next_part-requires-clause-exists
+next_part-next_part-requires-clause-exists c = type_there (lists_of c.args.gctx) c.requires.references _ c.args.self.now c.requires.place
+
+pub skip-requires-clause-around : goal.skip-requires-clause-around
+skip-requires-clause-around c =
+    outer_there (lists_of c.args.gctx) (elements (lists_of c.args.gctx) c.args.length) c.args.self.now.ty c.requires.references c.requires.place.exists c.args.self.now.outer.items c.args.self.now.path.items c.args.self.now.part c.requires.place.leads
+
+pub skip-requires-clause-lengths : goal.skip-requires-clause-lengths
+skip-requires-clause-lengths c = same_lengths (lists_of c.args.gctx) c.requires.references _ c.args.self.now c.requires.place
+
+pub returns-then-branch-clause-place : goal.returns-then-branch-clause-place
+returns-then-branch-clause-place c =
+    skipped_place (lists_of c.args.gctx) c.requires.references (elements (lists_of c.args.gctx) c.args.length) c.args.self.now c.skip.new.self c.requires.place (c.in_ok-has_no_leaf.ensures.none c.if-branch.true) c.skip.result c.skip.ensures
+
+pub returns-then-branch-clause-ok : goal.returns-then-branch-clause-ok
+returns-then-branch-clause-ok c =
+    skipped_steps (lists_of c.args.gctx) c.requires.references (elements (lists_of c.args.gctx) c.args.length) c.args.self.now c.skip.new.self c.requires.place (c.in_ok-has_no_leaf.ensures.none c.if-branch.true) c.skip.result c.skip.ensures
+
+pub index_after-self-requires : goal.index_after-self-requires
+index_after-self-requires c = type_there (lists_of c.args.gctx) c.requires.references (elements (lists_of c.args.gctx) c.args.length) c.args.self.now c.requires.place
+
+pub returns-in_default-checked_add-clause-place : goal.returns-in_default-checked_add-clause-place
+returns-in_default-checked_add-clause-place c =
+    passed_place (lists_of c.args.gctx) c.requires.references (elements (lists_of c.args.gctx) c.args.length) c.args.self.now c.requires.place c.in-Some.index (part_of c.in-Some.part) c.in-Some.ensures.0 c.in-Some.ensures.1 c.in-Some.ensures.2 (record c.args.self.now { next = c.index_after-self.result }) c.index_after-self.result (c.index_after-self.ensures (elements (lists_of c.args.gctx) c.args.length)) refl refl refl refl refl
 
 pub returns-in_default-checked_add-clause-ok : goal.returns-in_default-checked_add-clause-ok
 returns-in_default-checked_add-clause-ok c =
     let far : largest_u64 < c.args.self.now.part.first + c.in-Some.part.first = omega (arith, c.in_default-checked_add.ensures) in (
-      passed_same (lists_of c.args.gctx) c.requires.references (elements (lists_of c.args.gctx) c.args.length) c.args.self.now c.requires.place c.in-Some.index (part_of c.in-Some.part) c.in-Some.ensures.0 c.in-Some.ensures.1 c.in-Some.ensures.2 (record c.args.self.now { next = c.args.self.now.next + 1 }) refl refl far,
-      passed_fewer (lists_of c.args.gctx) c.requires.references (elements (lists_of c.args.gctx) c.args.length) c.args.self.now c.requires.place c.in-Some.index (part_of c.in-Some.part) c.in-Some.ensures.0 c.in-Some.ensures.1 c.in-Some.ensures.2 (record c.args.self.now { next = c.args.self.now.next + 1 }) refl refl refl refl refl,
+      passed_same (lists_of c.args.gctx) c.requires.references (elements (lists_of c.args.gctx) c.args.length) c.args.self.now c.requires.place c.in-Some.index (part_of c.in-Some.part) c.in-Some.ensures.0 c.in-Some.ensures.1 c.in-Some.ensures.2 (record c.args.self.now { next = c.index_after-self.result }) c.index_after-self.result (c.index_after-self.ensures (elements (lists_of c.args.gctx) c.args.length)) refl refl far,
+      passed_fewer (lists_of c.args.gctx) c.requires.references (elements (lists_of c.args.gctx) c.args.length) c.args.self.now c.requires.place c.in-Some.index (part_of c.in-Some.part) c.in-Some.ensures.0 c.in-Some.ensures.1 c.in-Some.ensures.2 (record c.args.self.now { next = c.index_after-self.result }) c.index_after-self.result (c.index_after-self.ensures (elements (lists_of c.args.gctx) c.args.length)) refl refl refl refl refl,
     )
 
 pub returns-in_err-enter-clause-place : goal.returns-in_err-enter-clause-place
