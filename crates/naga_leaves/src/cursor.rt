@@ -215,7 +215,7 @@ impl Place {
         if !has_part && !self.path.is_empty() {
             find_leaves(has_leaves, self.ty, length, gctx)?;
         }
-        Ok(has_leaves.as_slice().get(self.part.ty.index()) == Some(&false))
+        Ok(matches!(has_leaves.as_slice().get(self.part.ty.index()), Some(false)))
     }
 
     /// Passes the part, which has no leaf, and all elements after it if it is an element.
