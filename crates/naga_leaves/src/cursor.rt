@@ -15,7 +15,7 @@ ghost use Rattle.naga_leaves.specs.declared.leaf.Part as part;
 ghost use Rattle.naga_typing.specs.Context.{lists_of};
 ghost use Rattle.naga_typing.specs.Leaves.{Elements, elements, leaf_at, moved};
 
-use crate::has_leaves::find_leaves;
+use crate::has_leaves::extend_has_leaves;
 use crate::leaf::{Leaf, PAST_PARTS, Part, index_after, part_at, whole_leaf};
 use naga_ir::handle::Handle;
 use naga_ir::handle_vec::HandleVec;
@@ -193,8 +193,8 @@ impl Place {
         }
     }
 
-    /// Whether the part is known to have no leaf. The first part in another that has no part itself
-    /// makes it known of all types up to the type of the whole value.
+    /// Whether the part is known to have no leaf. The first part that is neither a leaf nor has a part
+    /// makes it known for all types up to the type of the whole value.
     #[inline]
     fn has_no_leaf(
         &self,
@@ -211,14 +211,14 @@ impl Place {
         ensures none { IfOk result (λ none. IsTrue none
             → HasNoLeaf (lists_of gctx.entry) (elements (lists_of gctx.entry) length) self.now.part.ty) }
     {
-        // The visits end with the whole value, so there is nothing to pass.
+        // After the whole value nothing is left to visit, so its type alone needs no memory.
         if !has_part && !self.path.is_empty() {
-            find_leaves(has_leaves, self.ty, length, gctx)?;
+            extend_has_leaves(has_leaves, self.ty, length, gctx)?;
         }
         Ok(matches!(has_leaves.as_slice().get(self.part.ty.index()), Some(false)))
     }
 
-    /// Passes the part, which has no leaf, and all elements after it if it is an element.
+    /// Passes the part, which has no leaf, and if it is an element also all elements after it.
     #[cold]
     fn skip(&mut self, gctx: GlobalCtx<'_>) -> Step
         requires around { All (λ (around : part.Part). around.ty < length_of gctx.types.now) self.old.outer.items }
@@ -269,9 +269,9 @@ impl Place {
 
 /// The leaves of a type, one after another, in the lexicographic order of their paths.
 ///
-/// It requests memory for a path, as deep as arrays and structs are nested, and once for a byte for
-/// each type, if it comes to a part that is neither a leaf nor has a part. It visits an element when it
-/// comes to it: an array may have 4294967295.
+/// It requests memory for a path, as deep as arrays and structs are nested. If it comes to a part that
+/// is neither a leaf nor has a part, as an image or an array of no elements, it also requests a byte for
+/// each type, once. It visits an element when it comes to it: an array may have 4294967295.
 #[derive(Drop)]
 pub struct Leaves<'a> {
     gctx: GlobalCtx<'a>,
@@ -280,7 +280,7 @@ pub struct Leaves<'a> {
     /// Whether the whole value was visited.
     is_begun: bool,
     place: Place,
-    /// Which types have a leaf, from the first type on, as far as it is known.
+    /// Whether the first types have leaves: empty until a part comes that has none.
     has_leaves: HandleVec<bool, TypeTag>,
 }
 
@@ -346,13 +346,19 @@ impl<'a> Leaves<'a> {
 
     /// The next leaf, or `None` after the last.
     ///
-    /// A leaf that would begin past the byte `u64::MAX` is left out. The cost of all calls together is
-    /// linear in the number of elements and members at any depth.
+    /// A leaf that would begin past the byte `u64::MAX` is left out.
+    ///
+    /// A call takes steps for the depth of the paths before and after it, and for each member between
+    /// them that has no leaf: an array without leaves is passed in a step, and so are all elements of an
+    /// array that begin past `u64::MAX`. The first call that comes to a part that is neither a leaf nor
+    /// has a part takes time linear in the types up to the type of the whole value, and their members.
+    /// Only parts that begin by `u64::MAX` and whose leaves all begin past it are visited one by one; some
+    /// 2^32 leaves come before the first of them.
     ///
     /// # Errors
     ///
-    /// `OutOfMemory` if memory was refused for the path. A later call returns the same leaf if memory
-    /// isn't refused then.
+    /// `OutOfMemory` if memory was refused. A later call returns the same leaf if memory isn't refused
+    /// then.
     pub fn next(&mut self) -> Result<Option<Leaf>, OutOfMemory>
         requires { IsCursor self.old }
         ensures cursor { IsCursor self.new }

@@ -1,4 +1,4 @@
-//! Which types have a leaf.
+//! Which types have leaves.
 
 ghost use Rattle.std.specs.Prelude.{◌<◌, ◌↔◌, All, IsTrue, OnOk, length as length_of};
 ghost use Rattle.naga_ir.specs.Handles.{GlobalReferencesOk};
@@ -16,8 +16,8 @@ use naga_ir::tags::TypeTag;
 use naga_ir::types::{StructMember, TypeInner};
 use naga_typing::context::GlobalCtx;
 
-/// Whether the type of a member has a leaf.
-fn any_has_leaves(members: &[StructMember], has_leaves: &HandleVec<bool, TypeTag>) -> bool
+/// Whether the type of a member has leaves, by which types before have.
+fn any_member_has_leaves(members: &[StructMember], has_leaves: &HandleVec<bool, TypeTag>) -> bool
     requires { All (λ (m : member.StructMember). m.ty < length_of has_leaves.now.items) members.now }
     ensures { IsTrue result ↔ HasMemberWithLeaves has_leaves.now.items members.now }
 {
@@ -29,8 +29,9 @@ fn any_has_leaves(members: &[StructMember], has_leaves: &HandleVec<bool, TypeTag
     false
 }
 
-/// Whether a value is a leaf or has a part whose type has one.
-fn has_any_leaf(
+/// Whether a type has leaves, by which types before it have: it is a leaf, an array of an element or more
+/// whose base has leaves, or a struct with a member whose type has.
+fn type_has_leaves(
     inner: &TypeInner,
     has_leaves: &HandleVec<bool, TypeTag>,
     length: u32,
@@ -43,23 +44,25 @@ fn has_any_leaf(
 {
     match inner {
         TypeInner::Array { base, size, .. } => {
-            element_count(*size, length, gctx) > 0 && has_leaves[*base]
+            let has_element = element_count(*size, length, gctx) > 0;
+            has_element && has_leaves[*base]
         }
-        TypeInner::Struct { members, .. } => any_has_leaves(members.as_slice(), has_leaves),
+        TypeInner::Struct { members, .. } => any_member_has_leaves(members.as_slice(), has_leaves),
         _ => whole_leaf(inner).is_some(),
     }
 }
 
-/// Finds which types have a leaf, up to the type `ty`, if runtime-sized arrays have `length` elements.
+/// Extends `has_leaves`, which says of the first types whether they have leaves, up to the type `ty`, if
+/// runtime-sized arrays have `length` elements.
 ///
-/// The cost is linear in the types for which it isn't known yet, and their members.
+/// The cost is linear in the types by which it is extended, and their members.
 ///
 /// # Errors
 ///
-/// `OutOfMemory` if memory was refused, which leaves what is known.
+/// `OutOfMemory` if memory was refused, which leaves it as it was.
 #[cold]
 #[inline(never)]
-pub(crate) fn find_leaves(
+pub(crate) fn extend_has_leaves(
     has_leaves: &mut HandleVec<bool, TypeTag>,
     ty: Handle<TypeTag>,
     length: u32,
@@ -75,10 +78,10 @@ pub(crate) fn find_leaves(
     let end = ty.index() + 1;
     has_leaves.reserve(end.saturating_sub(has_leaves.len()))?;
     for index in has_leaves.len()..end {
-        // The types of parts precede the type, so it is known which of them have a leaf.
+        // The types of parts precede the type, so it is known which of them have leaves.
         let inner = &gctx.types.as_slice()[index].inner;
-        let has_leaf = has_any_leaf(inner, has_leaves, length, gctx);
-        has_leaves.push(has_leaf)?;
+        let has = type_has_leaves(inner, has_leaves, length, gctx);
+        has_leaves.push(has)?;
     }
     Ok(())
 }

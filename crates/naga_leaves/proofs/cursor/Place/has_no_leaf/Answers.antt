@@ -8,13 +8,13 @@ use Rattle.naga_leaves.proofs.HasLeaves.{known_without}
 use Rattle.naga_leaves.specs.HasLeaves.{AreLeavesKnown}
 use Rattle.naga_typing.specs.Context.{lists_of}
 use Rattle.naga_typing.specs.Leaves.{elements}
-use Rattle.naga_leaves.proofs.cursor.Place.has_no_leaf.Goals.{then-not-has_part+then-not-is_empty+in_ok-find_leaves, else-not-has_part}
+use Rattle.naga_leaves.proofs.cursor.Place.has_no_leaf.Goals.{then-not-has_part+then-not-is_empty+in_ok-extend_has_leaves, else-not-has_part}
 use Rattle.naga_leaves.proofs.cursor.Place.has_no_leaf.Goals as goal
 
 pub returns-in-Some-false-clause-none : goal.returns-in-Some-false-clause-none
 returns-in-Some-false-clause-none c none =
     let known : AreLeavesKnown (lists_of c.args.gctx) (elements (lists_of c.args.gctx) c.args.length) c.if-not-has_part.has_leaves.items = elim c.if-not-has_part.branch [
-      | then-not-has_part+then-not-is_empty+in_ok-find_leaves w ↦ subst (λ (v : WithRoom Bool). AreLeavesKnown (lists_of c.args.gctx) (elements (lists_of c.args.gctx) c.args.length) v.items) (sym w.has_leaves-is) w.find_leaves.ensures.known
+      | then-not-has_part+then-not-is_empty+in_ok-extend_has_leaves w ↦ subst (λ (v : WithRoom Bool). AreLeavesKnown (lists_of c.args.gctx) (elements (lists_of c.args.gctx) c.args.length) v.items) (sym w.has_leaves-is) w.extend_has_leaves.ensures.known
       | else-not-has_part w ↦ subst (λ (v : WithRoom Bool). AreLeavesKnown (lists_of c.args.gctx) (elements (lists_of c.args.gctx) c.args.length) v.items) (sym w.has_leaves-is) c.requires.known
     ] in
     let within : c.index.result < length c.as_slice.result.now = grind (arith, nat_tests, c.in-Some-false.ensures.lookup) in

@@ -1,6 +1,6 @@
 use Rattle.std.proofs.Common.{◌≡◌, ◌+◌, length}
 use Rattle.naga_leaves.specs.HasLeaves.{AreLeavesKnown}
-use Rattle.naga_leaves.proofs.has_leaves.find_leaves.Given as goal
+use Rattle.naga_leaves.proofs.has_leaves.extend_has_leaves.Given as goal
 use Rattle.naga_typing.specs.Context.{lists_of}
 use Rattle.naga_typing.specs.Leaves.{elements}
 

@@ -10,21 +10,21 @@ use Rattle.naga_leaves.specs.steps.HasLeaves.{ArePartsKnown}
 use Rattle.naga_typing.proofs.Existence.{references_exist}
 use Rattle.naga_typing.specs.Context.{lists_of}
 use Rattle.naga_typing.specs.Leaves.{elements}
-use Rattle.naga_leaves.proofs.has_leaves.find_leaves.Goals as goal
+use Rattle.naga_leaves.proofs.has_leaves.extend_has_leaves.Goals as goal
 
 -- an element of an equal list
 element_of : (xs types : List «Type») (i : ℕ) (x : «Type») → xs ≡ types → i < length xs → slice_get types i ≡ Some (get_or xs i x)
 element_of xs types i x e within = subst (λ (ys : List «Type»). slice_get ys i ≡ Some (get_or xs i x)) e (slice_get-get_or xs i x within)
 
-pub has_any_leaf-has_leaf-requires-clause-parts : goal.has_any_leaf-has_leaf-requires-clause-parts
-has_any_leaf-has_leaf-requires-clause-parts c t named =
+pub type_has_leaves-has-requires-clause-parts : goal.type_has_leaves-has-requires-clause-parts
+type_has_leaves-has-requires-clause-parts c t named =
     let many : length c.as_slice.result.now ≡ length c.args.gctx.types.now = ap length c.as_slice.ensures.items in
     let at = element_of c.as_slice.result.now c.args.gctx.types.now c.loop-index.index c.index-as_slice-index.result c.as_slice.ensures.items (omega arith) in
     let before : t < c.loop-index.index = parts_come_before (lists_of c.args.gctx) c.requires.references c.loop-index.index _ t at named in
     omega (arith, before, c.loop-index.invariant.so_far)
 
-pub has_any_leaf-has_leaf-requires-clause-exist : goal.has_any_leaf-has_leaf-requires-clause-exist
-has_any_leaf-has_leaf-requires-clause-exist c =
+pub type_has_leaves-has-requires-clause-exist : goal.type_has_leaves-has-requires-clause-exist
+type_has_leaves-has-requires-clause-exist c =
     let many : length c.as_slice.result.now ≡ length c.args.gctx.types.now = ap length c.as_slice.ensures.items in
     references_exist (lists_of c.args.gctx) c.requires.references _ _
     (element_of c.as_slice.result.now c.args.gctx.types.now c.loop-index.index c.index-as_slice-index.result c.as_slice.ensures.items (omega arith))
@@ -40,8 +40,8 @@ loop-index-preserved c =
     record {
       known =
           subst (AreLeavesKnown (lists_of c.args.gctx) (elements (lists_of c.args.gctx) c.args.length)) (sym c.in_ok-push.ensures.pushed)
-          (one_more_type (lists_of c.args.gctx) (elements (lists_of c.args.gctx) c.args.length) known c.loop-index.invariant.known x c.has_any_leaf-has_leaf.result
-          (subst (λ (k : ℕ). slice_get c.args.gctx.types.now k ≡ Some x) c.loop-index.invariant.so_far at) parts c.has_any_leaf-has_leaf.ensures);
-      so_far = omega (arith, ap length c.in_ok-push.ensures.pushed, length-append known (c.has_any_leaf-has_leaf.result ∷ []), c.loop-index.invariant.so_far);
+          (one_more_type (lists_of c.args.gctx) (elements (lists_of c.args.gctx) c.args.length) known c.loop-index.invariant.known x c.type_has_leaves-has.result
+          (subst (λ (k : ℕ). slice_get c.args.gctx.types.now k ≡ Some x) c.loop-index.invariant.so_far at) parts c.type_has_leaves-has.ensures);
+      so_far = omega (arith, ap length c.in_ok-push.ensures.pushed, length-append known (c.type_has_leaves-has.result ∷ []), c.loop-index.invariant.so_far);
       end = ap (λ k. k + 1) c.index-end.ensures.value;
     }

@@ -1,7 +1,7 @@
 use Rattle.std.proofs.Common.{◌≡◌, ◌<◌, ℕ, true, Some, length}
 use Rattle.std.specs.List.{slice_get}
 use Rattle.naga_ir.specs.declared.types.StructMember.{StructMember}
-use Rattle.naga_leaves.proofs.has_leaves.any_has_leaves.Given as goal
+use Rattle.naga_leaves.proofs.has_leaves.any_member_has_leaves.Given as goal
 
 -- no member so far has a type that has a leaf
 abbrev pub invariant-loop-member : goal.invariant-loop-member
