@@ -1,5 +1,5 @@
 -- Which types have a leaf.
-use Rattle.std.specs.Prelude.{◌≡◌, ◌↔◌, ℕ, Bool, IsTrue, List, Option, Some, None, slice_get}
+use Rattle.std.specs.Prelude.{◌≡◌, ◌↔◌, ℕ, Bool, IsTrue, List, Some, None, slice_get}
 use Rattle.naga_ir.specs.ItemReferences.{GlobalLists}
 use Rattle.naga_typing.specs.Leaves.{Elements, LeafBytes, leaf_at}
 

@@ -1,4 +1,4 @@
-use Rattle.std.proofs.Common.{◌≡◌, ◌<◌, ◌↔◌, ℕ, All, IsTrue, length, sym, subst, ap, ◌∙◌, arith, rules}
+use Rattle.std.proofs.Common.{◌<◌, ◌↔◌, All, IsTrue, length, sym, subst, rules}
 use Rattle.naga_ir.proofs.PartLemmas.{base_is, members_are}
 use Rattle.naga_ir.specs.declared.types.StructMember.{StructMember}
 use Rattle.naga_leaves.proofs.HasLeaves.{array_has, other_has, struct_has}

@@ -1,13 +1,11 @@
-use Rattle.std.proofs.Common.{◌≡◌, ◌+◌, ◌≤◌, ℕ, suc, Option, Some, None, MatchOption, sym, subst, ◌∙◌}
+use Rattle.std.proofs.Common.{◌≡◌, ◌≤◌, suc, sym, subst, ◌∙◌}
 use Rattle.naga_arena.specs.Numbers.{largest_u32, largest_u64}
-use Rattle.naga_ir.specs.ItemReferences.{GlobalLists}
 use Rattle.naga_leaves.proofs.Steps.{Arrives, left_is_place, left_steps, same_lengths, turned_arrives, type_there}
 use Rattle.naga_leaves.proofs.Visits.{visited_place, visited_steps}
-use Rattle.naga_leaves.specs.declared.cursor.Place.{Place}
 use Rattle.naga_leaves.specs.declared.leaf.Part.{Part}
 use Rattle.naga_leaves.specs.steps.Steps.{Follows, IsFollowing}
 use Rattle.naga_typing.specs.Context.{lists_of}
-use Rattle.naga_typing.specs.Leaves.{Elements, elements}
+use Rattle.naga_typing.specs.Leaves.{elements}
 use Rattle.naga_leaves.proofs.cursor.Place.pass.Goals as goal
 
 -- what is so of the first byte of one part is so of an equal part
