@@ -22,10 +22,10 @@ use std::ops::Index;
 /// Types, of which no two are equal, in the order in which they were added, each with its span in the
 /// source. Contracts see the list of the types.
 ///
-/// An insertion hashes the type and follows the bits of its hash from type to type, some `log n` of n types. After
-/// eight of these links, which only types that were chosen to collide have in common with many others, the bits of
-/// a second hash, SipHash, choose the way. However types are chosen, there are at most 40 links, unless types share
-/// all 64 bits of SipHash.
+/// An insertion hashes the type, in time linear in its own members, whose types are hashed as handles. It follows the
+/// bits of the hash from type to type, some `log n` of n types. After eight of these links, which only types that were
+/// chosen to collide have in common with many others, the bits of a second hash, SipHash, choose the way. However types
+/// are chosen, there are at most 40 links, unless types share all 64 bits of SipHash.
 #[derive(Drop)]
 pub struct UniqueArena {
     types: Vec<Type>,

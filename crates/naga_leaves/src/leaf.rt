@@ -201,7 +201,8 @@ pub(crate) fn whole_leaf(inner: &TypeInner) -> Option<Leaf>
 /// storage layout. An array that an override sizes has as many elements as the initialiser of the
 /// override says, and none if that is not an index constant above 0.
 ///
-/// The cost is linear in the length of the path, and no memory is requested.
+/// The cost is linear in the length of the path, however many parts the type has, and no memory is
+/// requested.
 pub fn leaf_at(module: &Module, ty: Handle<TypeTag>, path: &[u32], length: u32) -> Option<Leaf>
     requires exists { ty < length_of «module».now.types }
     requires references { GlobalReferencesOk (global_lists «module».now) }

@@ -101,6 +101,8 @@ pub(crate) fn size_unless_array(inner: &TypeInner) -> u32
 /// is as large as its stride says. A runtime-sized array counts one element. A pointer has 4 bytes,
 /// and types without a size have 0. naga's `TypeInner::try_size` is `None` for an array above
 /// `MAX_TYPE_SIZE` already.
+///
+/// The cost is constant: a struct says its span, and an array its stride.
 pub fn try_size(inner: &TypeInner, gctx: GlobalCtx<'_>) -> Option<u32>
     requires exist { ReferencesExist (lists_of gctx) inner.now }
     requires references { GlobalReferencesOk (lists_of gctx) }
@@ -115,7 +117,7 @@ pub fn try_size(inner: &TypeInner, gctx: GlobalCtx<'_>) -> Option<u32>
 }
 
 /// The size of a value, in bytes, of a type whose size fits a `u32`: of any type except an array, and of
-/// each array that has a layout. naga's `TypeInner::size`.
+/// each array that has a layout. naga's `TypeInner::size`. The cost is constant.
 pub fn size(inner: &TypeInner, gctx: GlobalCtx<'_>) -> u32
     requires exist { ReferencesExist (lists_of gctx) inner.now }
     requires references { GlobalReferencesOk (lists_of gctx) }
