@@ -33,7 +33,7 @@ fuel leaves = if leaves.is_begun then place_left leaves.place else suc (place_le
 abbrev pub IsRemaining : Leaves → List ℕ → LeafBytes → Type 0
 IsRemaining leaves path leaf = HasLeafFrom (lists_under leaves) (elements_for leaves) leaves.place.ty (start_of leaves) path leaf
 
--- a cursor is at a part of a value, and before its first step at the whole, and knows rightly which types have a leaf
+-- a cursor is at a part of a value, before its first step at the whole, and what it knows of leaves of types is right
 pub record IsCursor (leaves : Leaves) : Type 0 where
   pub references : GlobalReferencesOk (lists_under leaves)
   pub place : IsPlace (lists_under leaves) (elements_for leaves) leaves.place

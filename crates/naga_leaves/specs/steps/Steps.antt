@@ -18,7 +18,8 @@ use Rattle.naga_typing.specs.Leaves.{Elements, LeafBytes, leaf_at, moved}
 abbrev pub HasNoLeafFrom : GlobalLists → Elements → ℕ → ℕ → Type 0
 HasNoLeafFrom g elements_of t next = (m : ℕ) (rest : List ℕ) → next ≤ m → m ≤ largest_u32 → leaf_at g elements_of t (m ∷ rest) ≡ None
 
--- the parts of the type of index `t` from the index `i` to before `next` have one type, and the first begins no later
+-- all parts of the type of index `t` from the index `i` to before `next` have the type of the part at `i`, and none
+-- begins before it
 pub record IsIndexAfter (g : GlobalLists) (elements_of : Elements) (t i next : ℕ) : Type 0 where
   pub above : i < next
   pub within : next ≤ suc largest_u32
