@@ -1,8 +1,9 @@
-//! Modules that are accepted, or refused for a constant or an override, each validated twice by one validator.
+//! Modules that are accepted, or refused for a constant or an override, each validated twice by one validator, some with
+//! overrides resolved.
 
 use crate::retry::{Memory, Wrong, check};
 use naga_text::text::{Contents, read_text};
-use naga_valid::{ConstantError, OverrideError, ValidationError, Validator};
+use naga_valid::{ConstantError, ModuleInfo, OverrideError, ValidationError, Validator, WithSpan};
 use std::alloc::Global;
 
 /// Forty types without names: numbers, vectors, and arrays of the first number.
@@ -91,6 +92,20 @@ override 0 1 7
 override 0 - 7
 ";
 
+/// An array that an override sizes, which has its value.
+const RESOLVED: &str = "resolved
+type scalar uint 4
+expr lit u32 3
+override 0 0 7
+type array 0 o0 4
+";
+
+/// An override that has none.
+const UNRESOLVED: &str = "resolved
+type scalar uint 4
+override 0 - -
+";
+
 /// What the result for a module has to be.
 #[derive(Clone, Copy, PartialEq)]
 enum Verdict {
@@ -100,6 +115,8 @@ enum Verdict {
     NonConstructible(usize),
     /// The override of this index has the number of one before it.
     DuplicateId(usize),
+    /// The override of this index has no value.
+    Uninitialized(usize),
 }
 
 /// What a refusal says, if it is one of these.
@@ -115,7 +132,24 @@ fn verdict_of(error: &ValidationError) -> Option<Verdict> {
             source: OverrideError::DuplicateID,
             ..
         } => Some(Verdict::DuplicateId(handle.index())),
+        ValidationError::Override {
+            handle,
+            source: OverrideError::UninitializedOverride,
+            ..
+        } => Some(Verdict::Uninitialized(handle.index())),
         _ => None,
+    }
+}
+
+/// Validates the module of a text.
+fn validate(
+    validator: &mut Validator,
+    contents: &Contents,
+) -> Result<ModuleInfo, WithSpan<ValidationError>> {
+    if contents.resolved {
+        validator.validate_resolved_overrides(&contents.module)
+    } else {
+        validator.validate(&contents.module)
     }
 }
 
@@ -126,7 +160,7 @@ fn is_out_of_memory(
     contents: &Contents,
     right: Verdict,
 ) -> Result<bool, Wrong> {
-    let Err(error) = validator.validate(&contents.module) else {
+    let Err(error) = validate(validator, contents) else {
         let accepted = Verdict::Accepted(validator.type_count());
         check(
             right == accepted,
@@ -194,5 +228,7 @@ pub fn accept_again(alloc: Global, memory: &mut Memory) -> Result<(), Wrong> {
     validate_text(alloc, memory, UNCHECKED_CONSTANT, Verdict::Accepted(2))?;
     validate_text(alloc, memory, CONSTANT, Verdict::NonConstructible(0))?;
     validate_text(alloc, memory, NUMBERED, Verdict::Accepted(1))?;
-    validate_text(alloc, memory, NUMBERED_TWICE, Verdict::DuplicateId(1))
+    validate_text(alloc, memory, NUMBERED_TWICE, Verdict::DuplicateId(1))?;
+    validate_text(alloc, memory, RESOLVED, Verdict::Accepted(2))?;
+    validate_text(alloc, memory, UNRESOLVED, Verdict::Uninitialized(0))
 }
