@@ -3,6 +3,7 @@
 ghost use Rattle.std.specs.Prelude.{◌↔◌, IsTrue, Ok};
 ghost use Rattle.naga_exprs.specs.ExpressionRule.{IsExpressionResult, IsRule, is_frequent};
 ghost use Rattle.naga_exprs.specs.Math.{math_typing};
+ghost use Rattle.naga_info.specs.Sources.{AreSourcesRight};
 ghost use Rattle.naga_info.specs.Stages as stages;
 ghost use Rattle.naga_info.specs.Surroundings.{IsReadySomewhere, surroundings};
 
@@ -68,6 +69,7 @@ pub fn validate_expression<T: Typing>(
     expression: &Expression,
 ) -> Result<ShaderStages, ExpressionError>
     requires ready { IsReadySomewhere (surroundings context) expression.now }
+    requires sources { AreSourcesRight context }
     ensures { IsExpressionResult (math_typing (T.accepts_types typing.now) (T.least_arguments typing.now))
         (surroundings context.entry) expression.now result }
 {
@@ -181,6 +183,7 @@ pub fn admits_expression<T: Typing>(
     expression: &Expression,
 ) -> bool
     requires ready { IsReadySomewhere (surroundings context) expression.now }
+    requires sources { AreSourcesRight context }
     ensures { IsTrue result ↔ (IsTrue (is_frequent expression.now)
         × IsRule (math_typing (T.accepts_types typing.now) (T.least_arguments typing.now)) (surroundings context.entry)
         expression.now (Ok stages.every_stage)) }

@@ -1,3 +1,6 @@
 pub mod Forms
 pub mod FunctionTypes
+pub mod IntegerSources
+pub mod KeptSources
 pub mod KindOperands
+pub mod Places

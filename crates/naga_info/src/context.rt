@@ -7,6 +7,7 @@ ghost use Rattle.naga_info.specs.Surroundings.{AreSound, flags_at, form_at, surr
 ghost use Rattle.naga_typing.specs.Context.{ReferencesExist};
 
 use crate::module_info::{FunctionInfo, ModuleInfo};
+use crate::sources::Sources;
 use bitflags::Flags;
 use naga_flags::flags::{Capabilities, ShaderStages, TypeFlags};
 use naga_ir::handle::Handle;
@@ -45,6 +46,8 @@ pub struct FunctionContext<'a> {
     pub mod_info: &'a ModuleInfo,
     /// When the values of the function's expressions are known, at least of the offset of a sample.
     pub kinds: &'a ExpressionKindTracker,
+    /// The last sources of expressions, or of none if nothing is known of them.
+    pub sources: &'a Sources,
 }
 
 impl<'a> FunctionContext<'a> {

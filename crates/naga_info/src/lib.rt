@@ -6,4 +6,5 @@ pub mod context;
 pub mod expression_error;
 pub mod infer;
 pub mod module_info;
+pub mod sources;
 pub mod type_methods;

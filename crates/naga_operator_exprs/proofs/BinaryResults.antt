@@ -13,7 +13,7 @@ use Rattle.naga_info.specs.declared.expression_error.ExpressionError.TheVariants
 use Rattle.naga_operator_exprs.specs.Binary.{IsBinaryResult, IsBinaryRule, RightIsForbidden, accepted, forbidden_constant, forbidden_on_right, wrong_operands, operands_fit, refusal_of}
 use Rattle.naga_operator_exprs.specs.Integers.{ContainsForbidden, scope_of}
 use Rattle.naga_operator_exprs.specs.declared.integers.Forbidden.{Forbidden}
-use Rattle.naga_operator_exprs.specs.declared.integers.Place.TheVariants.{InFunction}
+use Rattle.naga_info.specs.declared.sources.Place.TheVariants.{InFunction}
 
 -- where nothing is forbidden, no number is
 none_held : (found : Option Forbidden) (forbidden : Forbidden) → found ≡ None → found ≡ Some forbidden → ⊥

@@ -1,4 +1,2 @@
 mod BinaryResults
-mod Places
 mod Searches
-mod Sources

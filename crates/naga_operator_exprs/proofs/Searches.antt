@@ -4,11 +4,19 @@ use Rattle.std.proofs.lemmas.Option.{slice_get_read}
 use borrow.Author.Count.{below_more}
 use Rattle.naga_ir.specs.declared.expression.Expression.{Expression}
 use Rattle.naga_ir.specs.declared.expression.Expression.TheVariants as form
-use Rattle.naga_operator_exprs.proofs.Sources.{by_itself}
-use Rattle.naga_operator_exprs.specs.Integers.{ContainsForbidden, IsOwnInteger, Scope, literal_value, operand_place, zero_value}
+use Rattle.naga_info.proofs.IntegerSources.{by_itself}
+use Rattle.naga_info.proofs.Places.{AreInScope}
+use Rattle.naga_info.specs.Surroundings.{AreSound, ExpressionSurroundings}
+use Rattle.naga_info.specs.Integers.{IsOwnInteger, Scope, literal_value, operand_place, zero_value}
+use Rattle.naga_operator_exprs.specs.Integers.{ContainsForbidden, scope_of}
 use Rattle.naga_operator_exprs.specs.declared.integers.Forbidden.{Forbidden}
-use Rattle.naga_operator_exprs.specs.declared.integers.Place.{Place}
-use Rattle.naga_operator_exprs.specs.steps.Places.{AreComponents, HasNoSourceAt, NoneBefore}
+use Rattle.naga_info.specs.declared.sources.Place.{Place}
+use Rattle.naga_info.specs.Sources.{AreComponents, HasNoSourceAt}
+use Rattle.naga_operator_exprs.specs.steps.Places.{NoneBefore}
+
+-- the handles of a module and of a function in it are right where a rule is checked
+pub in_scope : (s : ExpressionSurroundings) → AreSound s → AreInScope (scope_of s)
+in_scope s sound = record { handles = sound.handles; in_function = sound.in_function }
 
 module _ (s : Scope) (forbidden : Forbidden) (p : Place) (items : List ℕ) where
   -- if none is in the next component, none is in one more

@@ -21,7 +21,7 @@ use Rattle.naga_operator_exprs.specs.Integers.{ContainsForbidden, scope_of}
 use Rattle.naga_operator_exprs.specs.Product.{can_multiply}
 use Rattle.naga_operator_exprs.specs.declared.integers.Forbidden.{Forbidden}
 use Rattle.naga_operator_exprs.specs.declared.integers.Forbidden.TheVariants.{AtLeast, Zero}
-use Rattle.naga_operator_exprs.specs.declared.integers.Place.TheVariants.{InFunction}
+use Rattle.naga_info.specs.declared.sources.Place.TheVariants.{InFunction}
 use Rattle.naga_types.specs.Checks.{when}
 use Rattle.naga_types.specs.TypeMethods.{is_sized}
 use Rattle.naga_types.specs.TypeRule.{is_integer}

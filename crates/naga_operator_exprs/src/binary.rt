@@ -2,6 +2,7 @@
 
 ghost use Rattle.std.specs.Prelude.{◌≡◌, ◌↔◌, ◌<◌, Err, IsTrue, Ok, length};
 ghost use Rattle.naga_info.specs.Results.{IsRuleResult};
+ghost use Rattle.naga_info.specs.Sources.{AreSourcesRight};
 ghost use Rattle.naga_info.specs.Stages as stages;
 ghost use Rattle.naga_info.specs.Surroundings.{AreSound, surroundings};
 ghost use Rattle.naga_ir.specs.TypeWords.{vector_size_and_scalar};
@@ -10,11 +11,12 @@ ghost use Rattle.naga_info.specs.declared.expression_error.ExpressionError.TheVa
 ghost use Rattle.naga_operator_exprs.specs.Binary as rule;
 ghost use Rattle.naga_types.specs.TypeRule.{is_integer};
 
-use crate::integers::{Forbidden, Place, has_forbidden};
+use crate::integers::{Forbidden, has_forbidden};
 use crate::product::can_multiply;
 use naga_flags::flags::ShaderStages;
 use naga_info::context::{FunctionContext, every_stage};
 use naga_info::expression_error::ExpressionError;
+use naga_info::sources::Place;
 use naga_info::type_methods::{is_integer, is_number};
 use naga_ir::expression::BinaryOperator;
 use naga_ir::handle::Handle;
@@ -201,6 +203,7 @@ pub fn validate_binary(
     right: Handle<ExpressionTag>,
 ) -> Result<ShaderStages, ExpressionError>
     requires sound { AreSound (surroundings context) }
+    requires sources { AreSourcesRight context }
     requires left { left < length context.info.now.types }
     requires right { right < length context.info.now.types }
     requires exists { right < length context.function.now.expressions }
@@ -230,6 +233,7 @@ pub fn admits_binary(
     right: Handle<ExpressionTag>,
 ) -> bool
     requires sound { AreSound (surroundings context) }
+    requires sources { AreSourcesRight context }
     requires left { left < length context.info.now.types }
     requires right { right < length context.info.now.types }
     requires exists { right < length context.function.now.expressions }

@@ -1,18 +1,21 @@
 //! The integers in constant expressions.
 
-ghost use Rattle.std.specs.Prelude.{◌≡◌, ◌↔◌, ◌<◌, IfNone, IfSome, IsTrue, None, Some, length, pos, replicate, slice_get};
+ghost use Rattle.std.specs.Prelude.{◌≡◌, ◌↔◌, ◌<◌, IfSome, IsTrue, None, Some, length, pos, replicate, slice_get};
 ghost use Rattle.naga_ir.specs.References.{named_type};
+ghost use Rattle.naga_info.specs.Integers as integers;
+ghost use Rattle.naga_info.specs.Sources.{AreSourcesRight, PlaceExists};
 ghost use Rattle.naga_info.specs.Surroundings.{AreSound, surroundings};
 ghost use Rattle.naga_operator_exprs.specs.Integers as spec;
-ghost use Rattle.naga_operator_exprs.specs.Integers.{ContainsForbidden, expression_at, scope_of};
+ghost use Rattle.naga_operator_exprs.specs.Integers.{ContainsForbidden, scope_of};
 ghost use Rattle.naga_operator_exprs.specs.steps.Searched.{HaveNone, note_count, note_of};
-ghost use Rattle.naga_operator_exprs.specs.steps.Places.{AreComponents, HasNoSourceAt, IsSource, IsSourceOrItself, OwnForbidden, PlaceExists, is_forbidden_found};
+ghost use Rattle.naga_operator_exprs.specs.steps.Places.{OwnForbidden, is_forbidden_found};
 
 use naga_info::context::FunctionContext;
+use naga_info::sources::{Place, components_at, expression_at};
 use naga_info::type_methods::is_integer;
 use naga_ir::expression::{Expression, Literal};
 use naga_ir::handle::Handle;
-use naga_ir::tags::{ExpressionTag, TypeTag};
+use naga_ir::tags::TypeTag;
 
 /// What a constant on the right of an operator must not be.
 #[derive(Clone, Copy, Debug, PartialEq, Eq)]
@@ -21,116 +24,6 @@ pub enum Forbidden {
     AtLeast(u32),
     /// Zero, by which nothing is divided.
     Zero,
-}
-
-/// Where an expression is.
-#[derive(Clone, Copy, Debug, PartialEq, Eq)]
-pub enum Place {
-    /// Among the expressions of the function.
-    InFunction(Handle<ExpressionTag>),
-    /// Among the global expressions.
-    InModule(Handle<ExpressionTag>),
-}
-
-impl Place {
-    /// The place of an operand of the expression at this place.
-    fn operand_place(self, operand: Handle<ExpressionTag>) -> Place
-        ensures { result ≡ spec.operand_place self operand }
-    {
-        match self {
-            Place::InFunction(_) => Place::InFunction(operand),
-            Place::InModule(_) => Place::InModule(operand),
-        }
-    }
-}
-
-/// The expression at a place.
-fn expression_at<'a>(context: FunctionContext<'a>, place: &Place) -> &'a Expression
-    requires { PlaceExists (scope_of (surroundings context)) place.now }
-    ensures { expression_at (scope_of (surroundings context.entry)) place.now ≡ Some result.now }
-{
-    match place {
-        Place::InFunction(handle) => &context.function.expressions[*handle],
-        Place::InModule(handle) => &context.module.global_expressions[*handle],
-    }
-}
-
-/// The place of the one expression that another has its integers from: a constant from its initialiser,
-/// a splat from its operand, and a composition from its component if it has only one.
-fn only_source<'a>(context: FunctionContext<'a>, place: &Place) -> Option<Place>
-    requires sound { AreSound (surroundings context) }
-    requires exists { PlaceExists (scope_of (surroundings context)) place.now }
-    ensures source { IfSome result (λ next. IsSource (scope_of (surroundings context.entry)) place.now next) }
-    ensures none { IfNone result (HasNoSourceAt (scope_of (surroundings context.entry)) place.now) }
-{
-    match expression_at(context, place) {
-        Expression::Constant(handle) => {
-            Some(Place::InModule(context.module.constants[*handle].init))
-        }
-        Expression::Splat { value, .. } => Some(place.operand_place(*value)),
-        Expression::Compose { components, .. } => match components.as_slice() {
-            [component] => Some(place.operand_place(*component)),
-            _ => None,
-        },
-        Expression::Literal(_)
-        | Expression::Override(_)
-        | Expression::ZeroValue(_)
-        | Expression::Access { .. }
-        | Expression::AccessIndex { .. }
-        | Expression::Swizzle { .. }
-        | Expression::FunctionArgument(_)
-        | Expression::GlobalVariable(_)
-        | Expression::LocalVariable(_)
-        | Expression::Load { .. }
-        | Expression::ImageSample { .. }
-        | Expression::ImageLoad { .. }
-        | Expression::ImageQuery { .. }
-        | Expression::Unary { .. }
-        | Expression::Binary { .. }
-        | Expression::Select { .. }
-        | Expression::Derivative { .. }
-        | Expression::Relational { .. }
-        | Expression::Math { .. }
-        | Expression::As { .. }
-        | Expression::CallResult(_)
-        | Expression::AtomicResult { .. }
-        | Expression::WorkGroupUniformLoadResult { .. }
-        | Expression::ArrayLength(_)
-        | Expression::RayQueryProceedResult
-        | Expression::RayQueryGetIntersection { .. }
-        | Expression::RayQueryVertexPositions { .. }
-        | Expression::SubgroupBallotResult
-        | Expression::SubgroupOperationResult { .. }
-        | Expression::CooperativeLoad { .. }
-        | Expression::CooperativeMultiplyAdd { .. } => None,
-    }
-}
-
-/// The place of the expression that another has its integers from, through any number of expressions
-/// that have theirs from one other. It is a loop, since constants may be chained through a whole arena.
-fn source<'a>(context: FunctionContext<'a>, place: Place) -> Place
-    requires sound { AreSound (surroundings context) }
-    requires exists { PlaceExists (scope_of (surroundings context)) place }
-    ensures source { IsSourceOrItself (scope_of (surroundings context.entry)) place result }
-    ensures last { HasNoSourceAt (scope_of (surroundings context.entry)) result }
-{
-    let mut last = place;
-    // What an expression has its integers from precedes it, so this ends.
-    while let Some(next) = only_source(context, &last) {
-        last = next;
-    }
-    last
-}
-
-/// The components of a composition; other expressions have none.
-fn components_at<'a>(context: FunctionContext<'a>, place: &Place) -> &'a [Handle<ExpressionTag>]
-    requires { PlaceExists (scope_of (surroundings context)) place.now }
-    ensures { AreComponents (scope_of (surroundings context.entry)) place.now result.now }
-{
-    let Expression::Compose { components, .. } = expression_at(context, place) else {
-        return &[];
-    };
-    components.as_slice()
 }
 
 /// Whether an integer that is not negative is forbidden.
@@ -155,7 +48,7 @@ fn is_forbidden_signed(forbidden: Forbidden, value: i64) -> bool
 
 /// Whether a literal is a forbidden integer.
 fn is_forbidden_literal(forbidden: Forbidden, literal: Literal) -> bool
-    ensures { result ≡ is_forbidden_found forbidden (spec.integer_of literal) }
+    ensures { result ≡ is_forbidden_found forbidden (integers.integer_of literal) }
 {
     match literal {
         Literal::U16(value) => is_forbidden(forbidden, u64::from(value)),
@@ -176,7 +69,7 @@ fn is_forbidden_literal(forbidden: Forbidden, literal: Literal) -> bool
 /// Whether the zero of a type is an integer or a vector of integers.
 fn is_integer_zero(context: FunctionContext<'_>, ty: Handle<TypeTag>) -> bool
     requires { ty < length context.«module».now.types }
-    ensures { result ≡ spec.is_integer_zero (scope_of (surroundings context.entry)) ty }
+    ensures { result ≡ integers.is_integer_zero (scope_of (surroundings context.entry)) ty }
 {
     match context.module.types[ty].inner.vector_size_and_scalar() {
         Some((_, scalar)) => is_integer(scalar.kind),
@@ -277,15 +170,17 @@ impl Searched {
     /// Whether a forbidden number is in the constant expression at a place, of whose parts some may be searched.
     fn finds(&mut self, context: FunctionContext<'_>, forbidden: Forbidden, place: Place) -> bool
         requires sound { AreSound (surroundings context) }
+        requires sources { AreSourcesRight context }
         requires exists { PlaceExists (scope_of (surroundings context)) place }
         requires noted { HaveNone (scope_of (surroundings context)) forbidden self.old.noted }
         ensures noted { HaveNone (scope_of (surroundings context.entry)) forbidden self.new.noted }
         ensures found { IsTrue result ↔ ContainsForbidden (scope_of (surroundings context.entry)) forbidden place }
     {
-        let last = source(context, place);
-        let components = components_at(context, &last);
+        let (module, function) = (context.module, context.function);
+        let last = context.sources.last(module, function, place);
+        let components = components_at(module, function, &last);
         if components.is_empty() {
-            return is_forbidden_itself(context, forbidden, expression_at(context, &last));
+            return is_forbidden_itself(context, forbidden, expression_at(module, function, &last));
         }
         if self.has(last) {
             return false;
@@ -313,6 +208,7 @@ pub(crate) fn has_forbidden(
     place: Place,
 ) -> bool
     requires sound { AreSound (surroundings context) }
+    requires sources { AreSourcesRight context }
     requires exists { PlaceExists (scope_of (surroundings context)) place }
     ensures { IsTrue result ↔ ContainsForbidden (scope_of (surroundings context.entry)) forbidden place }
 {

@@ -9,6 +9,8 @@ ghost use Rattle.naga_exprs.specs.Math.{math_typing};
 ghost use Rattle.naga_flags.specs.Width.{width_rule};
 ghost use Rattle.naga_ir.specs.Handles.{GlobalReferencesOk, HandlesAccepted};
 ghost use Rattle.naga_ir.specs.ItemReferences.{global_lists};
+ghost use Rattle.naga_info.specs.Integers.{scope_in};
+ghost use Rattle.naga_info.specs.Sources.{AreSources, AreSourcesRight};
 ghost use Rattle.naga_info.specs.Surroundings.{IsReady, surroundings};
 ghost use Rattle.naga_types.specs.AcceptedTypes.{IsLaidOut, surroundings_by, rule_at};
 ghost use Rattle.naga_types.specs.HostLeaves.{AllLeavesAreSeparate};
@@ -35,6 +37,7 @@ use naga_info::const_expression_error::{ConstExpressionError, LiteralError};
 use naga_info::context::{ExprContext, FunctionContext};
 use naga_info::expression_error::ExpressionError;
 use naga_info::module_info::{FunctionInfo, ModuleInfo};
+use naga_info::sources::Sources;
 use naga_ir::expression::{Expression, Literal};
 use naga_ir::handle::Handle;
 use naga_ir::ir::{Function, Module};
@@ -377,7 +380,16 @@ impl<T: Typing> Validator<T> {
             (surroundings_under self.now overrides_resolved «module».now function.now
             mod_info.now.lists info.now.types kinds.now) expression.now result }
     {
-        let context = self.context(overrides_resolved, function, module, info, mod_info, kinds);
+        let sources = Sources::new(self.alloc);
+        let context = self.context(
+            overrides_resolved,
+            function,
+            module,
+            info,
+            mod_info,
+            kinds,
+            &sources,
+        );
         validate_expression(self.alloc, &self.typing, context, expression)
     }
 
@@ -390,9 +402,12 @@ impl<T: Typing> Validator<T> {
         info: &'a FunctionInfo,
         mod_info: &'a ModuleInfo,
         kinds: &'a ExpressionKindTracker,
+        sources: &'a Sources,
     ) -> FunctionContext<'a>
-        ensures { surroundings result ≡ surroundings_under self.now overrides_resolved «module».now function.now
-            mod_info.now.lists info.now.types kinds.now }
+        requires { AreSources (scope_in «module».now function.now) sources.now }
+        ensures surroundings { surroundings result ≡ surroundings_under self.now overrides_resolved «module».now
+            function.now mod_info.now.lists info.now.types kinds.now }
+        ensures sources { AreSourcesRight result }
     {
         FunctionContext {
             capabilities: self.capabilities,
@@ -403,6 +418,7 @@ impl<T: Typing> Validator<T> {
             info,
             mod_info,
             kinds,
+            sources,
         }
     }
 

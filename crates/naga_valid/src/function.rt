@@ -1,9 +1,12 @@
 //! The expressions of a function: their types and their rules (naga's valid/function.rs).
 
-ghost use Rattle.std.specs.Prelude.{◌≡◌, ◌≤◌, [], IfErr, IsFalse, OnErr, OnOk, Some, length};
+ghost use Rattle.std.specs.Prelude.{◌≡◌, ◌≤◌, [], Contains, IfErr, IfSome, IsFalse, OnErr, OnOk, Some, length, slice_get, ℕ};
 ghost use Rattle.naga_arena.specs.Memory.{UnlessOutOfMemory};
+ghost use Rattle.naga_info.specs.Integers.{scope_in};
+ghost use Rattle.naga_info.specs.Sources.{AreSources, PlaceExists};
 ghost use Rattle.naga_info.specs.Surroundings.{kind_operands};
-ghost use Rattle.naga_ir.specs.Handles.{FunctionReferencesOk, HandlesAccepted, OrderedOperands, ReferencesPrecede};
+ghost use Rattle.naga_ir.specs.Handles.{ExpressionReferencesOk, FunctionReferencesOk, HandlesAccepted, OrderedOperands, ReferencesPrecede};
+ghost use Rattle.naga_ir.specs.References.{operands};
 ghost use Rattle.naga_exprs.specs.Math.{math_typing};
 ghost use Rattle.naga_valid.specs.Accepted.{Accepts};
 ghost use Rattle.naga_valid.specs.AllFunctions.{AddsInfos, AreInfosInOrder, HaveInfos, IsNext, IsNextRefused, IsThere, ValidatesFunctions, function_of};
@@ -21,7 +24,8 @@ use naga_info::context::every_stage;
 use naga_info::expression_error::ExpressionError;
 use naga_info::infer::{UntypedExpression, infer_types};
 use naga_info::module_info::{FunctionInfo, ModuleInfo};
-use naga_ir::expression::Expression;
+use naga_info::sources::{Place, Sources, components_at, only_source};
+use naga_ir::expression::{BinaryOperator, Expression};
 use naga_ir::handle::Handle;
 use naga_ir::ir::{Function, Module};
 use naga_ir::memory::OutOfMemory;
@@ -146,6 +150,113 @@ fn find_kinds(
     Ok(())
 }
 
+/// The operand whose integers the rule of an expression searches: what is on the right of a division or a shift.
+fn searched_operand(expression: &Expression) -> Option<Handle<ExpressionTag>>
+    ensures { IfSome result (Contains (operands expression.now)) }
+{
+    let Expression::Binary {
+        op:
+            BinaryOperator::Divide
+            | BinaryOperator::Modulo
+            | BinaryOperator::ShiftLeft
+            | BinaryOperator::ShiftRight,
+        right,
+        ..
+    } = *expression
+    else {
+        return None;
+    };
+    Some(right)
+}
+
+/// How many compositions of several components can be nested in a vector: one of four components has one of three, and
+/// that has one of two.
+const NESTED_COUNT: u32 = 3;
+
+/// What is left of a number of expressions that searches may go through, once the expression at a place is searched for
+/// forbidden integers: 0 too if more compositions are nested in it than the `nested` that an accepted operand has.
+fn unspent(
+    module: &Module,
+    function: &Function,
+    place: Place,
+    nested: u32,
+    allowed: usize,
+) -> usize
+    requires handles { HandlesAccepted «module».now }
+    requires in_function { ExpressionReferencesOk «module».now function.now }
+    requires exists { PlaceExists (scope_in «module».now function.now) place }
+{
+    let mut last = place;
+    let mut left = allowed.saturating_sub(1);
+    while let Some(next) = only_source(module, function, &last) {
+        left = left.saturating_sub(1);
+        last = next;
+    }
+    for component in components_at(module, function, &last) {
+        if nested == 0 || left == 0 {
+            return 0;
+        }
+        let place = last.operand_place(*component);
+        left = unspent(module, function, place, nested - 1, left);
+    }
+    left
+}
+
+/// The last sources of a function's expressions, which are found once searches for forbidden integers have gone through
+/// about as many expressions as that takes. In few functions they do.
+#[derive(Drop)]
+struct SearchedSources {
+    /// How many expressions searches may go through before the last sources are found; none if they are found.
+    left: usize,
+    sources: Sources,
+}
+
+impl SearchedSources {
+    /// The last sources of no expression of a function, before its first search. It takes no memory.
+    fn new(alloc: Global, module: &Module, function: &Function) -> SearchedSources
+        ensures { result.sources ≡ record { in_function = []; in_module = [] } }
+    {
+        let count = module.global_expressions.len() + function.expressions.len();
+        SearchedSources {
+            left: 2 * count,
+            sources: Sources::new(alloc),
+        }
+    }
+
+    /// Finds the last sources of a function's expressions if searches have gone through so many expressions, with the
+    /// search for forbidden integers on the right of an operator of the function that is checked next.
+    ///
+    /// # Errors
+    ///
+    /// `OutOfMemory` if memory was refused.
+    fn find(
+        &mut self,
+        alloc: Global,
+        module: &Module,
+        function: &Function,
+        expression: &Expression,
+    ) -> Result<(), OutOfMemory>
+        requires handles { HandlesAccepted «module».now }
+        requires in_function { ExpressionReferencesOk «module».now function.now }
+        requires there { (e : ℕ) × (slice_get function.now.expressions e ≡ Some expression.now) }
+        requires right { AreSources (scope_in «module».now function.now) self.old.sources }
+        ensures right { OnOk result (AreSources (scope_in «module».now function.now) self.new.sources) }
+    {
+        if self.left == 0 {
+            return Ok(());
+        }
+        let Some(right) = searched_operand(expression) else {
+            return Ok(());
+        };
+        let place = Place::InFunction(right);
+        self.left = unspent(module, function, place, NESTED_COUNT, self.left);
+        if self.left == 0 {
+            self.sources = Sources::find(alloc, module, function)?;
+        }
+        Ok(())
+    }
+}
+
 impl<T: Typing> Validator<T> {
     /// What is known of a function whose expressions have types and keep their rules: these types, in
     /// their order, and the pipeline stages that each expression may be used by, all stages if there are
@@ -241,6 +352,7 @@ impl<T: Typing> Validator<T> {
             (λ e. IsFirstBreachAs s info.now.types e) }
     {
         let mut kinds = ExpressionKindTracker::new(self.alloc);
+        let mut searched = SearchedSources::new(self.alloc, module, function);
         let mut stages = ShaderStages::all();
         for (handle, expression) in function.expressions.iter() {
             // The first without a type is included: its rule only needs the types before it.
@@ -248,6 +360,7 @@ impl<T: Typing> Validator<T> {
                 break;
             }
             find_kinds(self.alloc, function, expression, &mut kinds)?;
+            searched.find(self.alloc, module, function, expression)?;
             // For most expressions a bool is enough. The result of `validate_expression` is wide, and is moved before
             // it is looked at.
             let context = self.context(
@@ -257,6 +370,7 @@ impl<T: Typing> Validator<T> {
                 info,
                 mod_info,
                 &kinds,
+                &searched.sources,
             );
             if admits_expression(&self.typing, context, expression) {
                 stages = stages.intersection(every_stage());

@@ -55,6 +55,8 @@ pub use naga_info::infer::UntypedExpression;
 pub use naga_info::infer::infer_types;
 pub use naga_info::module_info::FunctionInfo;
 pub use naga_info::module_info::ModuleInfo;
+pub use naga_info::sources::Place;
+pub use naga_info::sources::Sources;
 pub use naga_ir::alignment::Alignment;
 pub use naga_ir::arena::Arena;
 pub use naga_ir::expression::BinaryOperator;

@@ -1,10 +1,11 @@
 -- What a search for a forbidden number notes.
 use Rattle.std.specs.List.{All}
 use Rattle.std.specs.Prelude.{◌%◌, ℕ, List, Option, IfSome}
-use Rattle.naga_operator_exprs.specs.Integers.{ContainsForbidden, Scope}
+use Rattle.naga_info.specs.Integers.{Scope}
+use Rattle.naga_operator_exprs.specs.Integers.{ContainsForbidden}
 use Rattle.naga_operator_exprs.specs.declared.integers.Forbidden.{Forbidden}
-use Rattle.naga_operator_exprs.specs.declared.integers.Place.{Place}
-use Rattle.naga_operator_exprs.specs.declared.integers.Place.TheVariants.{InFunction, InModule}
+use Rattle.naga_info.specs.declared.sources.Place.{Place}
+use Rattle.naga_info.specs.declared.sources.Place.TheVariants.{InFunction, InModule}
 
 -- how many compositions a search notes
 abbrev pub note_count : ℕ

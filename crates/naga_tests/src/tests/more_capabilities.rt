@@ -20,7 +20,7 @@ use super::with_module;
 use naga_typing::expression_kind::ExpressionKindTracker;
 use naga_valid::{
     Capabilities, Expression, Flags, FullTyping, Function, FunctionContext, FunctionInfo,
-    FunctionsError, Module, ModuleInfo, ShaderStages, Span, Typing, ValidationError,
+    FunctionsError, Module, ModuleInfo, ShaderStages, Sources, Span, Typing, ValidationError,
     ValidationFlags, Validator, WithSpan, laws,
 };
 use std::alloc::Global;
@@ -89,6 +89,7 @@ fn compare_ballots(rt: &impl Abort, alloc: Global, module: &Module, mod_info: &M
     let function = Function::new(alloc);
     let info = FunctionInfo::new(alloc, few);
     let kinds = ExpressionKindTracker::new(alloc);
+    let sources = Sources::new(alloc);
     let less = FunctionContext {
         capabilities: Capabilities::SUBGROUP,
         overrides_resolved: false,
@@ -98,6 +99,7 @@ fn compare_ballots(rt: &impl Abort, alloc: Global, module: &Module, mod_info: &M
         info: &info,
         mod_info,
         kinds: &kinds,
+        sources: &sources,
     };
     let more = FunctionContext {
         subgroup_stages: many,

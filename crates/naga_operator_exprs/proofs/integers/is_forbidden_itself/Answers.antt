@@ -4,7 +4,8 @@ use Rattle.naga_ir.specs.declared.expression.Expression.TheVariants as form
 use Rattle.naga_ir.specs.declared.expression.Literal.{Literal}
 use Rattle.naga_info.specs.Surroundings.{surroundings}
 use Rattle.naga_operator_exprs.proofs.integers.is_forbidden_itself.Goals as goal
-use Rattle.naga_operator_exprs.specs.Integers.{Scope, integer_of, literal_value, scope_of, zero_value}
+use Rattle.naga_info.specs.Integers.{Scope, integer_of, literal_value, zero_value}
+use Rattle.naga_operator_exprs.specs.Integers.{scope_of}
 use Rattle.naga_operator_exprs.specs.declared.integers.Forbidden.{Forbidden}
 use Rattle.naga_operator_exprs.specs.steps.Places.{OwnForbidden, is_forbidden_found}
 

@@ -1,6 +1,7 @@
 use Rattle.naga_info.specs.Surroundings.{surroundings}
 use Rattle.naga_operator_exprs.specs.Integers.{scope_of}
-use Rattle.naga_operator_exprs.specs.steps.Places.{NoneBefore, rank}
+use Rattle.naga_info.specs.Sources.{rank}
+use Rattle.naga_operator_exprs.specs.steps.Places.{NoneBefore}
 use Rattle.naga_operator_exprs.specs.steps.Searched.{HaveNone}
 use Rattle.naga_operator_exprs.proofs.integers.Searched.+finds.Given as goal
 

@@ -13,11 +13,10 @@ use Rattle.naga_ir.specs.declared.ir.Function.{Function}
 use Rattle.naga_ir.specs.declared.ir.Module.{Module}
 use Rattle.naga_ir.specs.declared.reference.Reference.{Reference}
 use Rattle.naga_ir.specs.declared.reference.Reference.TheVariants as to
-use Rattle.naga_info.specs.Surroundings.{AreSound, ExpressionSurroundings}
-use Rattle.naga_operator_exprs.specs.Integers.{Scope, expression_at, operand_place, scope_of}
-use Rattle.naga_operator_exprs.specs.declared.integers.Place.{Place}
-use Rattle.naga_operator_exprs.specs.declared.integers.Place.TheVariants.{InFunction, InModule}
-use Rattle.naga_operator_exprs.specs.steps.Places.{PlaceExists, rank}
+use Rattle.naga_info.specs.Integers.{Scope, expression_at, operand_place}
+use Rattle.naga_info.specs.declared.sources.Place.{Place}
+use Rattle.naga_info.specs.declared.sources.Place.TheVariants.{InFunction, InModule}
+use Rattle.naga_info.specs.Sources.{PlaceExists, rank}
 use Rattle.naga_typing.proofs.Existence.{global_type_exists, initialiser_exists, named_constant_exists, named_items_exist, named_type_exists}
 use Rattle.naga_typing.specs.Constants.{NamedItemExists, NamedItemsExist}
 
@@ -37,10 +36,6 @@ named_in_module m f (to.Emit range) h = tt
 pub record AreInScope (s : Scope) : Type 0 where
   pub handles : HandlesAccepted s.«module»
   pub in_function : ExpressionReferencesOk s.«module» s.function
-
--- the handles of a module and of a function in it are right where a rule is checked
-pub in_scope : (s : ExpressionSurroundings) → AreSound s → AreInScope (scope_of s)
-in_scope s sound = record { handles = sound.handles; in_function = sound.in_function }
 
 module _ (s : Scope) (sound : AreInScope s) where
   abbrev g : GlobalLists

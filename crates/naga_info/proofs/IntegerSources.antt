@@ -5,11 +5,11 @@ use Rattle.naga_ir.specs.declared.expression.Expression.{Expression}
 use Rattle.naga_ir.specs.declared.expression.Expression.TheVariants as form
 use Rattle.naga_ir.specs.declared.ir.Constant.{Constant}
 use Rattle.naga_ir.specs.declared.types.VectorSize.{VectorSize}
-use Rattle.naga_operator_exprs.proofs.Places.{AreInScope, initialiser_before, initialiser_there, operand_before, operand_exists}
-use Rattle.naga_operator_exprs.specs.Integers.{ContainsInteger, IsOwnInteger, Scope, operand_place, component, expression_at, initialiser, itself, literal_value, splatted, zero_value}
-use Rattle.naga_operator_exprs.specs.declared.integers.Place.{Place}
-use Rattle.naga_operator_exprs.specs.declared.integers.Place.TheVariants.{InModule}
-use Rattle.naga_operator_exprs.specs.steps.Places.{HasNoSource, IsSource, IsSourceOrItself, PlaceExists, rank}
+use Rattle.naga_info.proofs.Places.{AreInScope, initialiser_before, initialiser_there, operand_before, operand_exists}
+use Rattle.naga_info.specs.Integers.{ContainsInteger, IsOwnInteger, Scope, operand_place, component, expression_at, initialiser, itself, literal_value, splatted, zero_value}
+use Rattle.naga_info.specs.declared.sources.Place.{Place}
+use Rattle.naga_info.specs.declared.sources.Place.TheVariants.{InModule}
+use Rattle.naga_info.specs.Sources.{HasNoSource, IsLastSource, IsSource, IsSourceOrItself, PlaceExists, rank}
 
 operand_of_splat : (size : VectorSize) (value : ℕ) → Contains (operands (form.Splat size value)) value
 unfolding operands
@@ -110,3 +110,17 @@ module _ (s : Scope) where
     given = λ n h. so.given n (next.given n h);
     taken = λ n h. next.taken n (so.taken n h);
   }
+
+  -- and if the last source of the next one is kept, it is the last source of the first
+  pub jump : (p q r last : Place) → IsSourceOrItself s p q → IsSource s q r → IsLastSource s r last → IsLastSource s p last
+  jump p q r last so next end =
+      let reached = follow p q r so next in
+      record {
+        source = record {
+          exists = end.source.exists;
+          not_after = let a : rank s r ≤ rank s p = reached.not_after in let b : rank s last ≤ rank s r = end.source.not_after in omega (arith, a, b);
+          given = λ n h. reached.given n (end.source.given n h);
+          taken = λ n h. end.source.taken n (reached.taken n h);
+        };
+        last = end.last;
+      }

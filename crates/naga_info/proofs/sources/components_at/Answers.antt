@@ -1,12 +1,11 @@
 use Rattle.std.proofs.Common.{◌≡◌, ℕ, List, Some, ap, subst, sym, ◌∙◌}
 use Rattle.naga_ir.specs.declared.expression.Expression.TheVariants as form
-use Rattle.naga_info.specs.Surroundings.{surroundings}
-use Rattle.naga_operator_exprs.proofs.integers.components_at.Goals as goal
-use Rattle.naga_operator_exprs.specs.Integers.{expression_at, scope_of}
+use Rattle.naga_info.proofs.sources.components_at.Goals as goal
+use Rattle.naga_info.specs.Integers.{expression_at, scope_in}
 
 pub returns : goal.returns
 returns c =
-    let s = scope_of (surroundings c.args.context) in
+    let s = scope_in c.args.«module».now c.args.function.now in
     let p = c.args.place.now in
     let ty = c.in-Compose.ty in
     let own = c.in-Compose.components in
