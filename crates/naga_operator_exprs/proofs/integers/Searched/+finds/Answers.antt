@@ -16,11 +16,11 @@ use Rattle.naga_info.specs.Sources.{PlaceExists, rank}
 read : (items : List ℕ) (i o : ℕ) → i < length items → o ≡ get_or items i o → Contains items o
 read items i o below is = (i, below, sym is)
 
-pub last-requires-clause-handles : goal.last-requires-clause-handles
-last-requires-clause-handles t c = c.requires.sound.handles
+pub last-last-requires-clause-handles : goal.last-last-requires-clause-handles
+last-last-requires-clause-handles t c = c.requires.sound.handles
 
-pub last-requires-clause-in_function : goal.last-requires-clause-in_function
-last-requires-clause-in_function t c = c.requires.sound.in_function
+pub last-last-requires-clause-in_function : goal.last-last-requires-clause-in_function
+last-last-requires-clause-in_function t c = c.requires.sound.in_function
 
 never : {b : Bool} → b ≡ false → b ≡ true → ⊥
 never is isnt = cc (sym is ∙ isnt)
@@ -72,7 +72,7 @@ finds-requires t c =
     let before : rank s (operand_place last o) < rank s last = component_before s (in_scope (surroundings c.args.context) c.requires.sound) last there composed.0 items o composed.1 within in
     let not_after : rank s last ≤ rank s c.args.place = c.last-last.ensures.source.not_after in
     let under : rank s (operand_place last o) < t = omega (arith, before, not_after, c.decreases) in
-    (subst (λ q. rank s q < t) (sym c.operand_place.ensures) under, (c.requires.sound, (subst (PlaceExists s) (sym c.operand_place.ensures) (component_exists s (in_scope (surroundings c.args.context) c.requires.sound) last there composed.0 items o composed.1 within), c.loop-component.invariant.1)))
+    (subst (λ q. rank s q < t) (sym c.operand_place.ensures) under, (c.requires.sound, (c.requires.sources, (subst (PlaceExists s) (sym c.operand_place.ensures) (component_exists s (in_scope (surroundings c.args.context) c.requires.sound) last there composed.0 items o composed.1 within), c.loop-component.invariant.1))))
 
 pub returns-then-finds-clause-found : goal.returns-then-finds-clause-found
 returns-then-finds-clause-found t c =
