@@ -41,7 +41,7 @@ use std::alloc::Global;
 /// The handles of the module are right, and the handles of the function except the types of its variables.
 /// `context` knows what each type of the module may be used for. All that the expression refers to exists. Its
 /// operands precede its place in the function, and `context` knows their types, and of a sample the kind of its
-/// offset; what these types refer to exists. Each `FunctionArgument` before that place names an argument. If the
+/// offset; what these types refer to exists. The sources that it keeps are right, and it may keep none. Each `FunctionArgument` before that place names an argument. If the
 /// expression is the result of a call, `context` knows the function. What mathematical functions take is what the
 /// typing accepts.
 ///
@@ -49,7 +49,8 @@ use std::alloc::Global;
 /// structs that it compares, and in the pointers through which its base is reached, except for the search for
 /// forbidden integers on the right of a division or a shift, which also goes through the constants, splats and
 /// compositions that the operand is made of, and calls itself at compositions of several components. If all these
-/// are accepted, they are a vector of at most four components, and the calls are at most three deep.
+/// are accepted, they are a vector of at most four components, and the calls are at most three deep; if `context`
+/// keeps the source of each, the search takes constant time.
 ///
 /// Expressions that nobody has checked, global ones without the flag `CONSTANTS` or earlier ones of the function, can
 /// nest deeper. The calls are then as deep as they are nested, up to the length of the arena, by `vec2(E0, 1)`,

@@ -155,11 +155,10 @@ fn searched_operand(expression: &Expression) -> Option<Handle<ExpressionTag>>
     ensures { IfSome result (Contains (operands expression.now)) }
 {
     let Expression::Binary {
-        op:
-            BinaryOperator::Divide
-            | BinaryOperator::Modulo
-            | BinaryOperator::ShiftLeft
-            | BinaryOperator::ShiftRight,
+        op: BinaryOperator::Divide
+        | BinaryOperator::Modulo
+        | BinaryOperator::ShiftLeft
+        | BinaryOperator::ShiftRight,
         right,
         ..
     } = *expression
@@ -175,13 +174,7 @@ const NESTED_COUNT: u32 = 3;
 
 /// What is left of a number of expressions that searches may go through, once the expression at a place is searched for
 /// forbidden integers: 0 too if more compositions are nested in it than the `nested` that an accepted operand has.
-fn unspent(
-    module: &Module,
-    function: &Function,
-    place: Place,
-    nested: u32,
-    allowed: usize,
-) -> usize
+fn unspent(module: &Module, function: &Function, place: Place, nested: u32, allowed: usize) -> usize
     requires handles { HandlesAccepted «module».now }
     requires in_function { ExpressionReferencesOk «module».now function.now }
     requires exists { PlaceExists (scope_in «module».now function.now) place }
@@ -268,8 +261,9 @@ impl<T: Typing> Validator<T> {
     /// expressions, so functions are validated in order, and each info is pushed to `mod_info` before the
     /// next. The law `laws::functions` says that this can be done in a module that `validate` accepts.
     ///
-    /// It takes memory for the types of the expressions, and for their kinds if one is a sample with an offset. The
-    /// cost is linear in their number, besides what `validate_expression` says of each.
+    /// It takes memory for the types of the expressions, for their kinds if one is a sample with an offset, and for
+    /// the sources of these and of the global expressions if divisions and shifts search more than twice as many. The
+    /// cost is linear in the number of these, besides what `validate_expression` says of each.
     ///
     /// # Errors
     ///
