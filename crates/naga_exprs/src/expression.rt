@@ -41,9 +41,9 @@ use std::alloc::Global;
 /// The handles of the module are right, and the handles of the function except the types of its variables.
 /// `context` knows what each type of the module may be used for. All that the expression refers to exists. Its
 /// operands precede its place in the function, and `context` knows their types, and of a sample the kind of its
-/// offset; what these types refer to exists. The sources that it keeps are right, and it may keep none. Each `FunctionArgument` before that place names an argument. If the
-/// expression is the result of a call, `context` knows the function. What mathematical functions take is what the
-/// typing accepts.
+/// offset; what these types refer to exists. The sources that it keeps are right, and it may keep none. Each
+/// `FunctionArgument` before that place names an argument. If the expression is the result of a call, `context` knows
+/// the function. What mathematical functions take is what the typing accepts.
 ///
 /// Accepting takes no memory. The cost is linear in the expression's own components, in the members of
 /// structs that it compares, and in the pointers through which its base is reached, except for the search for

@@ -8,8 +8,8 @@ use Rattle.naga_info.specs.declared.sources.Sources.{Sources}
 use Rattle.naga_info.specs.Surroundings.{surroundings}
 use Rattle.naga_valid.proofs.driver.Validator.validate_expression.Goals as goal
 
-pub context-requires : goal.context-requires
-context-requires g c =
+pub context-context-requires : goal.context-context-requires
+context-context-requires g c =
     none_kept (scope_in c.args.module.now c.args.function.now) c.new-sources.result (ap (λ (k : Sources). k.in_function) c.new-sources.ensures) (ap (λ (k : Sources). k.in_module) c.new-sources.ensures)
 
 pub returns : goal.returns

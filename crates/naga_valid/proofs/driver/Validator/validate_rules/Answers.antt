@@ -80,7 +80,7 @@ loop-handle-preserved-then-admits_expression g c =
           (at_place s types c.find_kinds.new.kinds c.in-Some.handle x c.in_ok-find_kinds.ensures.suffice at (allows every) (subst (λ st. IsRule s.math (expression_surroundings s types c.find_kinds.new.kinds) x (allows st)) (sym c.every_stage.ensures) rule))
           (c.intersection-stages.ensures tt);
       found = c.in_ok-find_kinds.ensures.found;
-      right = c.in_ok-find.ensures;
+      right = c.in_ok-find.ensures.right;
     }
 
 pub loop-handle-preserved : goal.loop-handle-preserved
@@ -98,7 +98,7 @@ loop-handle-preserved g c =
           (allowed_at s types c.find_kinds.new.kinds c.in-Some.handle x c.in_ok-find_kinds.ensures.suffice at c.in-Ok.allowed told)
           (c.intersection-stages-in-Ok.ensures tt);
       found = c.in_ok-find_kinds.ensures.found;
-      right = c.in_ok-find.ensures;
+      right = c.in_ok-find.ensures.right;
     }
 
 pub returns-in-Err : goal.returns-in-Err
