@@ -1,7 +1,7 @@
 -- What is kept of the sources of expressions stays right as it grows.
 use Rattle.std.proofs.Common.{◌≡◌, ℕ, List, [], ◌∷◌, ◌++◌, Some, length, slice_get}
 use Rattle.naga_info.specs.Integers.{Scope}
-use Rattle.naga_info.specs.Sources.{AreSources, IsLastSource, kept_at}
+use Rattle.naga_info.specs.Sources.{AreSources, IsLastSource}
 use Rattle.naga_info.specs.declared.sources.Place.{Place}
 use Rattle.naga_info.specs.declared.sources.Place.TheVariants.{InFunction, InModule}
 use Rattle.naga_info.specs.declared.sources.Sources.{Sources}

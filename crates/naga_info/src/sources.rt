@@ -143,11 +143,7 @@ impl Sources {
     /// # Errors
     ///
     /// `OutOfMemory` if memory was refused.
-    pub fn find(
-        alloc: Global,
-        module: &Module,
-        function: &Function,
-    ) -> Result<Sources, OutOfMemory>
+    pub fn find(alloc: Global, module: &Module, function: &Function) -> Result<Sources, OutOfMemory>
         requires handles { HandlesAccepted «module».now }
         requires in_function { ExpressionReferencesOk «module».now function.now }
         ensures right { IfOk result (AreSources (scope_in «module».now function.now)) }

@@ -20,6 +20,14 @@ unspent-left-requires t c =
     let below : c.loop-component.component-index < length items = search rules in
     let within : Contains items o = read items c.loop-component.component-index o below c.component-item.is in
     let composed = c.components_at-component-items.ensures.composed o within in
-    let under : c.args.nested - 1 < t = omega (arith, c.decreases, c.if-nested-eq0.false) in
-    (under, (c.requires.handles, (c.requires.in_function, subst (PlaceExists s) (sym c.operand_place-place.ensures)
-    (component_exists s (record { handles = c.requires.handles; in_function = c.requires.in_function }) last c.loop-next.invariant composed.0 items o composed.1 within))))
+    let under : c.args.nested - 1 < t = omega (arith, c.decreases, c.if-nested-eq0.false) in (
+      under,
+      (
+        c.requires.handles,
+        (
+          c.requires.in_function,
+          subst (PlaceExists s) (sym c.operand_place-place.ensures)
+              (component_exists s (record { handles = c.requires.handles; in_function = c.requires.in_function }) last c.loop-next.invariant composed.0 items o composed.1 within),
+        ),
+      ),
+    )

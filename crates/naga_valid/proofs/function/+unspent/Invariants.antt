@@ -1,4 +1,3 @@
-use Rattle.std.proofs.Common.{ℕ}
 use Rattle.naga_info.specs.Integers.{scope_in}
 use Rattle.naga_info.specs.Sources.{PlaceExists, rank}
 use Rattle.naga_valid.proofs.function.+unspent.Given as goal

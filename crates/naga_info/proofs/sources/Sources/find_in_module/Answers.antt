@@ -1,8 +1,7 @@
-use Rattle.std.proofs.Common.{◌≡◌, ◌∙◌, ◌∷◌, [], ap, arith, length, length-append, subst, sym}
+use Rattle.std.proofs.Common.{◌∙◌, ◌∷◌, [], ap, arith, length, length-append, subst, sym}
 use Rattle.naga_info.proofs.KeptSources.{one_in_module}
 use Rattle.naga_info.specs.Integers.{scope_in}
 use Rattle.naga_info.specs.Sources.{AreSources, IsLastSource}
-use Rattle.naga_info.specs.declared.sources.Place.{Place}
 use Rattle.naga_info.specs.declared.sources.Place.TheVariants.{InModule}
 use Rattle.naga_info.proofs.sources.Sources.find_in_module.Goals as goal
 

@@ -1,4 +1,3 @@
-use Rattle.std.proofs.Common.{◌≡◌, subst, sym}
 use Rattle.std.proofs.lemmas.Option.{slice_get_within}
 use Rattle.naga_info.proofs.Places.{operand_exists}
 use Rattle.naga_info.specs.Integers.{scope_in}
