@@ -16,7 +16,7 @@ use naga_ir::tags::TypeTag;
 use naga_ir::types::{StructMember, TypeInner};
 use naga_typing::context::GlobalCtx;
 
-/// Whether the type of a member has leaves, by which types before have.
+/// Whether the type of a member has leaves, as `has_leaves` says.
 fn any_member_has_leaves(members: &[StructMember], has_leaves: &HandleVec<bool, TypeTag>) -> bool
     requires { All (λ (m : member.StructMember). m.ty < length_of has_leaves.now.items) members.now }
     ensures { IsTrue result ↔ HasMemberWithLeaves has_leaves.now.items members.now }
@@ -29,8 +29,8 @@ fn any_member_has_leaves(members: &[StructMember], has_leaves: &HandleVec<bool, 
     false
 }
 
-/// Whether a type has leaves, by which types before it have: it is a leaf, an array of an element or more
-/// whose base has leaves, or a struct with a member whose type has.
+/// Whether a type has leaves: it is a leaf, an array of one element or more whose base has leaves, or a
+/// struct with a member whose type has. `has_leaves` says which of the types before it have.
 fn type_has_leaves(
     inner: &TypeInner,
     has_leaves: &HandleVec<bool, TypeTag>,
@@ -59,7 +59,7 @@ fn type_has_leaves(
 ///
 /// # Errors
 ///
-/// `OutOfMemory` if memory was refused, which leaves it as it was.
+/// `OutOfMemory` if memory was refused.
 #[cold]
 #[inline(never)]
 pub(crate) fn extend_has_leaves(
