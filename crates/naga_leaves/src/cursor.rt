@@ -62,10 +62,10 @@ struct Place {
 
 impl Place {
     /// The part to which the path leads, if it is a leaf.
-    fn leaf(&self, gctx: GlobalCtx<'_>) -> Option<Leaf>
-        requires { self.now.part.ty < length_of gctx.types.now }
+    fn leaf(&self, gctx: &GlobalCtx<'_>) -> Option<Leaf>
+        requires { self.now.part.ty < length_of gctx.now.types.now }
         ensures leaf { (e : Elements) → option_map bytes_of result
-            ≡ option_map (moved self.now.part.first) (leaf_at (lists_of gctx.entry) e self.now.part.ty []) }
+            ≡ option_map (moved self.now.part.first) (leaf_at (lists_of gctx.now) e self.now.part.ty []) }
         ensures begins { IfSome result (λ leaf. leaf.first ≡ self.now.part.first) }
     {
         let Part { ty, first } = self.part;
@@ -75,13 +75,13 @@ impl Place {
 
     /// The element or member to visit next, with its index and its first byte from the start of the
     /// part.
-    fn next_part(&self, length: u32, gctx: GlobalCtx<'_>) -> Option<(u32, Part)>
-        requires exists { self.now.part.ty < length_of gctx.types.now }
-        requires references { GlobalReferencesOk (lists_of gctx) }
+    fn next_part(&self, length: u32, gctx: &GlobalCtx<'_>) -> Option<(u32, Part)>
+        requires exists { self.now.part.ty < length_of gctx.now.types.now }
+        requires references { GlobalReferencesOk (lists_of gctx.now) }
         ensures { MatchOption result
-            (HasNoLeafFrom (lists_of gctx.entry) (elements (lists_of gctx.entry) length) self.now.part.ty self.now.next)
+            (HasNoLeafFrom (lists_of gctx.now) (elements (lists_of gctx.now) length) self.now.part.ty self.now.next)
             (λ r. (r.0 ≡ self.now.next) × (r.0 ≤ largest_u32)
-            × (part_of_type (lists_of gctx.entry) (elements (lists_of gctx.entry) length) self.now.part.ty r.0
+            × (part_of_type (lists_of gctx.now) (elements (lists_of gctx.now) length) self.now.part.ty r.0
             ≡ Some (part_of r.1))) }
     {
         // No part has an index past all `u32`s, so the type of a part without more isn't looked up.
@@ -139,12 +139,12 @@ impl Place {
     /// What follows the part in the part around it, if anything does: an element or member that begins
     /// past `u64::MAX` is passed, since all its leaves are left out.
     #[inline]
-    fn following(&self, length: u32, gctx: GlobalCtx<'_>) -> Option<Following>
-        requires place { IsPlace (lists_of gctx) (elements (lists_of gctx) length) self.now }
-        requires references { GlobalReferencesOk (lists_of gctx) }
+    fn following(&self, length: u32, gctx: &GlobalCtx<'_>) -> Option<Following>
+        requires place { IsPlace (lists_of gctx.now) (elements (lists_of gctx.now) length) self.now }
+        requires references { GlobalReferencesOk (lists_of gctx.now) }
         ensures { MatchOption result
-            (HasNoLeafBefore (lists_of gctx.entry) (elements (lists_of gctx.entry) length) self.now (suc largest_u32))
-            (Follows (lists_of gctx.entry) (elements (lists_of gctx.entry) length) self.now) }
+            (HasNoLeafBefore (lists_of gctx.now) (elements (lists_of gctx.now) length) self.now (suc largest_u32))
+            (Follows (lists_of gctx.now) (elements (lists_of gctx.now) length) self.now) }
     {
         let last = self.path.len().checked_sub(1)?;
         let around = self.outer[last];
@@ -158,9 +158,9 @@ impl Place {
 
     /// Visits the part, to which a step has led: the step comes to a leaf if the part is one.
     #[inline]
-    fn visit(&mut self, gctx: GlobalCtx<'_>) -> Step
-        requires { self.old.part.ty < length_of gctx.types.now }
-        ensures { (e : Elements) → IsVisited (lists_of gctx.entry) e self.old self.new result }
+    fn visit(&mut self, gctx: &GlobalCtx<'_>) -> Step
+        requires { self.old.part.ty < length_of gctx.now.types.now }
+        ensures { (e : Elements) → IsVisited (lists_of gctx.now) e self.old self.new result }
     {
         let Some(leaf) = self.leaf(gctx) else {
             return Step::Other;
@@ -173,13 +173,13 @@ impl Place {
     /// Goes on from the part, which has no more elements or members, to the one that follows it, or
     /// leaves the part.
     #[inline]
-    fn pass(&mut self, length: u32, gctx: GlobalCtx<'_>) -> Step
-        requires place { IsPlace (lists_of gctx) (elements (lists_of gctx) length) self.old }
-        requires references { GlobalReferencesOk (lists_of gctx) }
-        requires none { HasNoLeafFrom (lists_of gctx) (elements (lists_of gctx) length) self.old.part.ty self.old.next }
-        ensures place { IsPlace (lists_of gctx.entry) (elements (lists_of gctx.entry) length) self.new }
+    fn pass(&mut self, length: u32, gctx: &GlobalCtx<'_>) -> Step
+        requires place { IsPlace (lists_of gctx.now) (elements (lists_of gctx.now) length) self.old }
+        requires references { GlobalReferencesOk (lists_of gctx.now) }
+        requires none { HasNoLeafFrom (lists_of gctx.now) (elements (lists_of gctx.now) length) self.old.part.ty self.old.next }
+        ensures place { IsPlace (lists_of gctx.now) (elements (lists_of gctx.now) length) self.new }
         ensures ty { self.new.ty ≡ self.old.ty }
-        ensures steps { Steps (lists_of gctx.entry) (elements (lists_of gctx.entry) length) self.old self.new result }
+        ensures steps { Steps (lists_of gctx.now) (elements (lists_of gctx.now) length) self.old self.new result }
     {
         match self.following(length, gctx) {
             // What follows has the same parts around it, so a step to it needs no memory.
@@ -193,37 +193,54 @@ impl Place {
         }
     }
 
-    /// Whether the part is known to have no leaf. The first part that is neither a leaf nor has a part
-    /// makes it known for all types up to the type of the whole value.
+    /// Whether the part is known to have no leaf, by what is known for runtime-sized arrays of `length` elements in
+    /// the module of `gctx`.
     #[inline]
     fn has_no_leaf(
         &self,
-        has_part: bool,
+        has_leaves: &HandleVec<bool, TypeTag>,
+        length: u32,
+        gctx: &GlobalCtx<'_>,
+    ) -> bool
+        requires known { AreLeavesKnown (lists_of gctx.now) (elements (lists_of gctx.now) length) has_leaves.now.items }
+        ensures { IsTrue result → HasNoLeaf (lists_of gctx.now) (elements (lists_of gctx.now) length) self.now.part.ty }
+    {
+        matches!(has_leaves.as_slice().get(self.part.ty.index()), Some(false))
+    }
+
+    /// Whether the part, which is neither a leaf nor has a part, has no leaf. The first such part makes it known for
+    /// all types up to the type of the whole value.
+    #[cold]
+    #[inline(never)]
+    fn is_found_without(
+        &self,
         has_leaves: &mut HandleVec<bool, TypeTag>,
         length: u32,
-        gctx: GlobalCtx<'_>,
+        gctx: &GlobalCtx<'_>,
     ) -> Result<bool, OutOfMemory>
-        requires exists { self.now.ty < length_of gctx.types.now }
-        requires references { GlobalReferencesOk (lists_of gctx) }
-        requires known { AreLeavesKnown (lists_of gctx) (elements (lists_of gctx) length) has_leaves.old.items }
-        ensures known { AreLeavesKnown (lists_of gctx.entry) (elements (lists_of gctx.entry) length)
+        requires exists { self.now.ty < length_of gctx.now.types.now }
+        requires references { GlobalReferencesOk (lists_of gctx.now) }
+        requires known { AreLeavesKnown (lists_of gctx.now) (elements (lists_of gctx.now) length) has_leaves.old.items }
+        ensures known { AreLeavesKnown (lists_of gctx.now) (elements (lists_of gctx.now) length)
             has_leaves.new.items }
         ensures none { IfOk result (λ none. IsTrue none
-            → HasNoLeaf (lists_of gctx.entry) (elements (lists_of gctx.entry) length) self.now.part.ty) }
+            → HasNoLeaf (lists_of gctx.now) (elements (lists_of gctx.now) length) self.now.part.ty) }
     {
         // After the whole value nothing is left to visit, so its type alone needs no memory.
-        if !has_part && !self.path.is_empty() {
-            extend_has_leaves(has_leaves, self.ty, length, gctx)?;
+        if self.path.is_empty() {
+            return Ok(false);
         }
-        Ok(matches!(has_leaves.as_slice().get(self.part.ty.index()), Some(false)))
+        extend_has_leaves(has_leaves, self.ty, length, gctx)?;
+        Ok(self.has_no_leaf(has_leaves, length, gctx))
     }
 
     /// Passes the part, which has no leaf, and if it is an element also all elements after it.
     #[cold]
-    fn skip(&mut self, gctx: GlobalCtx<'_>) -> Step
-        requires around { All (λ (around : part.Part). around.ty < length_of gctx.types.now) self.old.outer.items }
+    #[inline(never)]
+    fn skip(&mut self, gctx: &GlobalCtx<'_>) -> Step
+        requires around { All (λ (around : part.Part). around.ty < length_of gctx.now.types.now) self.old.outer.items }
         requires lengths { length_of self.old.outer.items ≡ length_of self.old.path.items }
-        ensures { Skips (lists_of gctx.entry) self.old self.new result }
+        ensures { Skips (lists_of gctx.now) self.old self.new result }
     {
         let Some(last) = self.path.len().checked_sub(1) else {
             return Step::End;
@@ -237,24 +254,26 @@ impl Place {
         &mut self,
         has_leaves: &mut HandleVec<bool, TypeTag>,
         length: u32,
-        gctx: GlobalCtx<'_>,
+        gctx: &GlobalCtx<'_>,
     ) -> Result<Step, OutOfMemory>
-        requires place { IsPlace (lists_of gctx) (elements (lists_of gctx) length) self.old }
-        requires references { GlobalReferencesOk (lists_of gctx) }
-        requires known { AreLeavesKnown (lists_of gctx) (elements (lists_of gctx) length) has_leaves.old.items }
-        ensures place { IsPlace (lists_of gctx.entry) (elements (lists_of gctx.entry) length) self.new }
-        ensures known { AreLeavesKnown (lists_of gctx.entry) (elements (lists_of gctx.entry) length)
+        requires place { IsPlace (lists_of gctx.now) (elements (lists_of gctx.now) length) self.old }
+        requires references { GlobalReferencesOk (lists_of gctx.now) }
+        requires known { AreLeavesKnown (lists_of gctx.now) (elements (lists_of gctx.now) length) has_leaves.old.items }
+        ensures place { IsPlace (lists_of gctx.now) (elements (lists_of gctx.now) length) self.new }
+        ensures known { AreLeavesKnown (lists_of gctx.now) (elements (lists_of gctx.now) length)
             has_leaves.new.items }
         ensures ty { self.new.ty ≡ self.old.ty }
-        ensures ok { IfOk result (λ step. Steps (lists_of gctx.entry) (elements (lists_of gctx.entry) length) self.old
+        ensures ok { IfOk result (λ step. Steps (lists_of gctx.now) (elements (lists_of gctx.now) length) self.old
             self.new step) }
         ensures err { OnErr result (IsUnmoved self.old self.new) }
     {
-        let next_part = self.next_part(length, gctx);
-        if self.next == 0 && self.has_no_leaf(next_part.is_some(), has_leaves, length, gctx)? {
+        if self.next == 0 && self.has_no_leaf(has_leaves, length, gctx) {
             return Ok(self.skip(gctx));
         }
-        let Some((index, part)) = next_part else {
+        let Some((index, part)) = self.next_part(length, gctx) else {
+            if self.next == 0 && self.is_found_without(has_leaves, length, gctx)? {
+                return Ok(self.skip(gctx));
+            }
             return Ok(self.pass(length, gctx));
         };
         // All leaves of a part that begins past `u64::MAX` are left out, so it isn't entered.
@@ -341,7 +360,7 @@ impl<'a> Leaves<'a> {
         }
         // A step only visits parts, so a type that is a leaf itself is returned here.
         self.is_begun = true;
-        self.place.leaf(self.gctx)
+        self.place.leaf(&self.gctx)
     }
 
     /// The next leaf, or `None` after the last.
@@ -372,7 +391,7 @@ impl<'a> Leaves<'a> {
         'steps: loop {
             let step = self
                 .place
-                .step(&mut self.has_leaves, self.length, self.gctx)?;
+                .step(&mut self.has_leaves, self.length, &self.gctx)?;
             match step {
                 Step::Leaf(leaf) => return Ok(Some(leaf)),
                 Step::Other => {}

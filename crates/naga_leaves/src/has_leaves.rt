@@ -35,12 +35,12 @@ fn type_has_leaves(
     inner: &TypeInner,
     has_leaves: &HandleVec<bool, TypeTag>,
     length: u32,
-    gctx: GlobalCtx<'_>,
+    gctx: &GlobalCtx<'_>,
 ) -> bool
     requires parts { ArePartsKnown has_leaves.now.items inner.now }
-    requires exist { ReferencesExist (lists_of gctx) inner.now }
-    requires references { GlobalReferencesOk (lists_of gctx) }
-    ensures { IsTrue result ↔ HasLeavesBy (elements (lists_of gctx.entry) length) has_leaves.now.items inner.now }
+    requires exist { ReferencesExist (lists_of gctx.now) inner.now }
+    requires references { GlobalReferencesOk (lists_of gctx.now) }
+    ensures { IsTrue result ↔ HasLeavesBy (elements (lists_of gctx.now) length) has_leaves.now.items inner.now }
 {
     match inner {
         TypeInner::Array { base, size, .. } => {
@@ -66,12 +66,12 @@ pub(crate) fn extend_has_leaves(
     has_leaves: &mut HandleVec<bool, TypeTag>,
     ty: Handle<TypeTag>,
     length: u32,
-    gctx: GlobalCtx<'_>,
+    gctx: &GlobalCtx<'_>,
 ) -> Result<(), OutOfMemory>
-    requires exists { ty < length_of gctx.types.now }
-    requires references { GlobalReferencesOk (lists_of gctx) }
-    requires known { AreLeavesKnown (lists_of gctx) (elements (lists_of gctx) length) has_leaves.old.items }
-    ensures known { AreLeavesKnown (lists_of gctx.entry) (elements (lists_of gctx.entry) length)
+    requires exists { ty < length_of gctx.now.types.now }
+    requires references { GlobalReferencesOk (lists_of gctx.now) }
+    requires known { AreLeavesKnown (lists_of gctx.now) (elements (lists_of gctx.now) length) has_leaves.old.items }
+    ensures known { AreLeavesKnown (lists_of gctx.now) (elements (lists_of gctx.now) length)
         has_leaves.new.items }
     ensures all { OnOk result (ty < length_of has_leaves.new.items) }
 {

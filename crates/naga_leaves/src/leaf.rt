@@ -48,22 +48,22 @@ pub(crate) struct Part {
 /// How many elements an array has that an override sizes: none if the override gives no count.
 #[cold]
 #[inline(never)]
-fn pending_count(override_: Handle<OverrideTag>, gctx: GlobalCtx<'_>) -> u32
-    requires exists { override_ < length gctx.overrides.now }
-    requires references { GlobalReferencesOk (lists_of gctx) }
-    ensures { result ≡ unwrap_or (override_count_of (lists_of gctx.entry) override_) 0 }
+fn pending_count(override_: Handle<OverrideTag>, gctx: &GlobalCtx<'_>) -> u32
+    requires exists { override_ < length gctx.now.overrides.now }
+    requires references { GlobalReferencesOk (lists_of gctx.now) }
+    ensures { result ≡ unwrap_or (override_count_of (lists_of gctx.now) override_) 0 }
 {
     // Few arrays are sized so: kept apart, this leaves `part_at` small where it is inlined.
-    override_count(override_, gctx).unwrap_or(0)
+    override_count(override_, *gctx).unwrap_or(0)
 }
 
 /// How many elements an array has if a runtime-sized one has `dynamic` elements: none if it is sized
 /// by an override that gives no count.
 #[inline]
-pub(crate) fn element_count(size: ArraySize, dynamic: u32, gctx: GlobalCtx<'_>) -> u32
-    requires exists { IfSome (pending size) (λ o. o < length gctx.overrides.now) }
-    requires references { GlobalReferencesOk (lists_of gctx) }
-    ensures { result ≡ elements (lists_of gctx.entry) dynamic size }
+pub(crate) fn element_count(size: ArraySize, dynamic: u32, gctx: &GlobalCtx<'_>) -> u32
+    requires exists { IfSome (pending size) (λ o. o < length gctx.now.overrides.now) }
+    requires references { GlobalReferencesOk (lists_of gctx.now) }
+    ensures { result ≡ elements (lists_of gctx.now) dynamic size }
 {
     match size {
         ArraySize::Constant(count) => count.get(),
@@ -78,11 +78,11 @@ pub(crate) fn part_at(
     inner: &TypeInner,
     index: u32,
     dynamic: u32,
-    gctx: GlobalCtx<'_>,
+    gctx: &GlobalCtx<'_>,
 ) -> Option<Part>
-    requires exist { ReferencesExist (lists_of gctx) inner.now }
-    requires references { GlobalReferencesOk (lists_of gctx) }
-    ensures { option_map part_of result ≡ spec.part_at (elements (lists_of gctx.entry) dynamic) inner.now index }
+    requires exist { ReferencesExist (lists_of gctx.now) inner.now }
+    requires references { GlobalReferencesOk (lists_of gctx.now) }
+    ensures { option_map part_of result ≡ spec.part_at (elements (lists_of gctx.now) dynamic) inner.now index }
 {
     match inner {
         TypeInner::Array { base, size, stride } => {
@@ -120,9 +120,10 @@ pub(crate) fn part_at(
 /// The index at which to go on among the parts of a type if the part at `index` has no leaf: past all
 /// elements of an array, which have one type and begin one after another.
 #[cold]
-pub(crate) fn index_after(ty: Handle<TypeTag>, index: u32, gctx: GlobalCtx<'_>) -> u64
-    requires { ty < length gctx.types.now }
-    ensures { (e : Elements) → IsIndexAfter (lists_of gctx.entry) e ty index result }
+#[inline(never)]
+pub(crate) fn index_after(ty: Handle<TypeTag>, index: u32, gctx: &GlobalCtx<'_>) -> u64
+    requires { ty < length gctx.now.types.now }
+    ensures { (e : Elements) → IsIndexAfter (lists_of gctx.now) e ty index result }
 {
     match gctx.types[ty].inner {
         TypeInner::Array { .. } => PAST_PARTS,
@@ -197,7 +198,7 @@ pub(crate) fn whole_leaf(inner: &TypeInner) -> Option<Leaf>
 /// itself is empty.
 ///
 /// It is `None` if there is no such leaf, or if the leaf would begin past the byte `u64::MAX`, which
-/// no leaf does of an accepted type of a fixed size that hosts may share and that has a uniform or a
+/// no leaf does of an accepted type that is `SIZED`, that hosts may share and that has a uniform or a
 /// storage layout. An array that an override sizes has as many elements as the initialiser of the
 /// override says, and none if that is not an index constant above 0.
 ///
@@ -216,7 +217,7 @@ pub fn leaf_at(module: &Module, ty: Handle<TypeTag>, path: &[u32], length: u32) 
     let mut ty = ty;
     let mut first = 0u64;
     for index in path {
-        let part = part_at(&gctx.types[ty].inner, *index, length, gctx)?;
+        let part = part_at(&gctx.types[ty].inner, *index, length, &gctx)?;
         first = first.checked_add(part.first)?;
         ty = part.ty;
     }

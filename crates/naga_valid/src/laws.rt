@@ -44,13 +44,14 @@ use naga_ir::ir::Module;
 use naga_ir::tags::TypeTag;
 use naga_typing::typing::Typing;
 
-/// The leaves of a type of a fixed size: the first byte of each is a multiple of its alignment, each
-/// ends within the size of the type, and no two share a byte. So a host can fill as many bytes as the
-/// size, leaf by leaf.
+/// The leaves of a type that is `SIZED`, whose size the module or an override gives: the first byte of
+/// each is a multiple of its alignment, each ends within the size of the type, and no two share a byte.
+/// So a host can fill as many bytes as the size, leaf by leaf.
 ///
 /// It holds of types with the flags `DATA`, `SIZED` and `HOST_SHAREABLE` that have a uniform or a
-/// storage layout. Nothing is promised if both layouts are errors. An array whose length is an override
-/// that gives no count has no leaves. `length` is only the length of runtime-sized arrays.
+/// storage layout. Nothing is promised if both layouts are errors. An array whose override gives no
+/// count has no leaves, and the size has no room for its elements: nothing is said of them. `length` is
+/// only the length of runtime-sized arrays.
 pub fn leaves<T: Typing>(
     module: &Module,
     validator: &Validator<T>,

@@ -12,8 +12,8 @@ returns c =
     record {
       next = c.index_after-next.result;
       after = λ e outer around path last outer_is path_is.
-          subst (λ (i : ℕ). IsIndexAfter (lists_of c.args.gctx) e around.ty i c.index_after-next.result) (end_is c.args.self.now.path.items path c.in-Some.last c.index-2.result.now last many c.index-2.ensures path_is)
-          (subst (λ (p : Part). IsIndexAfter (lists_of c.args.gctx) e p.ty c.index-2.result.now c.index_after-next.result) (end_is c.args.self.now.outer.items outer c.in-Some.last c.index.result.now around as_many c.index.ensures outer_is)
+          subst (λ (i : ℕ). IsIndexAfter (lists_of c.args.gctx.now) e around.ty i c.index_after-next.result) (end_is c.args.self.now.path.items path c.in-Some.last c.index-2.result.now last many c.index-2.ensures path_is)
+          (subst (λ (p : Part). IsIndexAfter (lists_of c.args.gctx.now) e p.ty c.index-2.result.now c.index_after-next.result) (end_is c.args.self.now.outer.items outer c.in-Some.last c.index.result.now around as_many c.index.ensures outer_is)
           (c.index_after-next.ensures e));
       leaves = c.leave.ensures;
     }
