@@ -1,5 +1,5 @@
--- How calls on words end that find no accepted module.
-use Rattle.std.proofs.Common.{◌≡◌, ◌⊎◌, ℕ, List, Result, ap, inl, inr, refl, subst, sym, ◌∙◌}
+-- How calls end that find no accepted module.
+use Rattle.std.proofs.Common.{◌≡◌, ◌⊎◌, ℕ, Result, ap, inl, inr, refl, subst, sym, ◌∙◌}
 use Rattle.naga_exprs.specs.Math.{math_typing}
 use Rattle.naga_flags.specs.declared.flags.Capabilities.{Capabilities}
 use Rattle.naga_flags.specs.declared.flags.ShaderStages.{ShaderStages}
@@ -20,23 +20,12 @@ use Rattle.naga_valid.specs.declared.error.ValidationError.TheVariants.{InvalidH
 use Rattle.naga_valid.specs.declared.function.FunctionError.{FunctionError}
 use Rattle.naga_valid.specs.declared.function.FunctionError.TheVariants as function_error
 use Rattle.naga_valid.specs.declared.function.FunctionsError.{FunctionsError}
-use Rattle.naga_words.specs.Words.{IsFirstUnreadable, NamesItem}
-use Rattle.naga_words.specs.declared.draft.Contents.{Contents}
-use Rattle.naga_words.specs.declared.reader.WordsError.{WordsError}
-use Rattle.naga_words.specs.declared.reader.WordsError.TheVariants as words
-use Rattle.naga_c.specs.Calls.{IsNotAccepted, OfWords, out_of_memory, refused, undecided, unreadable}
+use Rattle.naga_c.specs.declared.subject.Subject.{Subject}
+use Rattle.naga_c.specs.Calls.{IsNotAccepted, refused, undecided}
 use Rattle.naga_c.specs.Functions.{validation_of}
-use Rattle.naga_c.specs.Statuses.{unread_status}
-use Rattle.naga_c.specs.Verdicts.{refused_outcome, refused_status, settings_in, unread_outcome}
+use Rattle.naga_c.specs.Verdicts.{refused_outcome, refused_status, settings_in}
 use Rattle.naga_c.specs.declared.results.Outcome.{Outcome}
 use Rattle.naga_c.specs.declared.status.Status.{Status}
-
--- words that are not read: an error says why, and the outcome and the status are those of the error
-pub not_read : (ws : List ℕ) (Checks : Contents → Status → Type 0) (Leaves : Outcome → Type 0) (e : WordsError) (s : Status)
-    → (e ≡ words.OutOfMemory) ⊎ NamesItem e (IsFirstUnreadable ws) → Leaves (unread_outcome e) → s ≡ unread_status e → OfWords ws Checks Leaves s
-not_read ws Checks Leaves (words.Item at) s (inl h) left is = let no : ⊥ = cc in absurd no
-not_read ws Checks Leaves (words.Item at) s (inr h) left is = unreadable at h left is
-not_read ws Checks Leaves words.OutOfMemory s h left is = out_of_memory left is
 
 module _ (m : Module) (settings : Settings) (Leaves : Outcome → Type 0) where
   -- a module that is refused with an error: the outcome and the status are those of the error
@@ -64,9 +53,9 @@ ends_refused m given settings Leaves e x s same why is left ends =
     (subst (λ (y : ValidationError). (y ≡ OutOfMemory) ⊎ Refuses full_resolves m settings y) (sym is) (subst (λ (g : Settings). (e ≡ OutOfMemory) ⊎ Refuses full_resolves m g e) same why))
     left ends
 
--- the settings of a validator for what words say
-pub settings_as : (contents : Contents) (flags : ValidationFlags) (v : State FullTyping) → v ≡ new_state flags contents.capabilities v.typing → settings_of v contents.resolved ≡ record (settings_in contents) { flags = flags }
-settings_as contents flags v h = ap (λ (s : State FullTyping). settings_of s contents.resolved) h
+-- the settings of a validator by the settings in force
+pub settings_as : (subject : Subject) (flags : ValidationFlags) (v : State FullTyping) → v ≡ new_state flags subject.capabilities v.typing → settings_of v subject.resolved ≡ record (settings_in subject) { flags = flags }
+settings_as subject flags v h = ap (λ (s : State FullTyping). settings_of s subject.resolved) h
 
 -- a module that is accepted by settings is accepted by settings that are equal
 pub accepted_as : (m : Module) (given settings : Settings) (infos : List TypeInfo) (lists : ModuleInfoLists) → given ≡ settings → Accepts full_resolves m given infos lists → Accepts full_resolves m settings infos lists
@@ -77,11 +66,11 @@ pub other_source : (e : FunctionError) → ((handle : ℕ) (source : ExpressionE
 other_source (function_error.Expression handle source) no_expression = absurd (no_expression handle source refl)
 other_source function_error.OutOfMemory no_expression = refl
 
--- functions are validated as words say by a validator that has what validation depends on from the words
-pub validates_as : (contents : Contents) (v : State FullTyping) (old new : ModuleInfoLists) (result : Result (Unit {0}) FunctionsError)
-    → v.capabilities ≡ contents.capabilities → v.subgroup_stages ≡ record { 0 = stages_with contents.capabilities.0 }
-    → ValidatesFunctions (function_surroundings full_resolves (math_typing accepts (λ fun types. argument_count fun)) v contents.resolved contents.«module») contents.«module» old new result
-    → ValidatesFunctions (validation_of contents) contents.«module» old new result
-validates_as contents v old new result capabilities stages h =
-    subst (λ (s : ShaderStages). let w : State FullTyping = record v { capabilities = contents.capabilities; subgroup_stages = s } in ValidatesFunctions (function_surroundings full_resolves (math_typing accepts (λ fun types. argument_count fun)) w contents.resolved contents.«module») contents.«module» old new result) stages
-    (subst (λ (k : Capabilities). let w : State FullTyping = record v { capabilities = k } in ValidatesFunctions (function_surroundings full_resolves (math_typing accepts (λ fun types. argument_count fun)) w contents.resolved contents.«module») contents.«module» old new result) capabilities h)
+-- functions are validated by the settings in force by a validator that has what validation depends on from these
+pub validates_as : (subject : Subject) (v : State FullTyping) (old new : ModuleInfoLists) (result : Result (Unit {0}) FunctionsError)
+    → v.capabilities ≡ subject.capabilities → v.subgroup_stages ≡ record { 0 = stages_with subject.capabilities.0 }
+    → ValidatesFunctions (function_surroundings full_resolves (math_typing accepts (λ fun types. argument_count fun)) v subject.resolved subject.«module») subject.«module» old new result
+    → ValidatesFunctions (validation_of subject) subject.«module» old new result
+validates_as subject v old new result capabilities stages h =
+    subst (λ (s : ShaderStages). let w : State FullTyping = record v { capabilities = subject.capabilities; subgroup_stages = s } in ValidatesFunctions (function_surroundings full_resolves (math_typing accepts (λ fun types. argument_count fun)) w subject.resolved subject.«module») subject.«module» old new result) stages
+    (subst (λ (k : Capabilities). let w : State FullTyping = record v { capabilities = k } in ValidatesFunctions (function_surroundings full_resolves (math_typing accepts (λ fun types. argument_count fun)) w subject.resolved subject.«module») subject.«module» old new result) capabilities h)

@@ -9,9 +9,9 @@ use Rattle.naga_leaves.specs.Cursor.{IsAtEnd, IsCursor, IsNext, IsOverSame, IsRe
 use Rattle.naga_leaves.specs.LeavesFrom.{HasLeafFrom}
 use Rattle.naga_leaves.specs.declared.cursor.Leaves.{Leaves}
 use Rattle.naga_typing.specs.Leaves.{LeafBytes, elements, leaf_at}
-use Rattle.naga_c.specs.Leaves.{AddsAnswers, Answer, AreAll, AreLeavesOfEach, Buffers, EndsAfter, Found, HasNoRoom, HasTypes, IsLeafOf, StopsAfter, WritesAll, WritesType, all, answer_to, answers_from, done, full, no_memory, some, stopped, too_many}
+use Rattle.naga_c.specs.Leaves.{AddsAnswers, Answer, AreAll, AreLeavesOfEach, Buffers, EndsAfter, Found, HasNoRoom, HasTypes, IsLeafOf, StopsAfter, WritesAll, WritesType, all, answer_to, answers_from, done, full, no_memory, over, some, stopped, too_many}
 use Rattle.naga_c.specs.declared.status.Status.{Status}
-use Rattle.naga_c.specs.declared.status.Status.TheVariants.{Done, OutOfMemory, Room}
+use Rattle.naga_c.specs.declared.status.Status.TheVariants.{Done, Limit, OutOfMemory, Room}
 use Rattle.naga_c.proofs.LeafLaws.{IsUpTo, adds_more, adds_none, answers_more, answers_push, are_all, are_first, from_start, one_more, zip_more}
 
 -- a cursor has still to come to a leaf
@@ -51,7 +51,7 @@ module _ (m : Module) (n ty : ℕ) where
       let same : leaf ≡ f.leaf = same_Some leaf f.leaf (sym here.there ∙ (ap (λ (p : List ℕ). leaf_at (global_lists m) (elements (global_lists m) n) ty p) (sym e) ∙ h.there)) in
       ap (λ (p : List ℕ). found_at p leaf) (sym e) ∙ ap (λ (l : LeafBytes). found_at f.path l) same)
 
-  module _ (query : ℕ) (old : Buffers) where
+  module _ (most query : ℕ) (old : Buffers) where
     -- the leaves before a cursor are written
     pub record IsWriting (cursor : Leaves) (new : Buffers) : Type 0 where
       pub is_cursor : IsCursor cursor
@@ -83,19 +83,28 @@ module _ (m : Module) (n ty : ℕ) where
 
     -- there is no room for the next leaf
     pub writing_full : (before now : Leaves) (between new : Buffers) (path : List ℕ) (leaf : LeafBytes) → IsWriting before between → IsNext before now leaf → path ≡ path_of now
-        → HasNoRoom between path → new ≡ between → WritesType m n ty query old new Room
-    writing_full before now between new path leaf w next same room unmoved =
-        subst (λ (b : Buffers). WritesType m n ty query old b Room) (sym unmoved)
+        → between.counts.leaves < most → HasNoRoom between path → new ≡ between → WritesType m n ty most query old new Room
+    writing_full before now between new path leaf w next same few room unmoved =
+        subst (λ (b : Buffers). WritesType m n ty most query old b Room) (sym unmoved)
         (record {
           found = w.found;
           added = w.added;
           ends = stopped (full (found_at (path_of now) leaf)
               (are_first (IsLeafOf m n ty) (Remains now) (w.found ++ found_at (path_of now) leaf ∷ []) (cursor_more before now w.found leaf w.up_to next))
-              (subst (λ (p : List ℕ). HasNoRoom between p) same room) refl);
+              few (subst (λ (p : List ℕ). HasNoRoom between p) same room) refl);
         })
 
+    -- with the next leaf there are more than may be written
+    pub writing_over : (before now : Leaves) (new : Buffers) (leaf : LeafBytes) → IsWriting before new → IsNext before now leaf → most ≤ new.counts.leaves → WritesType m n ty most query old new Limit
+    writing_over before now new leaf w next many = record {
+      found = w.found;
+      added = w.added;
+      ends = stopped (over (found_at (path_of now) leaf)
+          (are_first (IsLeafOf m n ty) (Remains now) (w.found ++ found_at (path_of now) leaf ∷ []) (cursor_more before now w.found leaf w.up_to next)) many refl);
+    }
+
     -- all leaves are written
-    pub writing_done : (before now : Leaves) (new : Buffers) → IsWriting before new → IsAtEnd before now → WritesType m n ty query old new Done
+    pub writing_done : (before now : Leaves) (new : Buffers) → IsWriting before new → IsAtEnd before now → WritesType m n ty most query old new Done
     writing_done before now new w end = record {
       found = w.found;
       added = w.added;
@@ -103,14 +112,14 @@ module _ (m : Module) (n ty : ℕ) where
     }
 
     -- memory was refused
-    pub writing_undecided : (before : Leaves) (new : Buffers) → IsWriting before new → WritesType m n ty query old new OutOfMemory
+    pub writing_undecided : (before : Leaves) (new : Buffers) → IsWriting before new → WritesType m n ty most query old new OutOfMemory
     writing_undecided before new w = record {
       found = w.found;
       added = w.added;
       ends = stopped (no_memory (are_first (IsLeafOf m n ty) (Remains before) w.found w.up_to) refl);
     }
 
-module _ (m : Module) (types : List ℕ) (n : ℕ) (old : Buffers) where
+module _ (m : Module) (types : List ℕ) (n most : ℕ) (old : Buffers) where
   -- the leaves of the first `k` of some types are written
   pub record IsAnswering (k : ℕ) (new : Buffers) : Type 0 where
     pub found : List (List Found)
@@ -131,18 +140,19 @@ module _ (m : Module) (types : List ℕ) (n : ℕ) (old : Buffers) where
       (adds_more (answers_from 0 found) (map (answer_to (0 + length found)) last) old between new first (subst (λ (q : ℕ). AddsAnswers (map (answer_to q) last) between new) e then))
 
   -- all leaves of a type were found if the status says so
-  ended : (IsLeaf : Found → Type 0) (found : List Found) (b : Buffers) (s : Status) → s ≡ Done → EndsAfter IsLeaf found b s → AreAll IsLeaf found
+  ended : (IsLeaf : Found → Type 0) (found : List Found) (b : Buffers) (s : Status) → s ≡ Done → EndsAfter most IsLeaf found b s → AreAll IsLeaf found
   ended IsLeaf found b s is (done h e) = h
-  ended IsLeaf found b s is (stopped (full next h room e)) = let no : ⊥ = cc in absurd no
+  ended IsLeaf found b s is (stopped (over next h many e)) = let no : ⊥ = cc in absurd no
+  ended IsLeaf found b s is (stopped (full next h few room e)) = let no : ⊥ = cc in absurd no
   ended IsLeaf found b s is (stopped (no_memory h e)) = let no : ⊥ = cc in absurd no
 
   -- not all were found if it says something else
-  not_ended : (IsLeaf : Found → Type 0) (found : List Found) (b : Buffers) (s : Status) → ¬ (s ≡ Done) → EndsAfter IsLeaf found b s → StopsAfter IsLeaf found b s
+  not_ended : (IsLeaf : Found → Type 0) (found : List Found) (b : Buffers) (s : Status) → ¬ (s ≡ Done) → EndsAfter most IsLeaf found b s → StopsAfter most IsLeaf found b s
   not_ended IsLeaf found b s is_not (done h e) = absurd (is_not e)
   not_ended IsLeaf found b s is_not (stopped h) = h
 
   -- the leaves of one type more are written
-  pub answering_more : (k place ty : ℕ) (between new : Buffers) → IsAnswering k between → slice_get types k ≡ Some ty → place ≡ k → WritesType m n ty place between new Done → IsAnswering (k + 1) new
+  pub answering_more : (k place ty : ℕ) (between new : Buffers) → IsAnswering k between → slice_get types k ≡ Some ty → place ≡ k → WritesType m n ty most place between new Done → IsAnswering (k + 1) new
   answering_more k place ty between new w there same wrote = record {
     found = w.found ++ wrote.found ∷ [];
     as_many = let e : length (w.found ++ wrote.found ∷ []) ≡ length w.found + 1 = simp length-append in omega (arith, e, w.as_many);
@@ -151,7 +161,7 @@ module _ (m : Module) (types : List ℕ) (n : ℕ) (old : Buffers) where
   }
 
   -- the leaves of all types are written
-  pub answering_all : (k : ℕ) (new : Buffers) → IsAnswering k new → HasTypes m types → length types ≤ k → WritesAll m types n old new Done
+  pub answering_all : (k : ℕ) (new : Buffers) → IsAnswering k new → HasTypes m types → length types ≤ k → WritesAll m types n most old new Done
   answering_all k new w has past = record {
     answers = answers_from 0 w.found;
     added = w.added;
@@ -159,7 +169,7 @@ module _ (m : Module) (types : List ℕ) (n : ℕ) (old : Buffers) where
   }
 
   -- the leaves of a type are written up to one
-  pub answering_some : (k place ty : ℕ) (between new : Buffers) (s : Status) → IsAnswering k between → HasTypes m types → slice_get types k ≡ Some ty → place ≡ k → ¬ (s ≡ Done) → WritesType m n ty place between new s → WritesAll m types n old new s
+  pub answering_some : (k place ty : ℕ) (between new : Buffers) (s : Status) → IsAnswering k between → HasTypes m types → slice_get types k ≡ Some ty → place ≡ k → ¬ (s ≡ Done) → WritesType m n ty most place between new s → WritesAll m types n most old new s
   answering_some k place ty between new s w has there same is_not wrote = record {
     answers = answers_from 0 (w.found ++ wrote.found ∷ []);
     added = adds_type k between new w.found wrote.found w.as_many w.added (subst (λ (q : ℕ). AddsAnswers (map (answer_to q) wrote.found) between new) same wrote.added);
@@ -168,7 +178,7 @@ module _ (m : Module) (types : List ℕ) (n : ℕ) (old : Buffers) where
   }
 
   -- there are more types than a row can say
-  pub answering_too_many : (k : ℕ) (new : Buffers) → IsAnswering k new → HasTypes m types → largest_u32 < k → k < length types → WritesAll m types n old new Room
+  pub answering_too_many : (k : ℕ) (new : Buffers) → IsAnswering k new → HasTypes m types → largest_u32 < k → k < length types → WritesAll m types n most old new Room
   answering_too_many k new w has large within = record {
     answers = answers_from 0 w.found;
     added = w.added;

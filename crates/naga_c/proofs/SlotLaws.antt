@@ -1,6 +1,6 @@
 -- Types whose values hosts may share, or not.
-use Rattle.std.proofs.Common.{◌≡◌, ℕ, ◌≤◌, Bool, true, false, List, Some, arith, length, slice_get, subst, sym, ◌∙◌}
-use Rattle.std.proofs.lemmas.Option.{same_Some, slice_get_within}
+use Rattle.std.proofs.Common.{◌≡◌, ℕ, Bool, true, false, List, Some, slice_get, subst, sym, ◌∙◌}
+use Rattle.std.proofs.lemmas.Option.{same_Some}
 use Rattle.naga_flags.specs.Bits.{HOST_SHAREABLE}
 use Rattle.naga_flags.specs.Flags.{has}
 use Rattle.naga_types.specs.declared.info.TypeInfo.{TypeInfo}
@@ -18,7 +18,3 @@ module _ (infos : List TypeInfo) (ty handle : ℕ) (info : TypeInfo) (shared : B
       let may : has info.flags.0 HOST_SHAREABLE ≡ true = subst (λ (i : TypeInfo). has i.flags.0 HOST_SHAREABLE ≡ true) one s.2 in
       let both : true ≡ false = sym may ∙ (sym by ∙ may_not) in
       cc
-
--- hosts share no values of a type that there isn't
-pub none_there : (infos : List TypeInfo) (ty count : ℕ) → length infos ≡ count → count ≤ ty → ¬ (IsShareable infos ty)
-none_there infos ty count e past = λ s. let within = slice_get_within infos ty s.0 s.1 in omega (arith, within, e, past)

@@ -1,24 +1,33 @@
--- What a call on words ends with, whatever it is asked.
-use Rattle.std.specs.Prelude.{◌≡◌, ℕ, List}
+-- What a call on words or on a text ends with, whatever it is asked.
+use Rattle.std.specs.Prelude.{◌≡◌, ℕ, List, Result, Ok, Err}
 use Rattle.naga_ir.specs.declared.ir.Module.{Module}
 use Rattle.naga_typing.specs.FullTyping.{full_resolves}
 use Rattle.naga_valid.specs.Accepted.{Refuses}
 use Rattle.naga_valid.specs.State.{Settings}
 use Rattle.naga_valid.specs.declared.error.ValidationError.{ValidationError}
-use Rattle.naga_words.specs.Words.{IsFirstUnreadable, IsWords}
-use Rattle.naga_words.specs.declared.draft.Contents.{Contents}
-use Rattle.naga_c.specs.Verdicts.{no_outcome, refused_by, unreadable_at}
+use Rattle.naga_c.specs.Statuses.{status_without}
+use Rattle.naga_c.specs.Subjects.{IsSubjectOfText, IsSubjectOfWords}
+use Rattle.naga_c.specs.Verdicts.{no_outcome, outcome_without, refused_by}
+use Rattle.naga_c.specs.declared.options.Options.{Options}
 use Rattle.naga_c.specs.declared.results.Outcome.{Outcome}
 use Rattle.naga_c.specs.declared.status.Status.{Status}
-use Rattle.naga_c.specs.declared.status.Status.TheVariants.{Refused, Unreadable, OutOfMemory}
+use Rattle.naga_c.specs.declared.status.Status.TheVariants.{Refused, OutOfMemory}
+use Rattle.naga_c.specs.declared.subject.NoSubject.{NoSubject}
+use Rattle.naga_c.specs.declared.subject.Subject.{Subject}
 
--- a call on `words` ended with `status`: the words say contents of which, with the status, `Checks` holds; or there is
--- a first word that can't be read, and `Leaves` holds of an outcome with its index; or memory was refused while the
--- words were read, and `Leaves` holds of an outcome with nothing
-pub data OfWords (words : List ℕ) (Checks : Contents → Status → Type 0) (Leaves : Outcome → Type 0) (status : Status) : Type 0 where
-  read : (contents : Contents) → IsWords words contents → Checks contents status → OfWords words Checks Leaves status
-  unreadable : (at : ℕ) → IsFirstUnreadable words at → Leaves (unreadable_at at) → status ≡ Unreadable → OfWords words Checks Leaves status
-  out_of_memory : Leaves no_outcome → status ≡ OutOfMemory → OfWords words Checks Leaves status
+-- a call that had this to validate, or nothing, ended with `status`: `Checks` holds of that and of the status; or
+-- `Leaves` holds of an outcome that says why there was nothing
+abbrev pub EndsWith : Result Subject NoSubject → (Checks : Subject → Status → Type 0) → (Leaves : Outcome → Type 0) → Status → Type 0
+EndsWith (Ok subject) Checks Leaves status = Checks subject status
+EndsWith (Err why) Checks Leaves status = Leaves (outcome_without why) × (status ≡ status_without why)
+
+-- a call on `words` with `options` ended with `status`, as `Checks` says of what was read, or `Leaves` of why nothing was
+abbrev pub OfWords : (options : Options) → (words : List ℕ) → (Checks : Subject → Status → Type 0) → (Leaves : Outcome → Type 0) → Status → Type 0
+OfWords options words Checks Leaves status = (result : Result Subject NoSubject) × IsSubjectOfWords options words result × EndsWith result Checks Leaves status
+
+-- a call on a text with `options` ended with `status`, as `Checks` says of what was read, or `Leaves` of why nothing was
+abbrev pub OfText : (options : Options) → (text : List ℕ) → (Checks : Subject → Status → Type 0) → (Leaves : Outcome → Type 0) → Status → Type 0
+OfText options text Checks Leaves status = (result : Result Subject NoSubject) × IsSubjectOfText options text result × EndsWith result Checks Leaves status
 
 -- a call that validated the module `m` by these settings ended with `status`, as the module is not accepted: it is
 -- refused, and `Leaves` holds of the outcome of its error; or memory was refused, and it holds of one with nothing

@@ -18,7 +18,7 @@ use Rattle.naga_valid.specs.declared.function.Callable.{Callable}
 use Rattle.naga_valid.specs.declared.function.Callable.TheVariants as callable
 use Rattle.naga_valid.specs.declared.function.FunctionError.TheVariants as function_error
 use Rattle.naga_valid.specs.declared.function.FunctionsError.{FunctionsError}
-use Rattle.naga_words.specs.declared.draft.Contents.{Contents}
+use Rattle.naga_c.specs.declared.subject.Subject.{Subject}
 use Rattle.naga_c.specs.Buffers.{BeginsWith}
 use Rattle.naga_c.specs.Calls.{IsNotAccepted, LeavesBuffer}
 use Rattle.naga_c.specs.Codes.{expression_error_cause, expression_error_code}
@@ -44,13 +44,13 @@ refused_at m (callable.EntryPoint i) expression error = record (counts_of m) { i
 abbrev pub with_constants : ValidationFlags → ValidationFlags
 with_constants flags = record { 0 = bit_or flags.0 CONSTANTS }
 
--- the settings by which the module of words is validated before its functions: constants are never left out
-abbrev pub settings_for_functions : Contents → Settings
-settings_for_functions contents = record (settings_in contents) { flags = with_constants contents.flags }
+-- the settings in force before functions are validated: constants are never left out
+abbrev pub settings_for_functions : Subject → Settings
+settings_for_functions subject = record (settings_in subject) { flags = with_constants subject.flags }
 
--- how the functions of the module of words are validated
-abbrev pub validation_of : Contents → Validation
-validation_of contents = function_surroundings full_resolves (math_typing accepts (λ fun types. argument_count fun)) (new_state {T = Unit {0}} (with_constants contents.flags) contents.capabilities tt) contents.resolved contents.«module»
+-- how the functions of a module are validated by the settings in force
+abbrev pub validation_of : Subject → Validation
+validation_of subject = function_surroundings full_resolves (math_typing accepts (λ fun types. argument_count fun)) (new_state {T = Unit {0}} (with_constants subject.flags) subject.capabilities tt) subject.resolved subject.«module»
 
 -- a call on a module `m` of which all functions and entry points are accepted, with the infos in `lists`, found the
 -- buffer `old` and left `new`, an outcome and a status: the stages of all if the buffer has room for them; if it has no
@@ -72,17 +72,17 @@ pub data ReportsRefused (m : Module) (lists : ModuleInfoLists) (error : Function
       → ReportsRefused m lists error old new outcome status
   before_undecided : error.source ≡ function_error.OutOfMemory → LeavesBuffer old new outcome no_outcome → status ≡ OutOfMemory → ReportsRefused m lists error old new outcome status
 
--- a call on what words say, of which `known` is known before functions are validated, found the buffer `old` and left
+-- a call on a module, of which `known` is known before functions are validated, found the buffer `old` and left
 -- `new`, an outcome and a status: the stages of the functions and entry points, or the first that is refused
-pub data ReportsFunctions (contents : Contents) (known : ModuleInfoLists) (old new : List ℕ) (outcome : Outcome) (status : Status) : Type 0 where
-  all : (lists : ModuleInfoLists) → ValidatesFunctions (validation_of contents) contents.«module» known lists (Ok tt)
-      → ReportsAll contents.«module» lists old new outcome status → ReportsFunctions contents known old new outcome status
-  one_refused : (lists : ModuleInfoLists) (error : FunctionsError) → ValidatesFunctions (validation_of contents) contents.«module» known lists (Err error)
-      → ReportsRefused contents.«module» lists error old new outcome status → ReportsFunctions contents known old new outcome status
+pub data ReportsFunctions (subject : Subject) (known : ModuleInfoLists) (old new : List ℕ) (outcome : Outcome) (status : Status) : Type 0 where
+  all : (lists : ModuleInfoLists) → ValidatesFunctions (validation_of subject) subject.«module» known lists (Ok tt)
+      → ReportsAll subject.«module» lists old new outcome status → ReportsFunctions subject known old new outcome status
+  one_refused : (lists : ModuleInfoLists) (error : FunctionsError) → ValidatesFunctions (validation_of subject) subject.«module» known lists (Err error)
+      → ReportsRefused subject.«module» lists error old new outcome status → ReportsFunctions subject known old new outcome status
 
--- a call on what words say found the buffer `old` and left `new`, an outcome and a status: what it found of the
+-- a call on a module found the buffer `old` and left `new`, an outcome and a status: what it found of the
 -- functions of the module if it is accepted, else its refusal
-pub data ChecksFunctions (contents : Contents) (old new : List ℕ) (outcome : Outcome) (status : Status) : Type 0 where
-  accepted : (infos : List TypeInfo) (known : ModuleInfoLists) → Accepts full_resolves contents.«module» (settings_for_functions contents) infos known
-      → ReportsFunctions contents known old new outcome status → ChecksFunctions contents old new outcome status
-  not_accepted : IsNotAccepted contents.«module» (settings_for_functions contents) (LeavesBuffer old new outcome) status → ChecksFunctions contents old new outcome status
+pub data ChecksFunctions (subject : Subject) (old new : List ℕ) (outcome : Outcome) (status : Status) : Type 0 where
+  accepted : (infos : List TypeInfo) (known : ModuleInfoLists) → Accepts full_resolves subject.«module» (settings_for_functions subject) infos known
+      → ReportsFunctions subject known old new outcome status → ChecksFunctions subject old new outcome status
+  not_accepted : IsNotAccepted subject.«module» (settings_for_functions subject) (LeavesBuffer old new outcome) status → ChecksFunctions subject old new outcome status

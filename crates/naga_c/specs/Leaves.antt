@@ -11,14 +11,14 @@ use Rattle.naga_types.specs.declared.info.TypeInfo.{TypeInfo}
 use Rattle.naga_typing.specs.FullTyping.{full_resolves}
 use Rattle.naga_typing.specs.Leaves.{LeafBytes, elements}
 use Rattle.naga_valid.specs.Accepted.{Accepts}
-use Rattle.naga_words.specs.declared.draft.Contents.{Contents}
+use Rattle.naga_c.specs.declared.subject.Subject.{Subject}
 use Rattle.naga_c.specs.Buffers.{BeginsWith}
 use Rattle.naga_c.specs.Calls.{IsNotAccepted}
 use Rattle.naga_c.specs.Verdicts.{settings_in}
 use Rattle.naga_c.specs.declared.results.Counts.{Counts}
 use Rattle.naga_c.specs.declared.results.LeafRow.{LeafRow}
 use Rattle.naga_c.specs.declared.status.Status.{Status}
-use Rattle.naga_c.specs.declared.status.Status.TheVariants.{Done, OutOfMemory, NoType, Room}
+use Rattle.naga_c.specs.declared.status.Status.TheVariants.{Done, OutOfMemory, NoType, Room, Limit}
 
 -- a leaf that was found: the indexes that lead to it, and its bytes
 pub record Found : Type 0 where
@@ -101,23 +101,24 @@ pub data HasNoRoom (buffers : Buffers) (path : List ℕ) : Type 0 where
   no_path : length buffers.paths < buffers.counts.paths + length path → HasNoRoom buffers path
   too_long : largest_u32 < length path → HasNoRoom buffers path
 
--- not all leaves of which `IsLeaf` holds were written: `found` were, and the buffers have no room for the next, or
--- memory was refused
-pub data StopsAfter (IsLeaf : Found → Type 0) (found : List Found) (buffers : Buffers) (status : Status) : Type 0 where
-  full : (next : Found) → AreFirst IsLeaf (found ++ next ∷ []) → HasNoRoom buffers next.path → status ≡ Room → StopsAfter IsLeaf found buffers status
-  no_memory : AreFirst IsLeaf found → status ≡ OutOfMemory → StopsAfter IsLeaf found buffers status
+-- not all leaves of which `IsLeaf` holds were written: `found` were, and with the next one there are more than `most`, or
+-- the buffers have no room for it, or memory was refused
+pub data StopsAfter (most : ℕ) (IsLeaf : Found → Type 0) (found : List Found) (buffers : Buffers) (status : Status) : Type 0 where
+  over : (next : Found) → AreFirst IsLeaf (found ++ next ∷ []) → most ≤ buffers.counts.leaves → status ≡ Limit → StopsAfter most IsLeaf found buffers status
+  full : (next : Found) → AreFirst IsLeaf (found ++ next ∷ []) → buffers.counts.leaves < most → HasNoRoom buffers next.path → status ≡ Room → StopsAfter most IsLeaf found buffers status
+  no_memory : AreFirst IsLeaf found → status ≡ OutOfMemory → StopsAfter most IsLeaf found buffers status
 
 -- the leaves of which `IsLeaf` holds were found up to a place, and all of them if the status says so
-pub data EndsAfter (IsLeaf : Found → Type 0) (found : List Found) (buffers : Buffers) (status : Status) : Type 0 where
-  done : AreAll IsLeaf found → status ≡ Done → EndsAfter IsLeaf found buffers status
-  stopped : StopsAfter IsLeaf found buffers status → EndsAfter IsLeaf found buffers status
+pub data EndsAfter (most : ℕ) (IsLeaf : Found → Type 0) (found : List Found) (buffers : Buffers) (status : Status) : Type 0 where
+  done : AreAll IsLeaf found → status ≡ Done → EndsAfter most IsLeaf found buffers status
+  stopped : StopsAfter most IsLeaf found buffers status → EndsAfter most IsLeaf found buffers status
 
 -- a call wrote the leaves of the type of index `ty` of the module `m`, as answers to the question at the place `query`,
--- where a runtime-sized array has `n` elements
-pub record WritesType (m : Module) (n ty query : ℕ) (old new : Buffers) (status : Status) : Type 0 where
+-- where a runtime-sized array has `n` elements, and `most` leaves may be written in all
+pub record WritesType (m : Module) (n ty most query : ℕ) (old new : Buffers) (status : Status) : Type 0 where
   pub found : List Found
   pub added : AddsAnswers (map (answer_to query) found) old new
-  pub ends : EndsAfter (IsLeafOf m n ty) found new status
+  pub ends : EndsAfter most (IsLeafOf m n ty) found new status
 
 -- all types of these indexes are in the module `m`
 abbrev pub HasTypes : Module → List ℕ → Type 0
@@ -128,20 +129,21 @@ abbrev pub AreLeavesOfEach : Module → ℕ → List ℕ → List (List Found) �
 AreLeavesOfEach m n types found = AllZip (λ ty f. AreAll (IsLeafOf m n ty) f) types found
 
 -- a call on an accepted module `m` wrote `answers`, and left `buffers` and a status: all leaves of `types`, in their
--- order, where a runtime-sized array has `n` elements; or those of the first types and the first ones of the next
-pub data ReportsLeaves (m : Module) (types : List ℕ) (n : ℕ) (answers : List Answer) (buffers : Buffers) (status : Status) : Type 0 where
-  no_type : ¬ (HasTypes m types) → answers ≡ [] → status ≡ NoType → ReportsLeaves m types n answers buffers status
-  all : HasTypes m types → (found : List (List Found)) → AreLeavesOfEach m n types found → answers ≡ answers_from 0 found → status ≡ Done → ReportsLeaves m types n answers buffers status
+-- order, where a runtime-sized array has `n` elements; or those of the first types and the first ones of the next, as
+-- there is no room for more, or more than `most` leaves
+pub data ReportsLeaves (m : Module) (types : List ℕ) (n most : ℕ) (answers : List Answer) (buffers : Buffers) (status : Status) : Type 0 where
+  no_type : ¬ (HasTypes m types) → answers ≡ [] → status ≡ NoType → ReportsLeaves m types n most answers buffers status
+  all : HasTypes m types → (found : List (List Found)) → AreLeavesOfEach m n types found → answers ≡ answers_from 0 found → status ≡ Done → ReportsLeaves m types n most answers buffers status
   some : HasTypes m types → (found : List (List Found)) (ty : ℕ) (last : List Found) → AreLeavesOfEach m n (take (length found) types) found → slice_get types (length found) ≡ Some ty
-      → answers ≡ answers_from 0 (found ++ last ∷ []) → StopsAfter (IsLeafOf m n ty) last buffers status → ReportsLeaves m types n answers buffers status
+      → answers ≡ answers_from 0 (found ++ last ∷ []) → StopsAfter most (IsLeafOf m n ty) last buffers status → ReportsLeaves m types n most answers buffers status
   too_many : HasTypes m types → (found : List (List Found)) → AreLeavesOfEach m n (take (length found) types) found → largest_u32 < length found → length found < length types
-      → answers ≡ answers_from 0 found → status ≡ Room → ReportsLeaves m types n answers buffers status
+      → answers ≡ answers_from 0 found → status ≡ Room → ReportsLeaves m types n most answers buffers status
 
 -- a call on an accepted module found the buffers `old` and left `new`: the answers that it wrote
-pub record WritesAll (m : Module) (types : List ℕ) (n : ℕ) (old new : Buffers) (status : Status) : Type 0 where
+pub record WritesAll (m : Module) (types : List ℕ) (n most : ℕ) (old new : Buffers) (status : Status) : Type 0 where
   pub answers : List Answer
   pub added : AddsAnswers answers old new
-  pub reported : ReportsLeaves m types n answers new status
+  pub reported : ReportsLeaves m types n most answers new status
 
 -- nothing is written
 abbrev pub no_counts : Counts
@@ -151,9 +153,9 @@ no_counts = record { leaves = 0; paths = 0 }
 abbrev pub LeavesBuffers : (old new : Buffers) → Type 0
 LeavesBuffers old new = new ≡ record old { counts = no_counts }
 
--- a call on what words say found the buffers `old` and left `new`, which begin with what it found of the leaves of
+-- a call on a module found the buffers `old` and left `new`, which begin with what it found of the leaves of
 -- `types`, if the module is accepted, and else are as they were
-pub data ChecksLeaves (contents : Contents) (types : List ℕ) (n : ℕ) (old new : Buffers) (status : Status) : Type 0 where
-  accepted : (infos : List TypeInfo) (lists : ModuleInfoLists) → Accepts full_resolves contents.«module» (settings_in contents) infos lists
-      → (answers : List Answer) → AreWritten answers old new → ReportsLeaves contents.«module» types n answers new status → ChecksLeaves contents types n old new status
-  not_accepted : IsNotAccepted contents.«module» (settings_in contents) (λ _. LeavesBuffers old new) status → ChecksLeaves contents types n old new status
+pub data ChecksLeaves (subject : Subject) (types : List ℕ) (n most : ℕ) (old new : Buffers) (status : Status) : Type 0 where
+  accepted : (infos : List TypeInfo) (lists : ModuleInfoLists) → Accepts full_resolves subject.«module» (settings_in subject) infos lists
+      → (answers : List Answer) → AreWritten answers old new → ReportsLeaves subject.«module» types n most answers new status → ChecksLeaves subject types n most old new status
+  not_accepted : IsNotAccepted subject.«module» (settings_in subject) (λ _. LeavesBuffers old new) status → ChecksLeaves subject types n most old new status

@@ -1,18 +1,22 @@
 -- To read first:
 -- Statuses.code, Returns: the numbers of what calls return
--- Text.IsReported: what a call on a text leaves with its caller
--- Calls.OfWords: what a call on words ends with, whatever it is asked; IsNotAccepted: the same of a module
--- Types.ChecksTypes, Functions.ChecksFunctions, Leaves.ChecksLeaves, Slots.ChecksSlots: what calls write of what words
--- say
+-- Options.subject_of: the settings in force, of options and of what comes with a module
+-- Subjects.IsSubjectOfWords, IsSubjectOfText: what is read, or why nothing is
+-- Calls.OfWords, OfText: what a call on words or a text ends with, whatever it is asked; IsNotAccepted: the same of a
+-- module
+-- Types.ChecksTypes, Functions.ChecksFunctions, Leaves.ChecksLeaves, Slots.ChecksSlots: what calls write of a module
+-- Text.IsReported: what the call for a report leaves with its caller
 -- Verdicts, Refusals, Codes: what calls write of a module that can't be read, or that is refused
 pub mod Buffers
 pub mod Calls
 pub mod Codes
 pub mod Functions
 pub mod Leaves
+pub mod Options
 pub mod Refusals
 pub mod Slots
 pub mod Statuses
+pub mod Subjects
 pub mod Text
 pub mod Types
 pub mod Verdicts

@@ -1,11 +1,11 @@
 -- The numbers of what calls return.
 use Rattle.std.specs.Prelude.{◌≡◌, ℕ}
 use Rattle.naga_c.specs.declared.status.Status.{Status}
-use Rattle.naga_c.specs.declared.status.Status.TheVariants.{Done, Refused, Unreadable, OutOfMemory, Room, NoType}
+use Rattle.naga_c.specs.declared.status.Status.TheVariants.{Done, Refused, Unreadable, OutOfMemory, Room, NoType, Limit, Options, Settings, NotShareable}
+use Rattle.naga_c.specs.declared.subject.NoSubject.{NoSubject}
+use Rattle.naga_c.specs.declared.subject.NoSubject.TheVariants as none
 use Rattle.naga_report.specs.declared.report.Outcome.{Outcome}
 use Rattle.naga_report.specs.declared.report.Outcome.TheVariants as report
-use Rattle.naga_words.specs.declared.reader.WordsError.{WordsError}
-use Rattle.naga_words.specs.declared.reader.WordsError.TheVariants as words
 
 -- the number of a status
 abbrev pub code : Status → ℕ
@@ -15,6 +15,10 @@ code Unreadable = 2
 code OutOfMemory = 3
 code Room = 4
 code NoType = 5
+code Limit = 6
+code Options = 7
+code Settings = 8
+code NotShareable = 9
 
 -- a call returned the number of a status of which this holds
 abbrev pub Returns : ℕ → (Status → Type 0) → Type 0
@@ -26,7 +30,10 @@ status_of report.Accepted = Done
 status_of report.Refused = Refused
 status_of report.Unreadable = Unreadable
 
--- the status of words that were not read
-abbrev pub unread_status : WordsError → Status
-unread_status (words.Item _) = Unreadable
-unread_status words.OutOfMemory = OutOfMemory
+-- the status of a call that has no module to validate
+abbrev pub status_without : NoSubject → Status
+status_without none.Options = Options
+status_without none.Limit = Limit
+status_without (none.Unreadable _) = Unreadable
+status_without none.Settings = Settings
+status_without none.OutOfMemory = OutOfMemory

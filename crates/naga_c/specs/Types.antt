@@ -10,7 +10,7 @@ use Rattle.naga_typing.specs.FullTyping.{full_resolves}
 use Rattle.naga_typing.specs.Layout.{AreLayouts}
 use Rattle.naga_typing.specs.declared.layouter.TypeLayout.{TypeLayout}
 use Rattle.naga_valid.specs.Accepted.{Accepts}
-use Rattle.naga_words.specs.declared.draft.Contents.{Contents}
+use Rattle.naga_c.specs.declared.subject.Subject.{Subject}
 use Rattle.naga_c.specs.Buffers.{BeginsWith}
 use Rattle.naga_c.specs.Calls.{IsNotAccepted, LeavesBuffer}
 use Rattle.naga_c.specs.Codes.{disalignment_code}
@@ -58,9 +58,9 @@ pub data ReportsTypes (m : Module) (infos : List TypeInfo) (old new : List TypeR
       → outcome ≡ record (counts_of m) { written = length m.types } → status ≡ Done → ReportsTypes m infos old new outcome status
   no_memory : LeavesBuffer old new outcome no_outcome → status ≡ OutOfMemory → ReportsTypes m infos old new outcome status
 
--- a call on what words say found the buffer `old` and left `new`, an outcome and a status: the rows of the types of the
+-- a call on a module found the buffer `old` and left `new`, an outcome and a status: the rows of the types of the
 -- module if it is accepted, else its refusal
-pub data ChecksTypes (contents : Contents) (old new : List TypeRow) (outcome : Outcome) (status : Status) : Type 0 where
-  accepted : (infos : List TypeInfo) (lists : ModuleInfoLists) → Accepts full_resolves contents.«module» (settings_in contents) infos lists
-      → ReportsTypes contents.«module» infos old new outcome status → ChecksTypes contents old new outcome status
-  not_accepted : IsNotAccepted contents.«module» (settings_in contents) (LeavesBuffer old new outcome) status → ChecksTypes contents old new outcome status
+pub data ChecksTypes (subject : Subject) (old new : List TypeRow) (outcome : Outcome) (status : Status) : Type 0 where
+  accepted : (infos : List TypeInfo) (lists : ModuleInfoLists) → Accepts full_resolves subject.«module» (settings_in subject) infos lists
+      → ReportsTypes subject.«module» infos old new outcome status → ChecksTypes subject old new outcome status
+  not_accepted : IsNotAccepted subject.«module» (settings_in subject) (LeavesBuffer old new outcome) status → ChecksTypes subject old new outcome status

@@ -4,34 +4,33 @@ use Rattle.naga_ir.specs.declared.ir.Module.{Module}
 use Rattle.naga_valid.specs.State.{Settings}
 use Rattle.naga_valid.specs.declared.error.ValidationError.{ValidationError}
 use Rattle.naga_valid.specs.declared.error.ValidationError.TheVariants.{InvalidHandle, Layouter, Type_, ConstExpression, ArraySizeError, Constant, Override, Corrupted, OutOfMemory}
-use Rattle.naga_words.specs.declared.draft.Contents.{Contents}
-use Rattle.naga_words.specs.declared.reader.WordsError.{WordsError}
-use Rattle.naga_words.specs.declared.reader.WordsError.TheVariants as words
+use Rattle.naga_c.specs.declared.subject.Subject.{Subject}
 use Rattle.naga_c.specs.Refusals.{refusal_of}
 use Rattle.naga_c.specs.declared.results.Outcome.{Outcome}
 use Rattle.naga_c.specs.declared.status.Status.{Status}
+use Rattle.naga_c.specs.declared.subject.NoSubject.{NoSubject}
+use Rattle.naga_c.specs.declared.subject.NoSubject.TheVariants as none
 use Rattle.naga_c.specs.declared.status.Status.TheVariants as status
 
 -- nothing was found out
 abbrev pub no_outcome : Outcome
 no_outcome = record { index = 0; types = 0; functions = 0; entry_points = 0; written = 0; stage = 0; error = 0; cause = 0; expression = 0 }
 
--- what is written of words of which the first that can't be read has the index `at`
-abbrev pub unreadable_at : ℕ → Outcome
-unreadable_at at = record no_outcome { index = at }
-
--- what is written of words that were not read
-abbrev pub unread_outcome : WordsError → Outcome
-unread_outcome (words.Item at) = unreadable_at at
-unread_outcome words.OutOfMemory = no_outcome
+-- what is written by a call that has no module to validate
+abbrev pub outcome_without : NoSubject → Outcome
+outcome_without none.Options = no_outcome
+outcome_without none.Limit = no_outcome
+outcome_without (none.Unreadable at) = record no_outcome { index = at }
+outcome_without none.Settings = no_outcome
+outcome_without none.OutOfMemory = no_outcome
 
 -- how many types, functions and entry points a module has
 abbrev pub counts_of : Module → Outcome
 counts_of m = record no_outcome { types = length m.types; functions = length m.functions; entry_points = length m.entry_points }
 
--- the settings by which the module of words is validated, as they say
-abbrev pub settings_in : Contents → Settings
-settings_in contents = record { flags = contents.flags; capabilities = contents.capabilities; resolved = contents.resolved }
+-- the settings in force
+abbrev pub settings_in : Subject → Settings
+settings_in subject = record { flags = subject.flags; capabilities = subject.capabilities; resolved = subject.resolved }
 
 -- the status of a module that is not accepted
 abbrev pub refused_status : ValidationError → Status

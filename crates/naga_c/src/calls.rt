@@ -10,24 +10,31 @@ ghost use Rattle.std.specs.Prelude.{◌≡◌};
 
 use crate::functions::check_functions;
 use crate::leaves::{Queries, check_leaves};
+use crate::options::Options;
 use crate::results::{Counts, LeafRow, Outcome, TypeRow};
 use crate::slots::check_slots;
-use crate::status::{Status, unread_status};
+use crate::status::{Status, status_without};
+use crate::subject::subject_of_words;
 use crate::types::check_types;
-use crate::verdict::unread_outcome;
-use naga_words::read_words;
+use crate::verdict::outcome_without;
 use std::alloc::Global;
 
 /// Checks the types of words.
-fn words_types(alloc: Global, words: &[u32], infos: &mut [TypeRow], outcome: &mut Outcome) -> Status
-    ensures { OfWords words.now (λ contents. ChecksTypes contents infos.old infos.new outcome.new)
+fn words_types(
+    alloc: Global,
+    words: &[u32],
+    options: &Options,
+    infos: &mut [TypeRow],
+    outcome: &mut Outcome,
+) -> Status
+    ensures { OfWords options.now words.now (λ subject. ChecksTypes subject infos.old infos.new outcome.new)
         (LeavesBuffer infos.old infos.new outcome.new) result }
 {
-    match read_words(alloc, words) {
-        Ok(contents) => check_types(alloc, &contents, infos, outcome),
-        Err(error) => {
-            *outcome = unread_outcome(error);
-            unread_status(error)
+    match subject_of_words(alloc, words, options) {
+        Ok(subject) => check_types(alloc, &subject, infos, outcome),
+        Err(why) => {
+            *outcome = outcome_without(why);
+            status_without(why)
         }
     }
 }
@@ -36,17 +43,18 @@ fn words_types(alloc: Global, words: &[u32], infos: &mut [TypeRow], outcome: &mu
 fn words_functions(
     alloc: Global,
     words: &[u32],
+    options: &Options,
     stages: &mut [u32],
     outcome: &mut Outcome,
 ) -> Status
-    ensures { OfWords words.now (λ contents. ChecksFunctions contents stages.old stages.new outcome.new)
+    ensures { OfWords options.now words.now (λ subject. ChecksFunctions subject stages.old stages.new outcome.new)
         (LeavesBuffer stages.old stages.new outcome.new) result }
 {
-    match read_words(alloc, words) {
-        Ok(contents) => check_functions(alloc, &contents, stages, outcome),
-        Err(error) => {
-            *outcome = unread_outcome(error);
-            unread_status(error)
+    match subject_of_words(alloc, words, options) {
+        Ok(subject) => check_functions(alloc, &subject, stages, outcome),
+        Err(why) => {
+            *outcome = outcome_without(why);
+            status_without(why)
         }
     }
 }
@@ -55,6 +63,7 @@ fn words_functions(
 #[derive(Clone, Copy)]
 struct LeafCall<'a> {
     words: &'a [u32],
+    options: &'a Options,
     types: &'a [u32],
     /// How many elements a runtime-sized array has.
     length: u32,
@@ -69,72 +78,90 @@ fn words_leaves(
     counts: &mut Counts,
 ) -> Status
     ensures { let old = buffers leaves.old paths.old no_counts in let new = buffers leaves.new paths.new counts.new in
-        OfWords call.entry.words.now (λ contents. ChecksLeaves contents call.entry.types.now call.entry.length old new)
+        OfWords call.entry.options.now call.entry.words.now
+        (λ subject. ChecksLeaves subject call.entry.types.now call.entry.length call.entry.options.now.most_leaves
+        old new)
         (λ _. LeavesBuffers old new) result }
 {
     *counts = Counts {
         leaves: 0,
         paths: 0,
     };
-    match read_words(alloc, call.words) {
-        Ok(contents) => {
+    match subject_of_words(alloc, call.words, call.options) {
+        Ok(subject) => {
             let queries = Queries {
-                contents: &contents,
+                subject: &subject,
                 types: call.types,
                 length: call.length,
+                most: call.options.most_leaves,
             };
             check_leaves(alloc, queries, leaves, paths, counts)
         }
-        Err(error) => unread_status(error),
+        Err(why) => status_without(why),
     }
 }
 
+/// What is asked about the slots of a type of words.
+#[derive(Clone, Copy)]
+struct SlotCall<'a> {
+    words: &'a [u32],
+    options: &'a Options,
+    ty: u32,
+    /// The byte from which on a value lies.
+    offset: u32,
+}
+
 /// Writes the slots of a type of words.
-fn words_slots(alloc: Global, words: &[u32], ty: u32, offset: u32, slots: &mut u64) -> Status
-    ensures { OfWords words.now (λ contents. ChecksSlots contents ty offset slots.new) (λ _. slots.new ≡ 0) result }
+fn words_slots(alloc: Global, call: SlotCall<'_>, slots: &mut u64) -> Status
+    ensures { OfWords call.options.now call.words.now
+        (λ subject. ChecksSlots subject call.ty call.offset slots.new) (λ _. slots.new ≡ 0) result }
 {
     *slots = 0;
-    match read_words(alloc, words) {
-        Ok(contents) => check_slots(alloc, &contents, ty, offset, slots),
-        Err(error) => unread_status(error),
+    match subject_of_words(alloc, call.words, call.options) {
+        Ok(subject) => check_slots(alloc, &subject, call.ty, call.offset, slots),
+        Err(why) => status_without(why),
     }
 }
 
 /// Validates a module in words, and writes the info of each type if it is accepted, unless `infos` is empty.
 #[unsafe(no_mangle)]
-pub extern "C" fn naga_check_words(
+pub extern "C" fn naga_check_words_with(
     alloc: Global,
     words: &[u32],
+    options: &Options,
     infos: &mut [TypeRow],
     outcome: &mut Outcome,
 ) -> u32
-    ensures { Returns result (OfWords words.now (λ contents. ChecksTypes contents infos.old infos.new outcome.new)
+    ensures { Returns result (OfWords options.now words.now
+        (λ subject. ChecksTypes subject infos.old infos.new outcome.new)
         (LeavesBuffer infos.old infos.new outcome.new)) }
 {
-    words_types(alloc, words, infos, outcome).code()
+    words_types(alloc, words, options, infos, outcome).code()
 }
 
 /// Validates a module in words and the expressions of its functions and entry points, and writes the stages that may
 /// use each, unless `stages` is empty.
 #[unsafe(no_mangle)]
-pub extern "C" fn naga_check_functions(
+pub extern "C" fn naga_check_functions_with(
     alloc: Global,
     words: &[u32],
+    options: &Options,
     stages: &mut [u32],
     outcome: &mut Outcome,
 ) -> u32
-    ensures { Returns result (OfWords words.now
-        (λ contents. ChecksFunctions contents stages.old stages.new outcome.new)
+    ensures { Returns result (OfWords options.now words.now
+        (λ subject. ChecksFunctions subject stages.old stages.new outcome.new)
         (LeavesBuffer stages.old stages.new outcome.new)) }
 {
-    words_functions(alloc, words, stages, outcome).code()
+    words_functions(alloc, words, options, stages, outcome).code()
 }
 
 /// Validates a module in words, and writes the leaves of types of it. A runtime-sized array has `length` elements.
 #[unsafe(no_mangle)]
-pub extern "C" fn naga_check_leaves(
+pub extern "C" fn naga_check_leaves_with(
     alloc: Global,
     words: &[u32],
+    options: &Options,
     types: &[u32],
     length: u32,
     leaves: &mut [LeafRow],
@@ -142,11 +169,13 @@ pub extern "C" fn naga_check_leaves(
     counts: &mut Counts,
 ) -> u32
     ensures { let old = buffers leaves.old paths.old no_counts in let new = buffers leaves.new paths.new counts.new in
-        Returns result (OfWords words.now (λ contents. ChecksLeaves contents types.now length old new)
+        Returns result (OfWords options.now words.now
+        (λ subject. ChecksLeaves subject types.now length options.now.most_leaves old new)
         (λ _. LeavesBuffers old new)) }
 {
     let call = LeafCall {
         words,
+        options,
         types,
         length,
     };
@@ -156,15 +185,22 @@ pub extern "C" fn naga_check_leaves(
 /// Validates a module in words, and writes the slots of immediate data that a value of a type uses from a byte on, if
 /// hosts may share its values.
 #[unsafe(no_mangle)]
-pub extern "C" fn naga_check_slots(
+pub extern "C" fn naga_check_slots_with(
     alloc: Global,
     words: &[u32],
+    options: &Options,
     ty: u32,
     offset: u32,
     slots: &mut u64,
 ) -> u32
-    ensures { Returns result (OfWords words.now (λ contents. ChecksSlots contents ty offset slots.new)
+    ensures { Returns result (OfWords options.now words.now (λ subject. ChecksSlots subject ty offset slots.new)
         (λ _. slots.new ≡ 0)) }
 {
-    words_slots(alloc, words, ty, offset, slots).code()
+    let call = SlotCall {
+        words,
+        options,
+        ty,
+        offset,
+    };
+    words_slots(alloc, call, slots).code()
 }

@@ -18,7 +18,7 @@ use naga_valid::{
     Callable, ExpressionTag, Flags, FullTyping, FunctionError, FunctionInfo, FunctionTag,
     FunctionsError, Handle, Module, ModuleInfo, ValidationFlags, Validator,
 };
-use naga_words::Contents;
+use crate::subject::Subject;
 use std::alloc::Global;
 
 /// The stages that may use a function or entry point, as bits.
@@ -162,29 +162,29 @@ fn with_constants(flags: ValidationFlags) -> ValidationFlags
 /// A validator of the functions of words. It validates constants also if the words leave them out: the rule of a
 /// division goes through the global expressions that its right operand is made of, and calls itself as deep as these
 /// are nested unless they keep their rules.
-fn validator_of_functions(alloc: Global, contents: &Contents) -> Validator<FullTyping>
-    ensures { result ≡ new_state (with_constants contents.now.flags) contents.now.capabilities result.typing }
+fn validator_of_functions(alloc: Global, subject: &Subject) -> Validator<FullTyping>
+    ensures { result ≡ new_state (with_constants subject.now.flags) subject.now.capabilities result.typing }
 {
-    let flags = with_constants(contents.flags);
-    Validator::with_typing(alloc, flags, contents.capabilities, FullTyping)
+    let flags = with_constants(subject.flags);
+    Validator::with_typing(alloc, flags, subject.capabilities, FullTyping)
 }
 
 /// Checks the functions of an accepted module.
 fn report_functions(
     validator: &Validator<FullTyping>,
-    contents: &Contents,
+    subject: &Subject,
     info: &mut ModuleInfo,
     stages: &mut [u32],
     outcome: &mut Outcome,
 ) -> Status
-    requires capabilities { validator.now.capabilities ≡ contents.now.capabilities }
-    requires subgroups { validator.now.subgroup_stages ≡ record { 0 = stages_with contents.now.capabilities.0 } }
-    requires accepted { Accepts full_resolves contents.now.«module» (settings_of validator.now contents.now.resolved)
+    requires capabilities { validator.now.capabilities ≡ subject.now.capabilities }
+    requires subgroups { validator.now.subgroup_stages ≡ record { 0 = stages_with subject.now.capabilities.0 } }
+    requires accepted { Accepts full_resolves subject.now.«module» (settings_of validator.now subject.now.resolved)
         validator.now.infos info.old.lists }
-    ensures { ReportsFunctions contents.now info.old.lists stages.old stages.new outcome.new result }
+    ensures { ReportsFunctions subject.now info.old.lists stages.old stages.new outcome.new result }
 {
-    let module = &contents.module;
-    match validator.validate_functions(module, info, contents.resolved) {
+    let module = &subject.module;
+    match validator.validate_functions(module, info, subject.resolved) {
         Ok(()) => report_all(module, info, stages, outcome),
         Err(refused) => report_refused(module, info, &refused, stages, outcome),
     }
@@ -193,18 +193,18 @@ fn report_functions(
 /// Checks the functions of words that were read.
 pub(crate) fn check_functions(
     alloc: Global,
-    contents: &Contents,
+    subject: &Subject,
     stages: &mut [u32],
     outcome: &mut Outcome,
 ) -> Status
-    ensures { ChecksFunctions contents.now stages.old stages.new outcome.new result }
+    ensures { ChecksFunctions subject.now stages.old stages.new outcome.new result }
 {
-    let mut validator = validator_of_functions(alloc, contents);
-    match validate(&mut validator, contents) {
-        Ok(mut info) => report_functions(&validator, contents, &mut info, stages, outcome),
+    let mut validator = validator_of_functions(alloc, subject);
+    match validate(&mut validator, subject) {
+        Ok(mut info) => report_functions(&validator, subject, &mut info, stages, outcome),
         Err(error) => {
             let inner = error.as_inner();
-            *outcome = refused_outcome(&contents.module, inner);
+            *outcome = refused_outcome(&subject.module, inner);
             refused_status(inner)
         }
     }

@@ -11,16 +11,18 @@ use crate::results::{Counts, LeafRow};
 use crate::status::Status;
 use crate::verdict::{refused_status, validate, validator_for};
 use naga_valid::{Handle, Leaf, Module, TypeTag, leaves_of};
-use naga_words::Contents;
+use crate::subject::Subject;
 use std::alloc::Global;
 
-/// The types whose leaves are asked for, of what words say.
+/// The types of a module whose leaves are asked for.
 #[derive(Clone, Copy)]
 pub struct Queries<'a> {
-    pub contents: &'a Contents,
+    pub subject: &'a Subject,
     pub types: &'a [u32],
     /// How many elements a runtime-sized array has.
     pub length: u32,
+    /// The most leaves that may be written.
+    pub most: u64,
 }
 
 /// One type whose leaves are asked for.
@@ -32,6 +34,8 @@ struct Query<'a> {
     length: u32,
     /// Its place among the types that are asked about.
     place: u32,
+    /// The most leaves that may be written.
+    most: u64,
 }
 
 /// A leaf that a cursor came to.
@@ -87,13 +91,16 @@ fn write_leaves(
 ) -> Status
     requires exists { query.ty < length query.«module».now.types }
     requires references { GlobalReferencesOk (global_lists query.«module».now) }
-    ensures { WritesType query.entry.«module».now query.entry.length query.entry.ty query.entry.place
+    ensures { WritesType query.entry.«module».now query.entry.length query.entry.ty query.entry.most query.entry.place
         (buffers leaves.old paths.old counts.old) (buffers leaves.new paths.new counts.new) result }
 {
     let mut cursor = leaves_of(alloc, query.module, query.ty, query.length);
     'leaves: loop {
         match cursor.next() {
             Ok(Some(leaf)) => {
+                if counts.leaves >= query.most {
+                    return Status::Limit;
+                }
                 let visited = LeafAt {
                     place: query.place,
                     leaf,
@@ -131,11 +138,11 @@ fn write_all(
     paths: &mut [u32],
     counts: &mut Counts,
 ) -> Status
-    requires { GlobalReferencesOk (global_lists queries.contents.now.«module») }
-    ensures { WritesAll queries.entry.contents.now.«module» queries.entry.types.now queries.entry.length
+    requires { GlobalReferencesOk (global_lists queries.subject.now.«module») }
+    ensures { WritesAll queries.entry.subject.now.«module» queries.entry.types.now queries.entry.length queries.entry.most
         (buffers leaves.old paths.old counts.old) (buffers leaves.new paths.new counts.new) result }
 {
-    let module = &queries.contents.module;
+    let module = &queries.subject.module;
     if !has_types(module, queries.types) {
         return Status::NoType;
     }
@@ -148,6 +155,7 @@ fn write_all(
             ty: Handle::new(*ty),
             length: queries.length,
             place,
+            most: queries.most,
         };
         match write_leaves(alloc, query, leaves, paths, counts) {
             Status::Done => {}
@@ -157,7 +165,7 @@ fn write_all(
     Status::Done
 }
 
-/// Writes the leaves of types of words that were read.
+/// Writes the leaves of types of a module.
 pub(crate) fn check_leaves(
     alloc: Global,
     queries: Queries<'_>,
@@ -166,11 +174,11 @@ pub(crate) fn check_leaves(
     counts: &mut Counts,
 ) -> Status
     requires { counts.old ≡ no_counts }
-    ensures { ChecksLeaves queries.entry.contents.now queries.entry.types.now queries.entry.length
+    ensures { ChecksLeaves queries.entry.subject.now queries.entry.types.now queries.entry.length queries.entry.most
         (buffers leaves.old paths.old counts.old) (buffers leaves.new paths.new counts.new) result }
 {
-    let mut validator = validator_for(alloc, queries.contents);
-    match validate(&mut validator, queries.contents) {
+    let mut validator = validator_for(alloc, queries.subject);
+    match validate(&mut validator, queries.subject) {
         Ok(_) => write_all(alloc, queries, leaves, paths, counts),
         Err(error) => refused_status(error.as_inner()),
     }

@@ -1,15 +1,15 @@
 //! The call on slots of immediate data.
 
-ghost use Rattle.naga_c.specs.Slots.{AreSlotsOf, ChecksSlots, IsShareable};
+ghost use Rattle.naga_c.specs.Slots.{AreSlotsOf, ChecksSlots, HasNoSlots, IsShareable};
 ghost use Rattle.naga_ir.specs.Handles.{GlobalReferencesOk};
 ghost use Rattle.naga_ir.specs.ItemReferences.{global_lists};
-ghost use Rattle.std.specs.Prelude.{◌≡◌, MatchOption, length};
+ghost use Rattle.std.specs.Prelude.{◌≡◌, IfErr, IfOk, length};
 
 use crate::status::Status;
 use crate::verdict::{refused_status, validate, validator_for};
 use naga_typing::context::to_ctx;
 use naga_valid::{Flags, FullTyping, Handle, ImmediateSlots, Module, TypeFlags, Validator};
-use naga_words::Contents;
+use crate::subject::Subject;
 use std::alloc::Global;
 
 /// The slots that a value of a type of an accepted module uses from a byte on, if the module has the type and hosts may
@@ -20,14 +20,15 @@ fn slots_of(
     validator: &Validator<FullTyping>,
     ty: u32,
     offset: u32,
-) -> Option<ImmediateSlots>
+) -> Result<ImmediateSlots, Status>
     requires same_length { length validator.now.infos ≡ length «module».now.types }
     requires references { GlobalReferencesOk (global_lists «module».now) }
-    ensures { MatchOption result (¬ (IsShareable validator.now.infos ty))
+    ensures found { IfOk result
         (λ slots. IsShareable validator.now.infos ty × AreSlotsOf «module».now ty offset slots) }
+    ensures none { IfErr result (HasNoSlots validator.now.infos ty) }
 {
     if ty as usize >= module.types.len() {
-        return None;
+        return Err(Status::NoType);
     }
     let handle = Handle::new(ty);
     if !validator
@@ -35,31 +36,31 @@ fn slots_of(
         .flags
         .contains(TypeFlags::HOST_SHAREABLE)
     {
-        return None;
+        return Err(Status::NotShareable);
     }
     let inner = &module.types[handle].inner;
-    Some(ImmediateSlots::from_type(inner, offset, &module.types, to_ctx(module)))
+    Ok(ImmediateSlots::from_type(inner, offset, &module.types, to_ctx(module)))
 }
 
-/// Writes the slots of a type of words that were read.
+/// Writes the slots of a type.
 pub(crate) fn check_slots(
     alloc: Global,
-    contents: &Contents,
+    subject: &Subject,
     ty: u32,
     offset: u32,
     slots: &mut u64,
 ) -> Status
     requires { slots.old ≡ 0 }
-    ensures { ChecksSlots contents.now ty offset slots.new result }
+    ensures { ChecksSlots subject.now ty offset slots.new result }
 {
-    let mut validator = validator_for(alloc, contents);
-    match validate(&mut validator, contents) {
-        Ok(_) => match slots_of(&contents.module, &validator, ty, offset) {
-            Some(used) => {
+    let mut validator = validator_for(alloc, subject);
+    match validate(&mut validator, subject) {
+        Ok(_) => match slots_of(&subject.module, &validator, ty, offset) {
+            Ok(used) => {
                 *slots = used.to_raw();
                 Status::Done
             }
-            None => Status::NoType,
+            Err(status) => status,
         },
         Err(error) => refused_status(error.as_inner()),
     }

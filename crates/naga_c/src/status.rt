@@ -1,10 +1,10 @@
 //! What calls return.
 
-ghost use Rattle.naga_c.specs.Statuses.{code, status_of, unread_status};
+ghost use Rattle.naga_c.specs.Statuses.{code, status_of, status_without};
 ghost use Rattle.std.specs.Prelude.{◌≡◌};
 
+use crate::subject::NoSubject;
 use naga_report::report;
-use naga_words::WordsError;
 
 /// What a call returns.
 #[derive(Clone, Copy, Debug, PartialEq, Eq)]
@@ -21,6 +21,14 @@ pub enum Status {
     Room,
     /// The module has no type of an index that was asked about.
     NoType,
+    /// There are more words, items or leaves than the options allow.
+    Limit,
+    /// A field of the options has a value that means nothing to this version.
+    Options,
+    /// Settings come with the module, and the options don't allow that.
+    Settings,
+    /// Hosts may not share values of the type that was asked about.
+    NotShareable,
 }
 
 impl Status {
@@ -35,6 +43,10 @@ impl Status {
             Status::OutOfMemory => 3,
             Status::Room => 4,
             Status::NoType => 5,
+            Status::Limit => 6,
+            Status::Options => 7,
+            Status::Settings => 8,
+            Status::NotShareable => 9,
         }
     }
 }
@@ -50,12 +62,15 @@ pub(crate) fn status_of(outcome: report::Outcome) -> Status
     }
 }
 
-/// The status of words that were not read.
-pub(crate) fn unread_status(error: WordsError) -> Status
-    ensures { result ≡ unread_status error }
+/// The status of a call that has no module to validate.
+pub(crate) fn status_without(why: NoSubject) -> Status
+    ensures { result ≡ status_without why }
 {
-    match error {
-        WordsError::Item(_) => Status::Unreadable,
-        WordsError::OutOfMemory => Status::OutOfMemory,
+    match why {
+        NoSubject::Options => Status::Options,
+        NoSubject::Limit => Status::Limit,
+        NoSubject::Unreadable(_) => Status::Unreadable,
+        NoSubject::Settings => Status::Settings,
+        NoSubject::OutOfMemory => Status::OutOfMemory,
     }
 }

@@ -1,19 +1,62 @@
-//! The call on a text.
+//! The calls on a text.
 
+ghost use Rattle.naga_c.specs.Calls.{LeavesBuffer, OfText};
 ghost use Rattle.naga_c.specs.Statuses.{Returns};
 ghost use Rattle.naga_c.specs.Text.{IsReported};
+ghost use Rattle.naga_c.specs.Types.{ChecksTypes};
 ghost use Rattle.std.specs.Prelude.{◌≡◌};
 
-use crate::status::{Status, status_of};
+use crate::options::Options;
+use crate::results::{Outcome, TypeRow};
+use crate::status::{Status, status_of, status_without};
+use crate::subject::subject_of_text;
+use crate::types::check_types;
+use crate::verdict::outcome_without;
 use naga_report::report::make_report;
 use std::alloc::Global;
 
 /// The version of this interface.
 #[unsafe(no_mangle)]
 pub extern "C" fn naga_check_abi_version() -> u32
-    ensures { result ≡ 1 }
+    ensures { result ≡ 2 }
 {
-    1
+    2
+}
+
+/// Checks the types of a text.
+fn text_types(
+    alloc: Global,
+    text: &[u8],
+    options: &Options,
+    infos: &mut [TypeRow],
+    outcome: &mut Outcome,
+) -> Status
+    ensures { OfText options.now text.now (λ subject. ChecksTypes subject infos.old infos.new outcome.new)
+        (LeavesBuffer infos.old infos.new outcome.new) result }
+{
+    match subject_of_text(alloc, text, options) {
+        Ok(subject) => check_types(alloc, &subject, infos, outcome),
+        Err(why) => {
+            *outcome = outcome_without(why);
+            status_without(why)
+        }
+    }
+}
+
+/// Validates a module in a text, and writes the info of each type if it is accepted, unless `infos` is empty.
+#[unsafe(no_mangle)]
+pub extern "C" fn naga_check_text_with(
+    alloc: Global,
+    text: &[u8],
+    options: &Options,
+    infos: &mut [TypeRow],
+    outcome: &mut Outcome,
+) -> u32
+    ensures { Returns result (OfText options.now text.now
+        (λ subject. ChecksTypes subject infos.old infos.new outcome.new)
+        (LeavesBuffer infos.old infos.new outcome.new)) }
+{
+    text_types(alloc, text, options, infos, outcome).code()
 }
 
 /// Writes the report on a text and its length, or its length alone if it is longer than the buffer.
@@ -36,7 +79,7 @@ fn report_text(alloc: Global, text: &[u8], report: &mut [u8], length: &mut usize
 /// Writes the report on a text, as the program does, and its length. If the report is longer than the buffer, only its
 /// length is written.
 #[unsafe(no_mangle)]
-pub extern "C" fn naga_check_text(
+pub extern "C" fn naga_check_report_with(
     alloc: Global,
     text: &[u8],
     report: &mut [u8],

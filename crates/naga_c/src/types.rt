@@ -14,7 +14,7 @@ use crate::verdict::{counts_of, refused_outcome, refused_status, validate, valid
 use naga_typing::context::to_ctx;
 use naga_typing::layouter::{Layouter, TypeLayout};
 use naga_valid::{Flags, FullTyping, Handle, LayoutCompatibility, Module, TypeInfo, Validator};
-use naga_words::Contents;
+use crate::subject::Subject;
 use std::alloc::Global;
 
 /// The alignment of a layout, or 0 if there is none.
@@ -99,18 +99,18 @@ fn report_types(
 /// Checks the module of words that were read.
 pub(crate) fn check_types(
     alloc: Global,
-    contents: &Contents,
+    subject: &Subject,
     rows: &mut [TypeRow],
     outcome: &mut Outcome,
 ) -> Status
-    ensures { ChecksTypes contents.now rows.old rows.new outcome.new result }
+    ensures { ChecksTypes subject.now rows.old rows.new outcome.new result }
 {
-    let mut validator = validator_for(alloc, contents);
-    match validate(&mut validator, contents) {
-        Ok(_) => report_types(alloc, &contents.module, &validator, rows, outcome),
+    let mut validator = validator_for(alloc, subject);
+    match validate(&mut validator, subject) {
+        Ok(_) => report_types(alloc, &subject.module, &validator, rows, outcome),
         Err(error) => {
             let inner = error.as_inner();
-            *outcome = refused_outcome(&contents.module, inner);
+            *outcome = refused_outcome(&subject.module, inner);
             refused_status(inner)
         }
     }

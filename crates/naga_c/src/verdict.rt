@@ -1,4 +1,4 @@
-//! The verdict on a module in words.
+//! The verdict on what a call validates.
 
 ghost use Rattle.naga_arena.specs.Memory.{UnlessOutOfMemory};
 ghost use Rattle.naga_arena.specs.Span.{inner_of};
@@ -15,20 +15,23 @@ ghost use Rattle.std.specs.Prelude.{◌≡◌, OnOk};
 use crate::codes::refusal_of;
 use crate::results::Outcome;
 use crate::status::Status;
+use crate::subject::{NoSubject, Subject};
 use naga_valid::{FullTyping, Module, ModuleInfo, ValidationError, Validator, WithSpan};
-use naga_words::{Contents, WordsError};
 use std::alloc::Global;
 
-/// What is written of words that were not read.
-pub(crate) fn unread_outcome(error: WordsError) -> Outcome
-    ensures { result ≡ spec.unread_outcome error }
+/// What is written by a call that has no module to validate.
+pub(crate) fn outcome_without(why: NoSubject) -> Outcome
+    ensures { result ≡ spec.outcome_without why }
 {
-    match error {
-        WordsError::Item(at) => Outcome {
+    match why {
+        NoSubject::Unreadable(at) => Outcome {
             index: at as u64,
             ..Outcome::default()
         },
-        WordsError::OutOfMemory => Outcome::default(),
+        NoSubject::Options
+        | NoSubject::Limit
+        | NoSubject::Settings
+        | NoSubject::OutOfMemory => Outcome::default(),
     }
 }
 
@@ -44,30 +47,30 @@ pub(crate) fn counts_of(module: &Module) -> Outcome
     }
 }
 
-/// A validator for what words say, which resolves the types of all expressions that functions have.
-pub(crate) fn validator_for(alloc: Global, contents: &Contents) -> Validator<FullTyping>
-    ensures { result ≡ new_state contents.now.flags contents.now.capabilities result.typing }
+/// A validator by the settings in force, which resolves the types of all expressions that functions have.
+pub(crate) fn validator_for(alloc: Global, subject: &Subject) -> Validator<FullTyping>
+    ensures { result ≡ new_state subject.now.flags subject.now.capabilities result.typing }
 {
-    Validator::with_typing(alloc, contents.flags, contents.capabilities, FullTyping)
+    Validator::with_typing(alloc, subject.flags, subject.capabilities, FullTyping)
 }
 
-/// Validates the module of words as they say.
+/// Validates a module by the settings in force.
 pub(crate) fn validate(
     validator: &mut Validator<FullTyping>,
-    contents: &Contents,
+    subject: &Subject,
 ) -> Result<ModuleInfo, WithSpan<ValidationError>>
     ensures result { UnlessOutOfMemory (λ e. inner_of e ≡ error.OutOfMemory) result
-        (λ info. Accepts full_resolves contents.now.«module» (settings_of validator.old contents.now.resolved)
+        (λ info. Accepts full_resolves subject.now.«module» (settings_of validator.old subject.now.resolved)
         validator.new.infos info.lists)
-        (λ e. Refuses full_resolves contents.now.«module» (settings_of validator.old contents.now.resolved)
+        (λ e. Refuses full_resolves subject.now.«module» (settings_of validator.old subject.now.resolved)
         (inner_of e)) }
-    ensures references { OnOk result (GlobalReferencesOk (global_lists contents.now.«module»)) }
+    ensures references { OnOk result (GlobalReferencesOk (global_lists subject.now.«module»)) }
     ensures settings { validator.new ≡ record validator.old { infos = validator.new.infos } }
 {
-    if contents.resolved {
-        validator.validate_resolved_overrides(&contents.module)
+    if subject.resolved {
+        validator.validate_resolved_overrides(&subject.module)
     } else {
-        validator.validate(&contents.module)
+        validator.validate(&subject.module)
     }
 }
 

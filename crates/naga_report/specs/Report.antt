@@ -1,6 +1,7 @@
 -- What is reported of a text.
 use Rattle.std.specs.Fmt.{digit_glyph}
-use Rattle.std.specs.Prelude.{◌≡◌, ◌⊎◌, ℕ, ◌+◌, ◌/◌, ◌%◌, false, List, [], ◌∷◌, ◌++◌, Result, Ok, Err, codes, decimal}
+use Rattle.std.specs.Prelude.{◌≡◌, ◌⊎◌, ℕ, ◌+◌, ◌/◌, ◌%◌, false, List, [], ◌∷◌, ◌++◌, Result, Ok, Err, codes, decimal, unwrap_or}
+use Rattle.naga_flags.specs.Bits.{all_validation_flags, default_capabilities}
 use Rattle.naga_types.specs.declared.error.Disalignment.{Disalignment}
 use Rattle.naga_types.specs.declared.info.TypeInfo.{TypeInfo}
 use Rattle.naga_handles.specs.ErrorNames.{handle_error_name}
@@ -66,9 +67,13 @@ refused_text NoMemory = refused_memory_text
 abbrev pub unreadable_text : ℕ → List ℕ
 unreadable_text n = codes "line " ++ (decimal n ++ codes " not readable\n")
 
--- the settings by which the module of a text is validated
+-- the settings by which the module of a text is validated: those that it says, or the defaults
 abbrev pub settings_in : Contents → Settings
-settings_in contents = record { flags = contents.flags; capabilities = contents.capabilities; resolved = contents.resolved }
+settings_in contents = record {
+  flags = unwrap_or contents.flags (record { 0 = all_validation_flags });
+  capabilities = unwrap_or contents.capabilities (record { 0 = default_capabilities });
+  resolved = contents.resolved;
+}
 
 -- `text` is a report on `contents`, of the kind of the outcome
 abbrev pub IsReportOn : Contents → List ℕ → Outcome → Type 0

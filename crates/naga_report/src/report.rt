@@ -159,7 +159,8 @@ fn validate(
 fn report_contents(alloc: Global, contents: &Contents) -> Result<Report, AllocError>
     ensures { IfOk result (λ report. IsReportOn contents.now (string_bytes report.text) report.outcome) }
 {
-    let mut validator = Validator::new(alloc, contents.flags, contents.capabilities);
+    let flags = contents.flags.unwrap_or_default();
+    let mut validator = Validator::new(alloc, flags, contents.capabilities.unwrap_or_default());
     match validate(&mut validator, contents) {
         Ok(_) => Ok(Report {
             text: report_accepted(alloc, &contents.module, &validator)?,

@@ -190,7 +190,8 @@ fn validate_twice(
     contents: &Contents,
     right: Verdict,
 ) -> Result<(), Wrong> {
-    let mut validator = Validator::new(alloc, contents.flags, contents.capabilities);
+    let flags = contents.flags.unwrap_or_default();
+    let mut validator = Validator::new(alloc, flags, contents.capabilities.unwrap_or_default());
     let first = is_out_of_memory(&mut validator, contents, right)?;
     let second = is_out_of_memory(&mut validator, contents, right)?;
     check(!(first && second), "memory is refused twice\n")?;

@@ -2,7 +2,6 @@
 use Rattle.std.specs.List.{AllZip}
 use Rattle.std.specs.Prelude.{◌≡◌, ◌==◌, ℕ, ◌<◌, ◌≤◌, Bool, true, false, not, List, [], ◌∷◌, Option, Some, None, length, map, filter, filter_map, slice_get, take, unwrap_or}
 use Rattle.naga_arena.specs.Numbers.{largest_u32}
-use Rattle.naga_flags.specs.Bits.{all_validation_flags, default_capabilities}
 use Rattle.naga_flags.specs.declared.flags.Capabilities.{Capabilities as CapabilitySet}
 use Rattle.naga_flags.specs.declared.flags.ValidationFlags.{ValidationFlags}
 use Rattle.naga_ir.specs.declared.expression.Expression.{Expression as ExpressionType}
@@ -133,12 +132,12 @@ module_of lines = record {
   doc_comments = record { «module» = []; types = []; struct_members = filter_map comment_in lines; entry_points = []; functions = []; constants = []; global_variables = [] };
 }
 
--- what lines say together: the module that they describe, and each setting, or its default
+-- what lines say together: the module that they describe, and each setting that one of them sets
 abbrev pub contents_of : List Line → Contents
 contents_of lines = record {
   «module» = module_of lines;
-  flags = unwrap_or (first_in flags_in lines) (record { 0 = all_validation_flags });
-  capabilities = unwrap_or (first_in capabilities_in lines) (record { 0 = default_capabilities });
+  flags = first_in flags_in lines;
+  capabilities = first_in capabilities_in lines;
   resolved = unwrap_or (first_in resolved_in lines) false;
 }
 

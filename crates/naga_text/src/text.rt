@@ -31,17 +31,18 @@ use std::alloc::{AllocError, Global};
 /// The number of items for which an arena has room.
 const MOST_ITEMS: usize = u32::MAX as usize;
 
-/// What a text says: a module, and how it is validated.
+/// What a text says: a module, and settings by which it is validated. Who takes the text of a stranger decides what
+/// the settings are worth.
 #[derive(Drop)]
 pub struct Contents {
     /// The types, global expressions, constants and overrides that the text describes, each in its order,
     /// without names and with the undefined span, and its comments on members. It has nothing else.
     pub module: Module,
-    /// Which parts of the module are validated: all, unless a line says otherwise.
-    pub flags: ValidationFlags,
-    /// What the module may use: the default, unless a line says otherwise.
-    pub capabilities: Capabilities,
-    /// Whether overrides have to have their values.
+    /// Which parts of the module are validated, if a line says so.
+    pub flags: Option<ValidationFlags>,
+    /// What the module may use, if a line says so.
+    pub capabilities: Option<Capabilities>,
+    /// Whether a line says that overrides have to have their values.
     pub resolved: bool,
 }
 
@@ -103,14 +104,14 @@ impl ContentsSoFar {
         }
     }
 
-    /// The contents, with the default of each setting that was not set.
+    /// The contents.
     fn finish(self) -> Contents
         ensures { result ≡ finished self }
     {
         Contents {
             module: self.module,
-            flags: self.flags.unwrap_or_default(),
-            capabilities: self.capabilities.unwrap_or_default(),
+            flags: self.flags,
+            capabilities: self.capabilities,
             resolved: self.resolved.unwrap_or_default(),
         }
     }

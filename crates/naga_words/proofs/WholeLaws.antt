@@ -2,7 +2,6 @@
 use Rattle.std.proofs.Common.{◌≡◌, ℕ, suc, ◌+◌, ◌<◌, ◌≤◌, ◌^◌, List, [], ◌∷◌, ◌++◌, Option, None, Some, append_assoc, append-nil, arith, length, map, refl, sym, ap, ◌∙◌, subst}
 use Rattle.std.specs.Prelude.{false, unwrap_or}
 use Rattle.naga_arena.specs.Numbers.{largest_u32}
-use Rattle.naga_flags.specs.Bits.{all_validation_flags, default_capabilities}
 use Rattle.naga_ir.specs.declared.ir.Module.{Module}
 use Rattle.naga_ir.specs.declared.ir.SpecialTypes.{SpecialTypes}
 use Rattle.naga_words.specs.Bodies.{IsBody}
@@ -41,8 +40,8 @@ closed_says items d h = record {
     «module» = (ap (λ (m : Module). record m { special_types = with_special_types d.special_types m.special_types; functions = d.«module».functions; entry_points = d.«module».entry_points }) h.said.module_is
         ∙ ap (λ (special : SpecialTypes). record (module_of (all_said items) d.«module».functions d.«module».entry_points) { special_types = special }) (special_set d.special_types (all_said items).predeclared_types)
         ∙ ap (λ (o : Option (Option ℕ × Option ℕ × Option ℕ)). record (module_of (all_said items) d.«module».functions d.«module».entry_points) { special_types = special_types_of o (all_said items).predeclared_types }) h.said.special_types_are) j;
-    flags = unwrap_or (h.said.flags_are j) (record { 0 = all_validation_flags });
-    capabilities = unwrap_or (h.said.capabilities_are j) (record { 0 = default_capabilities });
+    flags = h.said.flags_are j;
+    capabilities = h.said.capabilities_are j;
     resolved = unwrap_or (h.said.resolved_is j) false;
   };
 }

@@ -2,7 +2,6 @@
 use Rattle.std.specs.List.{AllZip}
 use Rattle.std.specs.Prelude.{◌≡◌, ℕ, ◌<◌, ◌≤◌, ◌+◌, ◌*◌, false, List, [], ◌∷◌, ◌++◌, Option, None, Some, drop, length, slice_get, take, unwrap_or}
 use Rattle.naga_arena.specs.Numbers.{largest_u32}
-use Rattle.naga_flags.specs.Bits.{all_validation_flags, default_capabilities}
 use Rattle.naga_ir.specs.Distinct.{AllDistinct}
 use Rattle.naga_ir.specs.declared.ir.EntryPoint.{EntryPoint as EntryPointType}
 use Rattle.naga_ir.specs.declared.ir.Function.{Function as FunctionType}
@@ -140,8 +139,8 @@ pub record Say (items : List Item) (contents : Contents) : Type 0 where
   pub entry_points : AllZip IsEntryPointOf (entry_points_in (sections items).1) contents.«module».entry_points
   pub contents_are : contents ≡ record {
     «module» = module_of (all_said items) contents.«module».functions contents.«module».entry_points;
-    flags = unwrap_or (first_of (all_said items).flags) (record { 0 = all_validation_flags });
-    capabilities = unwrap_or (first_of (all_said items).capabilities) (record { 0 = default_capabilities });
+    flags = first_of (all_said items).flags;
+    capabilities = first_of (all_said items).capabilities;
     resolved = unwrap_or (first_of (all_said items).resolved) false;
   }
 

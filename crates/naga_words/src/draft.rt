@@ -25,16 +25,17 @@ use naga_ir::types::Type;
 use naga_ir::unique_arena::UniqueArena;
 use std::alloc::Global;
 
-/// What words say: a module, and how it is validated.
+/// What words say: a module, and settings by which it is validated. Who takes words of a stranger decides what the
+/// settings are worth.
 #[derive(Drop)]
 pub struct Contents {
     /// What the items describe, each kind in its order, with undefined spans.
     pub module: Module,
-    /// Which parts of the module are validated: all, unless an item says otherwise.
-    pub flags: ValidationFlags,
-    /// What the module may use: the default, unless an item says otherwise.
-    pub capabilities: Capabilities,
-    /// Whether overrides have to have their values.
+    /// Which parts of the module are validated, if an item says so.
+    pub flags: Option<ValidationFlags>,
+    /// What the module may use, if an item says so.
+    pub capabilities: Option<Capabilities>,
+    /// Whether an item says that overrides have to have their values.
     pub resolved: bool,
 }
 
@@ -219,8 +220,8 @@ impl Draft {
         set_special_types(&mut module.special_types, special_types);
         Contents {
             module,
-            flags: flags.unwrap_or_default(),
-            capabilities: capabilities.unwrap_or_default(),
+            flags,
+            capabilities,
             resolved: resolved.unwrap_or_default(),
         }
     }

@@ -3,7 +3,6 @@
 
 use super::{assert_same, assert_same_for, with_text};
 use bitflags::Flags;
-use naga_flags::flags::{Capabilities, ValidationFlags};
 use naga_ir::ir::Module;
 use naga_text::text::read_text;
 use std::alloc::{AllocError, Global};
@@ -292,20 +291,17 @@ fn items_are_as_written(rt: HostRuntime) -> Result<(), Fail> {
     Ok(())
 }
 
-/// The flags, the capabilities and whether overrides must have their values, as a text gives them.
-fn settings(rt: &(impl AllocGlobal + Abort), text: &str) -> (ValidationFlags, Capabilities, bool) {
+/// The bits of the flags and of the capabilities that a text gives, and whether overrides must have their values.
+fn settings(rt: &(impl AllocGlobal + Abort), text: &str) -> (Option<u8>, Option<u64>, bool) {
     let contents = read_text(rt.alloc(), text.as_bytes()).expect(rt, "readable");
-    (contents.flags, contents.capabilities, contents.resolved)
+    let flags = contents.flags.map(|flags| flags.bits());
+    let capabilities = contents.capabilities.map(|capabilities| capabilities.bits());
+    (flags, capabilities, contents.resolved)
 }
 
 #[test]
 fn settings_are_as_given(rt: HostRuntime) {
-    let default = (ValidationFlags::default(), Capabilities::default(), false);
-    assert_same(&rt, &settings(&rt, ""), &default);
+    assert_same(&rt, &settings(&rt, ""), &(None, None, false));
     let given = settings(&rt, "caps 5\nresolved\nflags 3");
-    assert_same(
-        &rt,
-        &(given.0.bits(), given.1.bits(), given.2),
-        &(3, 5, true),
-    );
+    assert_same(&rt, &given, &(Some(3), Some(5), true));
 }

@@ -1,7 +1,6 @@
 -- What the reader of a text has read so far, one line more at a time.
 use Rattle.std.specs.Prelude.{◌≡◌, ℕ, ◌<◌, ◌≤◌, Bool, true, false, List, [], ◌∷◌, ◌++◌, Option, Some, None, Result, Ok, Err, length, unwrap_or, Contains, MatchBool, MatchOption, ⊤}
 use Rattle.naga_arena.specs.Numbers.{largest_u32}
-use Rattle.naga_flags.specs.Bits.{all_validation_flags, default_capabilities}
 use Rattle.naga_ir.specs.declared.types.«Type».{«Type»}
 use Rattle.naga_ir.specs.declared.types.TypeInner.{TypeInner}
 use Rattle.naga_text.specs.Text.{AreConsistent, AreForms, IsFirstUnreadable, IsReadable, IsText, capabilities_in, first_in, flags_in, module_of, resolved_in}
@@ -39,12 +38,12 @@ so_far said = record {
   resolved = first_in resolved_in said;
 }
 
--- the contents, with the default of each setting that was not set
+-- the contents: overrides don't have to have their values unless that was said
 abbrev pub finished : ContentsSoFar → Contents
 finished read = record {
   «module» = read.«module»;
-  flags = unwrap_or read.flags (record { 0 = all_validation_flags });
-  capabilities = unwrap_or read.capabilities (record { 0 = default_capabilities });
+  flags = read.flags;
+  capabilities = read.capabilities;
   resolved = unwrap_or read.resolved false;
 }
 

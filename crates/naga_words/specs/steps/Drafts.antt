@@ -2,7 +2,6 @@
 use Rattle.std.specs.List.{AllZip}
 use Rattle.std.specs.Prelude.{◌≡◌, ℕ, ◌≤◌, List, [], ◌∷◌, ◌++◌, Option, None, Some, false, length, unwrap_or, ⊤}
 use Rattle.naga_arena.specs.Numbers.{largest_u32}
-use Rattle.naga_flags.specs.Bits.{all_validation_flags, default_capabilities}
 use Rattle.naga_ir.specs.declared.ir.DocComments.{DocComments}
 use Rattle.naga_ir.specs.declared.ir.EntryPoint.{EntryPoint as EntryPointType}
 use Rattle.naga_ir.specs.declared.ir.Function.{Function as FunctionType}
@@ -33,8 +32,8 @@ with_special_types (Some set) special = special_types_of (Some set) special.othe
 abbrev pub contents_of : Draft → Contents
 contents_of d = record {
   «module» = record (d.«module») { special_types = with_special_types d.special_types d.«module».special_types };
-  flags = unwrap_or d.flags (record { 0 = all_validation_flags });
-  capabilities = unwrap_or d.capabilities (record { 0 = default_capabilities });
+  flags = d.flags;
+  capabilities = d.capabilities;
   resolved = unwrap_or d.resolved false;
 }
 

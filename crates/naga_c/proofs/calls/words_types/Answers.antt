@@ -1,10 +1,8 @@
-use Rattle.std.proofs.Common.{refl}
-use Rattle.naga_c.specs.Calls.{read}
-use Rattle.naga_c.proofs.CallLaws.{not_read}
+use Rattle.std.proofs.Common.{Err, Ok, refl}
 use Rattle.naga_c.proofs.calls.words_types.Goals as goal
 
 pub returns-in-Ok : goal.returns-in-Ok
-returns-in-Ok c = read c.in-Ok.contents c.in-Ok.ensures.words c.check_types.ensures
+returns-in-Ok c = (Ok c.in-Ok.subject, c.in-Ok.ensures, c.check_types.ensures)
 
 pub returns-in-Err : goal.returns-in-Err
-returns-in-Err c = not_read c.args.words.now _ _ c.in-Err.error _ c.in-Err.ensures.words (refl, c.unread_outcome.ensures) c.unread_status.ensures
+returns-in-Err c = (Err c.in-Err.why, c.in-Err.ensures, ((refl, c.outcome_without.ensures), c.status_without.ensures))

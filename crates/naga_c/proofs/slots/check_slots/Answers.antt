@@ -1,21 +1,21 @@
 use Rattle.std.proofs.Common.{ℕ, refl, subst, sym}
-use Rattle.naga_c.specs.Slots.{AreSlotsOf, no_type, not_accepted, written}
+use Rattle.naga_c.specs.Slots.{AreSlotsOf, none, not_accepted, written}
 use Rattle.naga_c.proofs.CallLaws.{accepted_as, ends_refused, settings_as}
 use Rattle.naga_c.proofs.slots.check_slots.Goals as goal
 
-pub returns-in-Some : goal.returns-in-Some
-returns-in-Some c =
-    let same = settings_as c.args.contents.now c.args.contents.now.flags c.validator_for-validator.result c.validator_for-validator.ensures in
-    let m = c.args.contents.now.«module» in
-    let slots = subst (λ (n : ℕ). AreSlotsOf m c.args.ty c.args.offset (record { 0 = n })) (sym c.to_raw.ensures) c.in-Some.ensures.1 in
-    written c.validate.new.validator.infos _ (accepted_as m _ _ _ _ same c.in-Ok.ensures.result) c.in-Some.ensures.0 slots refl
+pub returns-in-Ok-Ok : goal.returns-in-Ok-Ok
+returns-in-Ok-Ok c =
+    let same = settings_as c.args.subject.now c.args.subject.now.flags c.validator_for-validator.result c.validator_for-validator.ensures in
+    let m = c.args.subject.now.«module» in
+    let slots = subst (λ (n : ℕ). AreSlotsOf m c.args.ty c.args.offset (record { 0 = n })) (sym c.to_raw.ensures) c.in-Ok-Ok.ensures.found.1 in
+    written c.validate.new.validator.infos _ (accepted_as m _ _ _ _ same c.in-Ok.ensures.result) c.in-Ok-Ok.ensures.found.0 slots refl
 
-pub returns-in-Ok : goal.returns-in-Ok
-returns-in-Ok c =
-    let same = settings_as c.args.contents.now c.args.contents.now.flags c.validator_for-validator.result c.validator_for-validator.ensures in
-    no_type c.validate.new.validator.infos _ (accepted_as c.args.contents.now.«module» _ _ _ _ same c.in-Ok.ensures.result) c.in-None.ensures c.requires refl
+pub returns-in-Ok-Err : goal.returns-in-Ok-Err
+returns-in-Ok-Err c =
+    let same = settings_as c.args.subject.now c.args.subject.now.flags c.validator_for-validator.result c.validator_for-validator.ensures in
+    none c.validate.new.validator.infos _ (accepted_as c.args.subject.now.«module» _ _ _ _ same c.in-Ok.ensures.result) c.in-Ok-Err.ensures.none c.requires
 
 pub returns : goal.returns
 returns c =
-    let same = settings_as c.args.contents.now c.args.contents.now.flags c.validator_for-validator.result c.validator_for-validator.ensures in
-    not_accepted (ends_refused c.args.contents.now.«module» _ _ _ _ c.as_inner.result.now _ same c.in-Err.ensures.result c.as_inner.ensures c.requires c.refused_status.ensures)
+    let same = settings_as c.args.subject.now c.args.subject.now.flags c.validator_for-validator.result c.validator_for-validator.ensures in
+    not_accepted (ends_refused c.args.subject.now.«module» _ _ _ _ c.as_inner.result.now _ same c.in-Err.ensures.result c.as_inner.ensures c.requires c.refused_status.ensures)
