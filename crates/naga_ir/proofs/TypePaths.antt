@@ -1,5 +1,5 @@
 -- Steps along the path of a type.
-use Rattle.std.proofs.Common.{◌≡◌, ◌∙◌, ◌+◌, ◌<◌, ◌≤◌, ◌≢◌, ℕ, zero, suc, List, length, get_or, replicate, ◌++◌, slice_set, sym, subst, ap, arith}
+use Rattle.std.proofs.Common.{◌≡◌, ◌+◌, ℕ, zero, suc, List, subst, arith}
 use Rattle.naga_ir.specs.declared.types.«Type».{«Type»}
 use Rattle.naga_ir.specs.steps.TypePaths.{Leads, next_bits, link_at, link_of}
 

@@ -14,7 +14,7 @@ pub record IsLaidOutForHosts (g : GlobalLists) (infos : List TypeInfo) (t flags 
   pub has_flags : has info.flags.0 flags ≡ true
   pub has_layout : IsOk info.uniform_layout ⊎ IsOk info.storage_layout
 
--- what data of a fixed size is marked with if hosts may share it
+-- what data whose size the module or an override gives is marked with if hosts may share it
 abbrev pub sized_for_hosts : ℕ
 sized_for_hosts = union_of (DATA ∷ SIZED ∷ HOST_SHAREABLE ∷ [])
 

@@ -1,4 +1,4 @@
-use Rattle.std.proofs.Common.{◌≡◌, ◌∙◌, refl, arith}
+use Rattle.std.proofs.Common.{◌∙◌, refl, arith}
 use Rattle.naga_ir.proofs.OneMore.{go_on_in, has_index, index_below}
 use Rattle.naga_ir.proofs.unique_arena.UniqueArena.get_handle.Goals as goal
 

@@ -1,4 +1,4 @@
-use Rattle.std.proofs.Common.{◌≡◌, ◌∙◌, ◌+◌, ◌<◌, ◌≤◌, [], ◌∷◌, ◌++◌, List, Some, Contains, length, rules, slice_get, refl, sym, ap, subst, arith, length-append}
+use Rattle.std.proofs.Common.{◌≡◌, ◌∙◌, ◌+◌, ◌<◌, [], ◌∷◌, ◌++◌, List, Contains, length, rules, slice_get, refl, sym, ap, subst, arith, length-append}
 use Rattle.naga_arena.specs.Numbers.{largest_u32}
 use Rattle.naga_arena.proofs.Progress.{slice_get-seam}
 use Rattle.naga_ir.specs.declared.types.«Type».{«Type»}
