@@ -22,6 +22,8 @@
 #include <stddef.h>
 #include <stdint.h>
 
+#include "naga_check_flags.h"
+
 #ifdef __cplusplus
 extern "C" {
 #endif
@@ -34,8 +36,26 @@ extern "C" {
 /* The most operands of an item. */
 #define NAGA_CHECK_MOST_OPERANDS 0xFFFFFFu
 
-/* The first word of an item: its opcode, and how many operands follow. */
-#define NAGA_CHECK_ITEM(opcode, count) ((uint32_t)(count) << 8 | (uint32_t)(opcode))
+/* The first word of an item: its opcode, and how many operands follow, a constant. One above NAGA_CHECK_MOST_OPERANDS
+ * is an error at compile time. */
+#define NAGA_CHECK_ITEM(opcode, count) \
+  ((uint32_t)(count) << (8 + NAGA_CHECK_ZERO_IF_((uint64_t)(count) <= NAGA_CHECK_MOST_OPERANDS)) | (uint32_t)(opcode))
+
+/* The same of a count that is known at run time only, which is computed twice. With a count above
+ * NAGA_CHECK_MOST_OPERANDS it is a word with which no item begins, so that a call returns NAGA_CHECK_UNREADABLE. */
+#define NAGA_CHECK_ITEM_OF(opcode, count) \
+  ((uint64_t)(count) >> 24 ? NAGA_CHECK_NONE : (uint32_t)(count) << 8 | (uint32_t)(opcode))
+
+/* The opcodes of an expression of a function and of a global one, by the number of its form. */
+#define NAGA_CHECK_EXPRESSION(form) ((uint32_t)NAGA_CHECK_OP_EXPRESSION + (uint32_t)(form))
+#define NAGA_CHECK_GLOBAL_EXPRESSION(form) ((uint32_t)NAGA_CHECK_OP_GLOBAL_EXPRESSION + (uint32_t)(form))
+
+/* 0, and an error at compile time if a constant condition doesn't hold. */
+#ifdef __cplusplus
+#define NAGA_CHECK_ZERO_IF_(condition) (0 * sizeof(char[(condition) ? 1 : -1]))
+#else
+#define NAGA_CHECK_ZERO_IF_(condition) (0 * sizeof(struct { unsigned is_true : (condition) ? 1 : -1; }))
+#endif
 
 /* What calls return. */
 typedef uint32_t naga_check_status;
@@ -48,7 +68,7 @@ enum {
   NAGA_CHECK_NO_TYPE = 5     /* the module has no type of an index that was asked about */
 };
 
-/* Opcodes. To the two that end in EXPRESSION the number of a form is added. */
+/* Opcodes. Those of expressions are NAGA_CHECK_EXPRESSION and NAGA_CHECK_GLOBAL_EXPRESSION of a form. */
 enum {
   NAGA_CHECK_OP_FLAGS = 1,
   NAGA_CHECK_OP_CAPABILITIES = 2,
@@ -630,7 +650,7 @@ typedef struct naga_check_outcome {
 
 /* What is known of a type. Sizes and alignments are in bytes. */
 typedef struct naga_check_type_info {
-  uint32_t flags;             /* naga's TypeFlags */
+  uint32_t flags;             /* the sum of NAGA_CHECK_TYPE_.. */
   uint32_t size;
   uint32_t alignment;
   uint32_t uniform_alignment; /* in uniform buffers, or 0 if it has no layout there */

@@ -1,6 +1,6 @@
 #!/usr/bin/env python3
-"""Compares what says the C interface: the header, `sys.rs` and the crate that it is part of, docs/WORDS.md, and the
-sources in Rattle as far as they are there.
+"""Compares what says the C interface: the header with the one of its flags, `sys.rs` and the crate that it is part of,
+docs/WORDS.md, and the sources in Rattle as far as they are there.
 
     compare_interfaces.py HEADER SYS WORDS CRATES
 """
@@ -24,6 +24,11 @@ ERRORS = {"InvalidHandleError": "HANDLE_ERROR", "LayoutErrorInner": "LAYOUT_ERRO
 TABLES = {"ScalarKind": "KIND", "CooperativeRole": "ROLE", "ImageDimension": "DIMENSION",
           "SwizzleComponent": "COMPONENT", "UnaryOperator": "UNARY", "BinaryOperator": "BINARY",
           "RelationalFunction": "RELATIONAL", "MathFunction": "MATH", "SubgroupOperation": "SUBGROUP"}
+# How the header calls the sets of flags.
+FLAGS = {"ValidationFlags": "VALIDATE", "Capabilities": "CAPABILITY", "TypeFlags": "TYPE",
+         "ShaderStages": "SHADER_STAGE"}
+# The sets of which a module in words may have all bits and no others.
+SETTINGS = ("VALIDATE", "CAPABILITY")
 RENAMED = {"D1": "1D", "D2": "2D", "D3": "3D"}
 # What no value of the crate stands for.
 UNUSED = {"NAGA_CHECK_ABI_VERSION", "NAGA_CHECK_STAGE_NONE"}
@@ -49,7 +54,7 @@ def without_comments(text):
 
 
 def header_constants(text):
-    named = re.findall(r"^#define (NAGA_CHECK_\w+) (\w+)$", text, re.MULTILINE)
+    named = re.findall(r"^#define (NAGA_CHECK_\w+) (?:UINT64_C\()?(\w+)\)?$", text, re.MULTILINE)
     named += re.findall(r"\b(NAGA_CHECK_\w+) = (\d+)", text)
     return {name: int(value.rstrip("u"), 0) for name, value in named}
 
@@ -103,7 +108,7 @@ def compare_variants(constants, folder):
     named = re.findall(r"(\w+)(?:\s*\([^()]*\)|\s*\{[^{}]*\})?\s*=\s*sys::(NAGA_CHECK_\w+)", text)
     for variant, constant in named:
         # naga's name of a statement says more than the header's.
-        name = RENAMED.get(variant, variant).upper().replace("COLLECTIVEOPERATION", "OPERATION")
+        name = RENAMED.get(variant, variant).upper().replace("_", "").replace("COLLECTIVEOPERATION", "OPERATION")
         if not constant.replace("_", "").endswith(name):
             differences.append(f"variant {variant}: {constant}")
     same("constant of the crate", set(constants) - UNUSED, set(re.findall(r"sys::(NAGA_CHECK_\w+)", text)))
@@ -111,7 +116,7 @@ def compare_variants(constants, folder):
 
 def words_opcodes(text):
     """The opcodes of the tables, which name each one at the beginning of a row or after a comma in its first column."""
-    tables = text[text.index("## Settings"):text.index("## What can't be read")]
+    tables = text[text.index("## Settings"):text.index("## Operators and functions")]
     before, forms = tables.split("## Expressions")
     forms, after = forms.split("## Parts of a function")
     rows = re.findall(r"^\| (\d+ .*?) \|", before + after, re.MULTILINE)
@@ -124,6 +129,48 @@ def compare_words(constants, text):
     named = {value for name, value in constants.items() if re.match(r"NAGA_CHECK_(OP|STATEMENT)_", name)}
     same("opcode", named - {64, 128}, opcodes)
     same("form", {value for name, value in constants.items() if name.startswith("NAGA_CHECK_FORM_")}, forms)
+    for enum in ("BINARY", "MATH"):
+        same(f"{enum} of the page", numbers_of_prefix(constants, enum), numbers_of_page(text, enum))
+    limits = re.search(r"bits up to (\d+).*?\n.*? up to (\d+); without it (\d+)", text)
+    ours = [constants["NAGA_CHECK_" + name] for name in ("VALIDATE_ALL", "CAPABILITY_ALL", "CAPABILITY_DEFAULT")]
+    same("limit of the page", dict(enumerate(ours)), dict(enumerate(map(int, limits.groups()))))
+
+
+def numbers_of_prefix(constants, prefix):
+    """The constants of a prefix, without it and without underlines."""
+    start = f"NAGA_CHECK_{prefix}_"
+    return {name.removeprefix(start).replace("_", ""): value for name, value in constants.items()
+            if name.startswith(start)}
+
+
+def numbers_of_page(text, enum):
+    """The pairs of a number and a name in the table of an enum, a heading of its own."""
+    heading = {"BINARY": "### `BinaryOperator`", "MATH": "### `MathFunction`"}[enum]
+    table = re.split(r"^##", text[text.index(heading) + len(heading):], flags=re.MULTILINE)[0]
+    return {name.upper(): int(number) for number, name in re.findall(r"\| (\d+) \| `(\w+)` (?=\|)", table)}
+
+
+def compare_flags(constants, crate, source):
+    """Compares the flags of the header with those of the Rust crate, and with the names and values in Rattle."""
+    in_crate = re.findall(r"pub struct (\w+)\(u\d+\) \{(.*?)\n    \}", crate, re.DOTALL)
+    in_rattle = re.findall(r"impl (\w+): u\d+ \{(.*?)\n    \}", source, re.DOTALL)
+    in_crate, in_rattle = ({name: body for name, body in found if name in FLAGS} for found in (in_crate, in_rattle))
+    same("set of flags", set(in_crate), set(FLAGS))
+    same("set of flags in Rattle", set(in_rattle), set(FLAGS))
+    for name, prefix in FLAGS.items():
+        values = re.findall(r"const (\w+) = (\w+);", in_rattle.get(name, ""))
+        values = {flag: int(value.replace("_", ""), 0) for flag, value in values}
+        named = {flag: f"NAGA_CHECK_{prefix}_{flag}" for flag in values}
+        same(f"{name} of the crate", dict(re.findall(r"(\w+) = sys::(\w+),", in_crate.get(name, ""))), named)
+        if prefix in SETTINGS:
+            values["ALL"] = sum({value for value in values.values() if value.bit_count() == 1})
+        default = re.search(rf"impl Default for {name} \{{.*?{name}\((\w+)\)\n", source, re.DOTALL)
+        if default and int(default[1], 0) != values["ALL"]:
+            values["DEFAULT"] = int(default[1], 0)
+        start = f"NAGA_CHECK_{prefix}_"
+        ours = {flag.removeprefix(start): value for flag, value in constants.items()
+                if flag.startswith(start) and not flag.startswith(start + "ERROR_")}
+        same(f"{name} of the header", ours, values)
 
 
 def sources_of(crates, name):
@@ -175,6 +222,7 @@ def compare_numbers(constants, names, numbers):
 def compare_crates(constants, functions, structs, crates):
     """Compares with the crates in Rattle, as far as they are there."""
     exports, reader = sources_of(crates, "naga_c"), sources_of(crates, "naga_words")
+    compare_flags(constants, read(os.path.dirname(sys.argv[2]) + "/flags.rs"), sources_of(crates, "naga_flags"))
     if exports:
         compare_exports(functions, structs, exports)
         compare_numbers(constants, ERRORS, numbers_of_errors(exports))
@@ -186,7 +234,9 @@ def compare_crates(constants, functions, structs, crates):
 
 def main():
     header_path, sys_path, words_path, crates = sys.argv[1:]
-    header, rust = without_comments(read(header_path)), without_comments(read(sys_path))
+    flags_path = header_path.removesuffix(".h") + "_flags.h"
+    header = without_comments(read(header_path) + read(flags_path))
+    rust = without_comments(read(sys_path) + read(sys_path.removesuffix(".rs") + "/flags.rs"))
     constants = header_constants(header)
     same("constant", constants, sys_constants(rust))
     same("struct", header_structs(header), rust_structs(rust))

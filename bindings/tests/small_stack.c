@@ -8,11 +8,11 @@
 #include <string.h>
 
 #define NONE NAGA_CHECK_NONE
-#define EXPRESSION(form, count) NAGA_CHECK_ITEM(NAGA_CHECK_OP_EXPRESSION + NAGA_CHECK_FORM_##form, count)
-#define GLOBAL(form, count) NAGA_CHECK_ITEM(NAGA_CHECK_OP_GLOBAL_EXPRESSION + NAGA_CHECK_FORM_##form, count)
+#define EXPRESSION(form, count) NAGA_CHECK_ITEM(NAGA_CHECK_EXPRESSION(NAGA_CHECK_FORM_##form), count)
+#define GLOBAL(form, count) NAGA_CHECK_ITEM(NAGA_CHECK_GLOBAL_EXPRESSION(NAGA_CHECK_FORM_##form), count)
 #define ADD(...) add((const uint32_t[]){__VA_ARGS__}, sizeof((const uint32_t[]){__VA_ARGS__}) / sizeof(uint32_t))
 
-enum { DEEP = 20000, MOST_DEEP_WORDS = 1000000, STACK = 256 << 10, ALL_BUT_CONSTANTS = 47 };
+enum { DEEP = 20000, MOST_DEEP_WORDS = 1000000, STACK = 256 << 10 };
 
 static uint32_t words[MOST_DEEP_WORDS];
 static size_t count;
@@ -83,7 +83,7 @@ static void add_compositions(void) {
 static void compositions(void) { add_compositions(); }
 
 static void unchecked_compositions(void) {
-  ADD(NAGA_CHECK_ITEM(NAGA_CHECK_OP_FLAGS, 1), ALL_BUT_CONSTANTS);
+  ADD(NAGA_CHECK_ITEM(NAGA_CHECK_OP_FLAGS, 1), NAGA_CHECK_VALIDATE_ALL & ~NAGA_CHECK_VALIDATE_CONSTANTS);
   add_compositions();
 }
 

@@ -1,5 +1,6 @@
 //! The sets of flags: what is validated, what shaders may use, what types may be used for, and stages.
 
+use crate::sys;
 use std::fmt;
 use std::ops::{BitOr, BitOrAssign};
 
@@ -8,7 +9,7 @@ macro_rules! flags {
     (
         $(#[$about:meta])*
         pub struct $name:ident($bits:ty) {
-            $( $(#[$doc:meta])* $flag:ident = $value:literal, )+
+            $( $(#[$doc:meta])* $flag:ident = $value:path, )+
         }
     ) => {
         $(#[$about])*
@@ -100,17 +101,17 @@ flags! {
     /// Which parts of a module are validated: naga's `ValidationFlags`.
     pub struct ValidationFlags(u32) {
         /// Expressions of functions.
-        EXPRESSIONS = 0x1,
+        EXPRESSIONS = sys::NAGA_CHECK_VALIDATE_EXPRESSIONS,
         /// Statements and the blocks that they stand in.
-        BLOCKS = 0x2,
+        BLOCKS = sys::NAGA_CHECK_VALIDATE_BLOCKS,
         /// Uniformity of control flow where derivatives or barriers need it.
-        CONTROL_FLOW_UNIFORMITY = 0x4,
+        CONTROL_FLOW_UNIFORMITY = sys::NAGA_CHECK_VALIDATE_CONTROL_FLOW_UNIFORMITY,
         /// Layouts of structs that hosts share.
-        STRUCT_LAYOUTS = 0x8,
+        STRUCT_LAYOUTS = sys::NAGA_CHECK_VALIDATE_STRUCT_LAYOUTS,
         /// Global expressions, constants and overrides.
-        CONSTANTS = 0x10,
+        CONSTANTS = sys::NAGA_CHECK_VALIDATE_CONSTANTS,
         /// Bindings of global variables and of entry points.
-        BINDINGS = 0x20,
+        BINDINGS = sys::NAGA_CHECK_VALIDATE_BINDINGS,
     }
 }
 
@@ -125,100 +126,103 @@ flags! {
     /// What a shader may use beyond the core of the language: naga's `Capabilities`.
     pub struct Capabilities(u64) {
         /// Immediates, small values that come with a draw or dispatch call.
-        IMMEDIATES = 0x1,
+        IMMEDIATES = sys::NAGA_CHECK_CAPABILITY_IMMEDIATES,
         /// Floating-point numbers of 64 bits.
-        FLOAT64 = 0x2,
+        FLOAT64 = sys::NAGA_CHECK_CAPABILITY_FLOAT64,
         /// The index of a primitive, as a built-in value.
-        PRIMITIVE_INDEX = 0x4,
+        PRIMITIVE_INDEX = sys::NAGA_CHECK_CAPABILITY_PRIMITIVE_INDEX,
         /// Binding arrays of sampled textures and samplers.
-        TEXTURE_AND_SAMPLER_BINDING_ARRAY = 0x8,
+        TEXTURE_AND_SAMPLER_BINDING_ARRAY = sys::NAGA_CHECK_CAPABILITY_TEXTURE_AND_SAMPLER_BINDING_ARRAY,
         /// Binding arrays of uniform buffers.
-        BUFFER_BINDING_ARRAY = 0x10,
+        BUFFER_BINDING_ARRAY = sys::NAGA_CHECK_CAPABILITY_BUFFER_BINDING_ARRAY,
         /// Binding arrays of storage textures.
-        STORAGE_TEXTURE_BINDING_ARRAY = 0x20,
+        STORAGE_TEXTURE_BINDING_ARRAY = sys::NAGA_CHECK_CAPABILITY_STORAGE_TEXTURE_BINDING_ARRAY,
         /// Binding arrays of storage buffers.
-        STORAGE_BUFFER_BINDING_ARRAY = 0x40,
+        STORAGE_BUFFER_BINDING_ARRAY = sys::NAGA_CHECK_CAPABILITY_STORAGE_BUFFER_BINDING_ARRAY,
         /// Clip distances, as a built-in value.
-        CLIP_DISTANCES = 0x80,
+        CLIP_DISTANCES = sys::NAGA_CHECK_CAPABILITY_CLIP_DISTANCES,
         /// Cull distances, as a built-in value.
-        CULL_DISTANCE = 0x100,
+        CULL_DISTANCE = sys::NAGA_CHECK_CAPABILITY_CULL_DISTANCE,
         /// Storage textures of normalized 16-bit formats.
-        STORAGE_TEXTURE_16BIT_NORM_FORMATS = 0x200,
+        STORAGE_TEXTURE_16BIT_NORM_FORMATS = sys::NAGA_CHECK_CAPABILITY_STORAGE_TEXTURE_16BIT_NORM_FORMATS,
         /// Rendering to several views at once.
-        MULTIVIEW = 0x400,
+        MULTIVIEW = sys::NAGA_CHECK_CAPABILITY_MULTIVIEW,
         /// Depth tests before the fragment shader.
-        EARLY_DEPTH_TEST = 0x800,
+        EARLY_DEPTH_TEST = sys::NAGA_CHECK_CAPABILITY_EARLY_DEPTH_TEST,
         /// Shading by the sample.
-        MULTISAMPLED_SHADING = 0x1000,
+        MULTISAMPLED_SHADING = sys::NAGA_CHECK_CAPABILITY_MULTISAMPLED_SHADING,
         /// Ray queries and acceleration structures.
-        RAY_QUERY = 0x2000,
+        RAY_QUERY = sys::NAGA_CHECK_CAPABILITY_RAY_QUERY,
         /// Two sources for blending.
-        DUAL_SOURCE_BLENDING = 0x4000,
+        DUAL_SOURCE_BLENDING = sys::NAGA_CHECK_CAPABILITY_DUAL_SOURCE_BLENDING,
         /// Arrays of cube textures.
-        CUBE_ARRAY_TEXTURES = 0x8000,
+        CUBE_ARRAY_TEXTURES = sys::NAGA_CHECK_CAPABILITY_CUBE_ARRAY_TEXTURES,
         /// Integers of 64 bits.
-        SHADER_INT64 = 0x1_0000,
+        SHADER_INT64 = sys::NAGA_CHECK_CAPABILITY_SHADER_INT64,
         /// Subgroup operations in fragment and compute shaders.
-        SUBGROUP = 0x2_0000,
+        SUBGROUP = sys::NAGA_CHECK_CAPABILITY_SUBGROUP,
         /// Subgroup barriers.
-        SUBGROUP_BARRIER = 0x4_0000,
+        SUBGROUP_BARRIER = sys::NAGA_CHECK_CAPABILITY_SUBGROUP_BARRIER,
         /// Subgroup operations in vertex shaders.
-        SUBGROUP_VERTEX_STAGE = 0x8_0000,
+        SUBGROUP_VERTEX_STAGE = sys::NAGA_CHECK_CAPABILITY_SUBGROUP_VERTEX_STAGE,
         /// Minimum and maximum on atomic integers of 64 bits.
-        SHADER_INT64_ATOMIC_MIN_MAX = 0x10_0000,
+        SHADER_INT64_ATOMIC_MIN_MAX = sys::NAGA_CHECK_CAPABILITY_SHADER_INT64_ATOMIC_MIN_MAX,
         /// All operations on atomic integers of 64 bits.
-        SHADER_INT64_ATOMIC_ALL_OPS = 0x20_0000,
+        SHADER_INT64_ATOMIC_ALL_OPS = sys::NAGA_CHECK_CAPABILITY_SHADER_INT64_ATOMIC_ALL_OPS,
         /// Atomic floating-point numbers of 32 bits.
-        SHADER_FLOAT32_ATOMIC = 0x40_0000,
+        SHADER_FLOAT32_ATOMIC = sys::NAGA_CHECK_CAPABILITY_SHADER_FLOAT32_ATOMIC,
         /// Atomic operations on textures.
-        TEXTURE_ATOMIC = 0x80_0000,
+        TEXTURE_ATOMIC = sys::NAGA_CHECK_CAPABILITY_TEXTURE_ATOMIC,
         /// Atomic operations on textures of 64-bit integers.
-        TEXTURE_INT64_ATOMIC = 0x100_0000,
+        TEXTURE_INT64_ATOMIC = sys::NAGA_CHECK_CAPABILITY_TEXTURE_INT64_ATOMIC,
         /// The vertex positions of a triangle that a ray hit.
-        RAY_HIT_VERTEX_POSITION = 0x200_0000,
+        RAY_HIT_VERTEX_POSITION = sys::NAGA_CHECK_CAPABILITY_RAY_HIT_VERTEX_POSITION,
         /// Floating-point numbers of 16 bits.
-        SHADER_FLOAT16 = 0x400_0000,
+        SHADER_FLOAT16 = sys::NAGA_CHECK_CAPABILITY_SHADER_FLOAT16,
         /// External textures.
-        TEXTURE_EXTERNAL = 0x800_0000,
+        TEXTURE_EXTERNAL = sys::NAGA_CHECK_CAPABILITY_TEXTURE_EXTERNAL,
         /// Rounding to 16-bit floating-point numbers that stand in 32 bits.
-        SHADER_FLOAT16_IN_FLOAT32 = 0x1000_0000,
+        SHADER_FLOAT16_IN_FLOAT32 = sys::NAGA_CHECK_CAPABILITY_SHADER_FLOAT16_IN_FLOAT32,
         /// Barycentric coordinates, as a built-in value.
-        SHADER_BARYCENTRICS = 0x2000_0000,
+        SHADER_BARYCENTRICS = sys::NAGA_CHECK_CAPABILITY_SHADER_BARYCENTRICS,
         /// Mesh and task shaders.
-        MESH_SHADER = 0x4000_0000,
+        MESH_SHADER = sys::NAGA_CHECK_CAPABILITY_MESH_SHADER,
         /// Mesh shaders that emit points.
-        MESH_SHADER_POINT_TOPOLOGY = 0x8000_0000,
+        MESH_SHADER_POINT_TOPOLOGY = sys::NAGA_CHECK_CAPABILITY_MESH_SHADER_POINT_TOPOLOGY,
         /// Non-uniform indexing of binding arrays of sampled textures and samplers.
-        TEXTURE_AND_SAMPLER_BINDING_ARRAY_NON_UNIFORM_INDEXING = 0x1_0000_0000,
+        TEXTURE_AND_SAMPLER_BINDING_ARRAY_NON_UNIFORM_INDEXING = sys::NAGA_CHECK_CAPABILITY_TEXTURE_AND_SAMPLER_BINDING_ARRAY_NON_UNIFORM_INDEXING,
         /// Non-uniform indexing of binding arrays of uniform buffers.
-        BUFFER_BINDING_ARRAY_NON_UNIFORM_INDEXING = 0x2_0000_0000,
+        BUFFER_BINDING_ARRAY_NON_UNIFORM_INDEXING = sys::NAGA_CHECK_CAPABILITY_BUFFER_BINDING_ARRAY_NON_UNIFORM_INDEXING,
         /// Non-uniform indexing of binding arrays of storage textures.
-        STORAGE_TEXTURE_BINDING_ARRAY_NON_UNIFORM_INDEXING = 0x4_0000_0000,
+        STORAGE_TEXTURE_BINDING_ARRAY_NON_UNIFORM_INDEXING = sys::NAGA_CHECK_CAPABILITY_STORAGE_TEXTURE_BINDING_ARRAY_NON_UNIFORM_INDEXING,
         /// Non-uniform indexing of binding arrays of storage buffers.
-        STORAGE_BUFFER_BINDING_ARRAY_NON_UNIFORM_INDEXING = 0x8_0000_0000,
+        STORAGE_BUFFER_BINDING_ARRAY_NON_UNIFORM_INDEXING = sys::NAGA_CHECK_CAPABILITY_STORAGE_BUFFER_BINDING_ARRAY_NON_UNIFORM_INDEXING,
         /// Cooperative matrices.
-        COOPERATIVE_MATRIX = 0x10_0000_0000,
+        COOPERATIVE_MATRIX = sys::NAGA_CHECK_CAPABILITY_COOPERATIVE_MATRIX,
         /// Inputs of fragment shaders with a value for each vertex.
-        PER_VERTEX = 0x20_0000_0000,
+        PER_VERTEX = sys::NAGA_CHECK_CAPABILITY_PER_VERTEX,
         /// Ray tracing pipelines and acceleration structures.
-        RAY_TRACING_PIPELINE = 0x40_0000_0000,
+        RAY_TRACING_PIPELINE = sys::NAGA_CHECK_CAPABILITY_RAY_TRACING_PIPELINE,
         /// The index of a draw call, as a built-in value.
-        DRAW_INDEX = 0x80_0000_0000,
+        DRAW_INDEX = sys::NAGA_CHECK_CAPABILITY_DRAW_INDEX,
         /// Binding arrays of acceleration structures.
-        ACCELERATION_STRUCTURE_BINDING_ARRAY = 0x100_0000_0000,
+        ACCELERATION_STRUCTURE_BINDING_ARRAY = sys::NAGA_CHECK_CAPABILITY_ACCELERATION_STRUCTURE_BINDING_ARRAY,
         /// Coherent memory.
-        MEMORY_DECORATION_COHERENT = 0x200_0000_0000,
+        MEMORY_DECORATION_COHERENT = sys::NAGA_CHECK_CAPABILITY_MEMORY_DECORATION_COHERENT,
         /// Volatile memory.
-        MEMORY_DECORATION_VOLATILE = 0x400_0000_0000,
+        MEMORY_DECORATION_VOLATILE = sys::NAGA_CHECK_CAPABILITY_MEMORY_DECORATION_VOLATILE,
         /// Integers of 16 bits.
-        SHADER_INT16 = 0x800_0000_0000,
+        SHADER_INT16 = sys::NAGA_CHECK_CAPABILITY_SHADER_INT16,
     }
 }
+
+const _: () = assert!(Capabilities::ALL.0 == sys::NAGA_CHECK_CAPABILITY_ALL);
+const _: () = assert!(ValidationFlags::ALL.0 == sys::NAGA_CHECK_VALIDATE_ALL);
 
 /// `MULTISAMPLED_SHADING` and `CUBE_ARRAY_TEXTURES`, as in naga.
 impl Default for Capabilities {
     fn default() -> Capabilities {
-        Capabilities::MULTISAMPLED_SHADING | Capabilities::CUBE_ARRAY_TEXTURES
+        Capabilities(sys::NAGA_CHECK_CAPABILITY_DEFAULT)
     }
 }
 
@@ -226,21 +230,21 @@ flags! {
     /// What a type may be used for: naga's `TypeFlags`.
     pub struct TypeFlags(u32) {
         /// Local variables, struct members, array elements and function arguments may be of the type.
-        DATA = 0x1,
+        DATA = sys::NAGA_CHECK_TYPE_DATA,
         /// The size is fixed when a pipeline is created (WGSL "Fixed-Footprint Types").
-        SIZED = 0x2,
+        SIZED = sys::NAGA_CHECK_TYPE_SIZED,
         /// Values can be copied.
-        COPY = 0x4,
+        COPY = sys::NAGA_CHECK_TYPE_COPY,
         /// Pipeline stages may pass values to one another, as inputs and outputs (WGSL "Input-output Locations").
-        IO_SHAREABLE = 0x8,
+        IO_SHAREABLE = sys::NAGA_CHECK_TYPE_IO_SHAREABLE,
         /// The host and the device may share values (WGSL "Host-shareable Types").
-        HOST_SHAREABLE = 0x10,
+        HOST_SHAREABLE = sys::NAGA_CHECK_TYPE_HOST_SHAREABLE,
         /// The size is fixed when a shader module is created: no override decides it (WGSL "Fixed-Footprint Types").
-        CREATION_RESOLVED = 0x20,
+        CREATION_RESOLVED = sys::NAGA_CHECK_TYPE_CREATION_RESOLVED,
         /// Functions may take values as arguments.
-        ARGUMENT = 0x40,
+        ARGUMENT = sys::NAGA_CHECK_TYPE_ARGUMENT,
         /// Values can be created, loaded, stored, passed and returned (WGSL "Constructible Types").
-        CONSTRUCTIBLE = 0x80,
+        CONSTRUCTIBLE = sys::NAGA_CHECK_TYPE_CONSTRUCTIBLE,
     }
 }
 
@@ -248,24 +252,24 @@ flags! {
     /// Stages of a pipeline: naga's `ShaderStages`.
     pub struct ShaderStages(u32) {
         /// Vertex shaders.
-        VERTEX = 0x1,
+        VERTEX = sys::NAGA_CHECK_SHADER_STAGE_VERTEX,
         /// Fragment shaders.
-        FRAGMENT = 0x2,
+        FRAGMENT = sys::NAGA_CHECK_SHADER_STAGE_FRAGMENT,
         /// Compute shaders.
-        COMPUTE = 0x4,
+        COMPUTE = sys::NAGA_CHECK_SHADER_STAGE_COMPUTE,
         /// Mesh shaders.
-        MESH = 0x8,
+        MESH = sys::NAGA_CHECK_SHADER_STAGE_MESH,
         /// Task shaders.
-        TASK = 0x10,
+        TASK = sys::NAGA_CHECK_SHADER_STAGE_TASK,
         /// Shaders that generate rays.
-        RAY_GENERATION = 0x20,
+        RAY_GENERATION = sys::NAGA_CHECK_SHADER_STAGE_RAY_GENERATION,
         /// Shaders that accept or ignore a hit of a ray.
-        ANY_HIT = 0x40,
+        ANY_HIT = sys::NAGA_CHECK_SHADER_STAGE_ANY_HIT,
         /// Shaders for the closest hit of a ray.
-        CLOSEST_HIT = 0x80,
+        CLOSEST_HIT = sys::NAGA_CHECK_SHADER_STAGE_CLOSEST_HIT,
         /// Shaders for rays that hit nothing.
-        MISS = 0x100,
+        MISS = sys::NAGA_CHECK_SHADER_STAGE_MISS,
         /// Stages that run in workgroups: compute, mesh and task shaders.
-        COMPUTE_LIKE = 0x1c,
+        COMPUTE_LIKE = sys::NAGA_CHECK_SHADER_STAGE_COMPUTE_LIKE,
     }
 }

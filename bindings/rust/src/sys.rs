@@ -2,6 +2,10 @@
 //!
 //! The header says what each call does and what its caller owes. The other modules of this crate call it safely.
 
+mod flags;
+
+pub use flags::*;
+
 /// What calls return: a `NAGA_CHECK_` constant from `NAGA_CHECK_OK` to `NAGA_CHECK_NO_TYPE`.
 pub type NagaCheckStatus = u32;
 
