@@ -1,20 +1,31 @@
-/* naga_check: a validator of shader modules whose verdicts are proved. C interface, version 1.
+/* naga_check: a validator of shader modules whose verdicts are proved. C interface, version 2.
+ *
+ * What NAGA_CHECK_OK means: every rule of the module's handles, types, global expressions, constants and overrides
+ * holds, and after naga_check_functions every rule of the expressions of functions and entry points. It says nothing of
+ * statements, of variables and their bindings, of what entry points hand to each other, nor of whether a type fits the
+ * address space that a variable is in: these are not validated yet.
+ *
+ * Options say how a module is validated and how much a call may take; they are the host's, and what comes in the words
+ * or the text of a stranger can't loosen them. A null pointer in their place is NAGA_CHECK_OPTIONS_DEFAULT.
  *
  * Every function is a call of its own. Nothing is kept between calls, there is no initialisation, and no
  * global state: calls may run on any number of threads at once, as long as they share no buffer that one of
  * them writes. Nothing is handed out that has to be freed. The library never ends the process and never
- * prints; if memory is refused a call returns NAGA_CHECK_MEMORY, or naga_check_text the program's report of it.
+ * prints; if memory is refused a call returns NAGA_CHECK_MEMORY.
  *
  * The library calls malloc, realloc, free, memmove, memcpy and memset of the C library, and nothing else of
  * the system. It is for x86-64 Linux.
  *
  * What a caller owes (nothing checks it):
- *   - pointers are not null and are aligned for their type, also where a count is 0; a buffer has as many
- *     elements as its count says, and at most PTRDIFF_MAX bytes;
+ *   - a pointer is aligned for its type, and points to as many elements as its count says, of at most PTRDIFF_MAX bytes
+ *     in all; it may be null if the count is 0, and so may the one to an outcome or counts that nobody wants;
  *   - buffers that a call writes overlap no other buffer of that call;
  *   - 256 KiB of stack; naga_check_slots calls itself as deep as structs are nested in a type, and needs more
  *     for types that are nested deeper than a thousand structs.
  * Any bytes and any words may be given: what can't be read is refused. docs/WORDS.md describes the words.
+ *
+ * The functions that the library exports end in _with, and take no null pointer at all, also where a count is 0. Those
+ * without _with are in this header: they put something in the place of each null pointer.
  */
 #ifndef NAGA_CHECK_H
 #define NAGA_CHECK_H
@@ -28,7 +39,7 @@
 extern "C" {
 #endif
 
-#define NAGA_CHECK_ABI_VERSION 1u
+#define NAGA_CHECK_ABI_VERSION 2u
 
 /* A word that stands for nothing: no index, no name, no width. */
 #define NAGA_CHECK_NONE 0xFFFFFFFFu
@@ -60,13 +71,41 @@ extern "C" {
 /* What calls return. */
 typedef uint32_t naga_check_status;
 enum {
-  NAGA_CHECK_OK = 0,         /* done; the module keeps the rules that were checked */
-  NAGA_CHECK_REFUSED = 1,    /* the module breaks a rule */
-  NAGA_CHECK_UNREADABLE = 2, /* the text or the words can't be read */
-  NAGA_CHECK_MEMORY = 3,     /* memory was refused: nothing is known of the module */
-  NAGA_CHECK_ROOM = 4,       /* a buffer is too short for the results; a module in words was accepted */
-  NAGA_CHECK_NO_TYPE = 5     /* the module has no type of an index that was asked about */
+  NAGA_CHECK_OK = 0,           /* done: the types, values and expressions that were checked keep their rules */
+  NAGA_CHECK_REFUSED = 1,      /* the module breaks a rule; never that memory was refused */
+  NAGA_CHECK_UNREADABLE = 2,   /* the text or the words can't be read */
+  NAGA_CHECK_MEMORY = 3,       /* memory was refused: nothing is known of the module */
+  NAGA_CHECK_ROOM = 4,         /* a buffer is too short for the results; a module was accepted, as with NAGA_CHECK_OK */
+  NAGA_CHECK_NO_TYPE = 5,      /* the module was accepted, and has no type of an index that was asked about */
+  NAGA_CHECK_LIMIT = 6,        /* there are more words, items or leaves than the options allow */
+  NAGA_CHECK_OPTIONS = 7,      /* a field of the options has a value that means nothing to this version */
+  NAGA_CHECK_SETTINGS = 8,     /* settings come with the module, and the options don't allow that */
+  NAGA_CHECK_NOT_SHAREABLE = 9 /* the module was accepted, and hosts may not share values of the type */
 };
+
+/* What settings that come with a module, in its words or its text, are worth. */
+enum {
+  NAGA_CHECK_SETTINGS_REFUSED = 0, /* a module with settings is not validated: NAGA_CHECK_SETTINGS */
+  NAGA_CHECK_SETTINGS_NARROW = 1   /* they narrow: what either says is validated, and what both allow may be used */
+};
+
+/* How a module is validated, and how much a call may take. */
+typedef struct naga_check_options {
+  uint32_t size;         /* sizeof(naga_check_options): another size is NAGA_CHECK_OPTIONS */
+  uint32_t flags;        /* which parts are validated: NAGA_CHECK_VALIDATE_.. */
+  uint64_t capabilities; /* what the module may use: NAGA_CHECK_CAPABILITY_.. */
+  uint32_t resolved;     /* 1 if overrides have to have their values, else 0 */
+  uint32_t settings;     /* NAGA_CHECK_SETTINGS_.. */
+  uint64_t most_words;   /* the most words, or the most bytes of a text divided by four */
+  uint64_t most_items;   /* the most items of words, or the most line ends of a text */
+  uint64_t most_leaves;  /* the most leaves that a call may come to */
+} naga_check_options;
+
+/* All is validated, as naga does by default, settings are refused, and nothing is limited. Options that are all zero
+ * but for their size let nothing be read. */
+#define NAGA_CHECK_OPTIONS_DEFAULT \
+  { (uint32_t)sizeof(naga_check_options), NAGA_CHECK_VALIDATE_ALL, NAGA_CHECK_CAPABILITY_DEFAULT, 0, \
+    NAGA_CHECK_SETTINGS_REFUSED, UINT64_MAX, UINT64_MAX, UINT64_MAX }
 
 /* Opcodes. Those of expressions are NAGA_CHECK_EXPRESSION and NAGA_CHECK_GLOBAL_EXPRESSION of a form. */
 enum {
@@ -631,12 +670,13 @@ enum {
   NAGA_CHECK_DISALIGNMENT_NON_HOST_SHAREABLE = 6
 };
 
-/* What was found out about a module. With NAGA_CHECK_MEMORY all fields are 0. */
+/* What was found out about a module. With NAGA_CHECK_MEMORY, NAGA_CHECK_LIMIT, NAGA_CHECK_OPTIONS and
+ * NAGA_CHECK_SETTINGS all fields are 0. */
 typedef struct naga_check_outcome {
   /* With NAGA_CHECK_UNREADABLE the index of the first word of the first item that can't be read, or the
-   * number of words. With NAGA_CHECK_REFUSED the index of the item that is refused, among those of its kind;
-   * of the stage HANDLE the index that is dangling, the index of the item that depends on a later one, or
-   * the start of the range. Else 0. */
+   * number of words; of a text the number of the first line that can't be read, from 1. With NAGA_CHECK_REFUSED the
+   * index of the item that is refused, among those of its kind; of the stage HANDLE the index that is dangling, the
+   * index of the item that depends on a later one, or the start of the range. Else 0. */
   uint64_t index;
   uint64_t types;        /* how many types, functions and entry points the module has, if it could be read */
   uint64_t functions;
@@ -679,42 +719,118 @@ typedef struct naga_check_counts {
 /* The version of this interface, NAGA_CHECK_ABI_VERSION. */
 uint32_t naga_check_abi_version(void);
 
-/* Writes the report on a text, as the program naga_check does, and its length in bytes: NAGA_CHECK_OK,
- * NAGA_CHECK_REFUSED or NAGA_CHECK_UNREADABLE, the exit status of the program. With NAGA_CHECK_ROOM nothing
- * but the length is written, and with NAGA_CHECK_MEMORY nothing. If memory is refused while the module is
- * validated, the report is `refused memory` and the status NAGA_CHECK_REFUSED, as they are the program's. */
-naga_check_status naga_check_text(const uint8_t *text, size_t text_count, uint8_t *report,
-                                  size_t report_count, size_t *length);
+/* The exported functions. Each is described at the one of its name without _with, and takes no null pointer. */
+naga_check_status naga_check_words_with(const uint32_t *words, size_t word_count, const naga_check_options *options,
+                                        naga_check_type_info *infos, size_t info_count, naga_check_outcome *outcome);
+naga_check_status naga_check_functions_with(const uint32_t *words, size_t word_count,
+                                            const naga_check_options *options, uint32_t *stages, size_t stage_count,
+                                            naga_check_outcome *outcome);
+naga_check_status naga_check_leaves_with(const uint32_t *words, size_t word_count, const naga_check_options *options,
+                                         const uint32_t *types, size_t type_count, uint32_t length,
+                                         naga_check_leaf *leaves, size_t leaf_count, uint32_t *paths,
+                                         size_t path_count, naga_check_counts *counts);
+naga_check_status naga_check_slots_with(const uint32_t *words, size_t word_count, const naga_check_options *options,
+                                        uint32_t type, uint32_t offset, uint64_t *slots);
+naga_check_status naga_check_text_with(const uint8_t *text, size_t text_count, const naga_check_options *options,
+                                       naga_check_type_info *infos, size_t info_count, naga_check_outcome *outcome);
+naga_check_status naga_check_report_with(const uint8_t *text, size_t text_count, uint8_t *report, size_t report_count,
+                                         size_t *length);
+
+/* These options, or the default ones. */
+static inline naga_check_options naga_check_options_or_default(const naga_check_options *options) {
+  const naga_check_options chosen = NAGA_CHECK_OPTIONS_DEFAULT;
+  return options ? *options : chosen;
+}
 
 /* Validates a module in words: its handles, types, global expressions, constants and overrides. With
  * NAGA_CHECK_OK infos has the info of each type, unless info_count is 0. With NAGA_CHECK_ROOM the module is
  * accepted, no info is written, and outcome->types says how many there are. */
-naga_check_status naga_check_words(const uint32_t *words, size_t word_count, naga_check_type_info *infos,
-                                   size_t info_count, naga_check_outcome *outcome);
+static inline naga_check_status naga_check_words(const uint32_t *words, size_t word_count,
+                                                 const naga_check_options *options, naga_check_type_info *infos,
+                                                 size_t info_count, naga_check_outcome *outcome) {
+  const naga_check_options chosen = naga_check_options_or_default(options);
+  const uint32_t no_words = 0;
+  naga_check_type_info no_info;
+  naga_check_outcome unwanted;
+  return naga_check_words_with(words ? words : &no_words, word_count, &chosen, infos ? infos : &no_info, info_count,
+                               outcome ? outcome : &unwanted);
+}
 
 /* Validates a module as naga_check_words does, except that it never leaves out constants, and then the
- * expressions of its functions in order, and of its entry points. With NAGA_CHECK_OK stages has the pipeline stages that may use each function, and then
- * each entry point, as naga's ShaderStages, unless stage_count is 0. With NAGA_CHECK_REFUSED it has those
- * before the refused one, outcome->written of them, if it has room for all. With NAGA_CHECK_ROOM all are
- * accepted, and nothing is written; it has to have outcome->functions + outcome->entry_points elements. */
-naga_check_status naga_check_functions(const uint32_t *words, size_t word_count, uint32_t *stages,
-                                       size_t stage_count, naga_check_outcome *outcome);
+ * expressions of its functions in order, and of its entry points. With NAGA_CHECK_OK stages has the pipeline
+ * stages that may use each function, and then each entry point, NAGA_CHECK_SHADER_STAGE_.., unless stage_count is 0.
+ * With NAGA_CHECK_REFUSED it has those before the refused one, outcome->written of them, if it has room for all. With
+ * NAGA_CHECK_ROOM all are accepted, and nothing is written; it has to have outcome->functions + outcome->entry_points
+ * elements. */
+static inline naga_check_status naga_check_functions(const uint32_t *words, size_t word_count,
+                                                     const naga_check_options *options, uint32_t *stages,
+                                                     size_t stage_count, naga_check_outcome *outcome) {
+  const naga_check_options chosen = naga_check_options_or_default(options);
+  const uint32_t no_words = 0;
+  uint32_t no_stage;
+  naga_check_outcome unwanted;
+  return naga_check_functions_with(words ? words : &no_words, word_count, &chosen, stages ? stages : &no_stage,
+                                   stage_count, outcome ? outcome : &unwanted);
+}
 
 /* Validates a module as naga_check_words does, and writes the leaves of types of it, those of types[0] first:
  * at which bytes hosts put values. A runtime-sized array counts as `length` elements. Leaves come in the
  * order of their paths. counts says how many were written: with NAGA_CHECK_OK all of them, with
- * NAGA_CHECK_ROOM the first ones, as many as there was room for, with NAGA_CHECK_MEMORY maybe some, else none. */
-naga_check_status naga_check_leaves(const uint32_t *words, size_t word_count, const uint32_t *types,
-                                    size_t type_count, uint32_t length, naga_check_leaf *leaves,
-                                    size_t leaf_count, uint32_t *paths, size_t path_count,
-                                    naga_check_counts *counts);
+ * NAGA_CHECK_ROOM the first ones, as many as there was room for, with NAGA_CHECK_LIMIT as many as the options allow,
+ * with NAGA_CHECK_MEMORY maybe some, else none. */
+static inline naga_check_status naga_check_leaves(const uint32_t *words, size_t word_count,
+                                                  const naga_check_options *options, const uint32_t *types,
+                                                  size_t type_count, uint32_t length, naga_check_leaf *leaves,
+                                                  size_t leaf_count, uint32_t *paths, size_t path_count,
+                                                  naga_check_counts *counts) {
+  const naga_check_options chosen = naga_check_options_or_default(options);
+  const uint32_t no_words = 0;
+  naga_check_leaf no_leaf;
+  uint32_t no_path;
+  naga_check_counts unwanted;
+  return naga_check_leaves_with(words ? words : &no_words, word_count, &chosen, types ? types : &no_words, type_count,
+                                length, leaves ? leaves : &no_leaf, leaf_count, paths ? paths : &no_path, path_count,
+                                counts ? counts : &unwanted);
+}
 
 /* Validates a module as naga_check_words does, and writes the slots of immediate data that a value of a type
- * uses from a byte on: bit k is 1 if the value has one of the bytes 4 * k to 4 * k + 3. Hosts have to be allowed to share
- * values of the type: the flags of its info have 0x10, naga's HOST_SHAREABLE; else the call returns NAGA_CHECK_NO_TYPE.
- * Without NAGA_CHECK_OK it writes 0. */
-naga_check_status naga_check_slots(const uint32_t *words, size_t word_count, uint32_t type, uint32_t offset,
-                                   uint64_t *slots);
+ * uses from a byte on: bit k is 1 if the value has one of the bytes 4 * k to 4 * k + 3. Hosts have to be allowed to
+ * share values of the type: the flags of its info have NAGA_CHECK_TYPE_HOST_SHAREABLE; else the call returns
+ * NAGA_CHECK_NOT_SHAREABLE. Without NAGA_CHECK_OK it writes 0. */
+static inline naga_check_status naga_check_slots(const uint32_t *words, size_t word_count,
+                                                 const naga_check_options *options, uint32_t type, uint32_t offset,
+                                                 uint64_t *slots) {
+  const naga_check_options chosen = naga_check_options_or_default(options);
+  const uint32_t no_words = 0;
+  uint64_t unwanted;
+  return naga_check_slots_with(words ? words : &no_words, word_count, &chosen, type, offset,
+                               slots ? slots : &unwanted);
+}
+
+/* Validates a module in the text of docs/TEXT.md, and writes what naga_check_words writes of the module in words. */
+static inline naga_check_status naga_check_text(const uint8_t *text, size_t text_count,
+                                                const naga_check_options *options, naga_check_type_info *infos,
+                                                size_t info_count, naga_check_outcome *outcome) {
+  const naga_check_options chosen = naga_check_options_or_default(options);
+  const uint8_t no_text = 0;
+  naga_check_type_info no_info;
+  naga_check_outcome unwanted;
+  return naga_check_text_with(text ? text : &no_text, text_count, &chosen, infos ? infos : &no_info, info_count,
+                              outcome ? outcome : &unwanted);
+}
+
+/* Writes the report on a text that the program naga_check prints, and its length in bytes. The text's own settings are
+ * in force, and types are resolved as the program does, so this is for texts that a host wrote itself. Returns the exit
+ * status of the program: NAGA_CHECK_OK, NAGA_CHECK_REFUSED or NAGA_CHECK_UNREADABLE. With NAGA_CHECK_ROOM nothing
+ * but the length is written, and with NAGA_CHECK_MEMORY nothing. */
+static inline naga_check_status naga_check_report(const uint8_t *text, size_t text_count, uint8_t *report,
+                                                  size_t report_count, size_t *length) {
+  const uint8_t no_text = 0;
+  uint8_t no_report;
+  size_t unwanted;
+  return naga_check_report_with(text ? text : &no_text, text_count, report ? report : &no_report, report_count,
+                                length ? length : &unwanted);
+}
 
 #ifdef __cplusplus
 }

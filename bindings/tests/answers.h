@@ -9,9 +9,14 @@
 
 enum { MOST_WORDS = 4096, MOST_TYPES = 64, MOST_CALLABLES = 16, MOST_LEAVES = 64, MOST_INDEXES = 256 };
 enum { MOST_BYTES = 256 };
-enum { ABOUT_TEXT, ABOUT_WORDS, ABOUT_FUNCTIONS, ABOUT_LEAVES, ABOUT_SLOTS, CALLS };
+enum { ABOUT_REPORT, ABOUT_TEXT, ABOUT_WORDS, ABOUT_FUNCTIONS, ABOUT_LEAVES, ABOUT_SLOTS, CALLS };
 
-static const char *const call_names[CALLS] = {"text", "words", "functions", "leaves", "slots"};
+static const char *const call_names[CALLS] = {"report", "text", "words", "functions", "leaves", "slots"};
+
+/* Options that leave what may be used to the words. */
+static const naga_check_options by_words = {
+    sizeof(naga_check_options), NAGA_CHECK_VALIDATE_ALL, NAGA_CHECK_CAPABILITY_ALL, 0, NAGA_CHECK_SETTINGS_NARROW,
+    UINT64_MAX, UINT64_MAX, UINT64_MAX};
 
 /* What a call returned and wrote. What it left as it was is 0. */
 typedef struct {
@@ -54,22 +59,26 @@ static inline void ask(const question *asked, int call, answer *given) {
   const size_t count = asked->word_count;
   memset(given, 0, sizeof *given);
   switch (call) {
+  case ABOUT_REPORT:
+    given->status = naga_check_report((const uint8_t *)asked->text, strlen(asked->text), given->report, MOST_BYTES,
+                                      &given->length);
+    break;
   case ABOUT_TEXT:
-    given->status = naga_check_text((const uint8_t *)asked->text, strlen(asked->text), given->report, MOST_BYTES,
-                                    &given->length);
+    given->status = naga_check_text((const uint8_t *)asked->text, strlen(asked->text), &by_words, given->infos,
+                                    MOST_TYPES, &given->outcome);
     break;
   case ABOUT_WORDS:
-    given->status = naga_check_words(words, count, given->infos, MOST_TYPES, &given->outcome);
+    given->status = naga_check_words(words, count, &by_words, given->infos, MOST_TYPES, &given->outcome);
     break;
   case ABOUT_FUNCTIONS:
-    given->status = naga_check_functions(words, count, given->stages, MOST_CALLABLES, &given->outcome);
+    given->status = naga_check_functions(words, count, &by_words, given->stages, MOST_CALLABLES, &given->outcome);
     break;
   case ABOUT_LEAVES:
-    given->status = naga_check_leaves(words, count, &asked->type, 1, 3, given->leaves, MOST_LEAVES, given->paths,
-                                      MOST_INDEXES, &given->counts);
+    given->status = naga_check_leaves(words, count, &by_words, &asked->type, 1, 3, given->leaves, MOST_LEAVES,
+                                      given->paths, MOST_INDEXES, &given->counts);
     break;
   default:
-    given->status = naga_check_slots(words, count, asked->type, 4, &given->slots);
+    given->status = naga_check_slots(words, count, &by_words, asked->type, 4, &given->slots);
   }
 }
 

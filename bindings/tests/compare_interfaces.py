@@ -12,6 +12,7 @@ import sys
 
 RUST_TYPES = {"u8": "uint8_t", "u32": "uint32_t", "u64": "uint64_t", "usize": "size_t",
               "NagaCheckStatus": "naga_check_status", "NagaCheckOutcome": "naga_check_outcome",
+              "NagaCheckOptions": "naga_check_options",
               "NagaCheckTypeInfo": "naga_check_type_info", "NagaCheckLeaf": "naga_check_leaf",
               "NagaCheckCounts": "naga_check_counts"}
 

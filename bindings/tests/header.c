@@ -7,6 +7,16 @@
 
 HOLDS(size_of_status, sizeof(naga_check_status) == 4);
 
+HOLDS(size_of_options, sizeof(naga_check_options) == 48);
+IS_AT(naga_check_options, size, 0);
+IS_AT(naga_check_options, flags, 4);
+IS_AT(naga_check_options, capabilities, 8);
+IS_AT(naga_check_options, resolved, 16);
+IS_AT(naga_check_options, settings, 20);
+IS_AT(naga_check_options, most_words, 24);
+IS_AT(naga_check_options, most_items, 32);
+IS_AT(naga_check_options, most_leaves, 40);
+
 HOLDS(size_of_outcome, sizeof(naga_check_outcome) == 56);
 IS_AT(naga_check_outcome, index, 0);
 IS_AT(naga_check_outcome, types, 8);

@@ -29,7 +29,7 @@ static naga_check_leaf *leaves;
 static naga_check_counts *counts;
 static uint32_t *stages, *paths, *type;
 static uint64_t *slots;
-static unsigned long seen[NAGA_CHECK_NO_TYPE + 1];
+static unsigned long seen[NAGA_CHECK_NOT_SHAREABLE + 1];
 
 static void require(int holds, const char *what) {
   if (holds) return;
@@ -38,7 +38,7 @@ static void require(int holds, const char *what) {
 }
 
 static void note(naga_check_status status) {
-  require(status <= NAGA_CHECK_NO_TYPE, "a status that is none");
+  require(status <= NAGA_CHECK_NOT_SHAREABLE, "a status that is none");
   seen[status]++;
 }
 
@@ -46,19 +46,19 @@ static void try_words(const uint32_t *module, size_t count) {
   uint32_t *words = words_end - count;
   naga_check_status first, second;
   memcpy(words, module, count * sizeof *words);
-  first = naga_check_words(words, count, infos, FEW_TYPES, outcome);
+  first = naga_check_words(words, count, &by_words, infos, FEW_TYPES, outcome);
   note(first);
   require(first != NAGA_CHECK_UNREADABLE || outcome->index <= count, "the item that can't be read is past the end");
   require((first == NAGA_CHECK_REFUSED) == (outcome->stage != 0), "a stage without a refusal, or none with one");
-  second = naga_check_functions(words, count, stages, FEW_CALLABLES, outcome);
+  second = naga_check_functions(words, count, &by_words, stages, FEW_CALLABLES, outcome);
   note(second);
   require(outcome->written <= FEW_CALLABLES, "more stages than there is room for");
   require(first != NAGA_CHECK_REFUSED || second == NAGA_CHECK_REFUSED, "functions of a refused module");
   require((first == NAGA_CHECK_UNREADABLE) == (second == NAGA_CHECK_UNREADABLE), "two ways to read");
   for (*type = 0; *type < 20; *type += 5) {
-    note(naga_check_leaves(words, count, type, 1, 2, leaves, FEW_LEAVES, paths, FEW_INDEXES, counts));
+    note(naga_check_leaves(words, count, &by_words, type, 1, 2, leaves, FEW_LEAVES, paths, FEW_INDEXES, counts));
     require(counts->leaves <= FEW_LEAVES && counts->paths <= FEW_INDEXES, "more leaves than there is room for");
-    note(naga_check_slots(words, count, *type, *type, slots));
+    note(naga_check_slots(words, count, &by_words, *type, *type, slots));
   }
 }
 
@@ -87,8 +87,8 @@ int main(int argc, char **argv) {
   }
   for (cut = 0; cut <= asked.word_count; cut++) try_words(asked.words, cut);
   printf("hostile_words: statuses");
-  for (at = 0; at <= NAGA_CHECK_NO_TYPE; at++) printf(" %lu", seen[at]);
-  printf(" from 0 to 5\n");
+  for (at = 0; at <= NAGA_CHECK_NOT_SHAREABLE; at++) printf(" %lu", seen[at]);
+  printf(" from 0 to %d\n", NAGA_CHECK_NOT_SHAREABLE);
   for (at = NAGA_CHECK_OK; at <= NAGA_CHECK_UNREADABLE; at++) require(seen[at] != 0, "a status was never returned");
   require(!seen[NAGA_CHECK_MEMORY], "memory was refused");
   return 0;

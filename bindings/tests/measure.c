@@ -21,7 +21,7 @@ static naga_check_status ask_version(void) {
 
 static naga_check_status ask_about_words(size_t count) {
   naga_check_outcome outcome;
-  return naga_check_words(words, count, infos, MOST_TYPES, &outcome);
+  return naga_check_words(words, count, NULL, infos, MOST_TYPES, &outcome);
 }
 
 static naga_check_status ask_nothing(void) { return ask_about_words(0); }
@@ -29,14 +29,20 @@ static naga_check_status ask_nothing(void) { return ask_about_words(0); }
 static naga_check_status ask_words(void) { return ask_about_words(word_count); }
 
 static naga_check_status ask_text(void) {
+  naga_check_outcome outcome;
+  return naga_check_text(text, text_count, NULL, infos, MOST_TYPES, &outcome);
+}
+
+static naga_check_status ask_report(void) {
   size_t length;
-  return naga_check_text(text, text_count, report, MOST_BYTES, &length);
+  return naga_check_report(text, text_count, report, MOST_BYTES, &length);
 }
 
 static const struct {
   const char *name;
   naga_check_status (*make)(void);
-} calls[] = {{"version", ask_version}, {"nothing", ask_nothing}, {"words", ask_words}, {"text", ask_text}};
+} calls[] = {{"version", ask_version}, {"nothing", ask_nothing}, {"words", ask_words}, {"text", ask_text},
+             {"report", ask_report}};
 
 enum { CALLS = sizeof calls / sizeof *calls };
 

@@ -1,6 +1,5 @@
 /* Refuses one request for memory after another to each call: it has to return what it does otherwise, or to say that
- * memory was refused and nothing else. The call on a text says so by the program's report if the text was read. Nothing
- * may stay allocated.
+ * memory was refused and nothing else. Nothing may stay allocated.
  *
  *   refused_memory WORDS TYPE
  *
@@ -50,10 +49,8 @@ static long ask_with_refusal(const question *asked, int call, long request, answ
 /* Whether a call says that memory was refused, and nothing else. Some leaves may have been written. */
 static int says_refused(int call, const answer *given) {
   static const answer nothing = {.status = NAGA_CHECK_MEMORY};
-  static const answer report = {.status = NAGA_CHECK_REFUSED, .report = "refused memory\n", .length = 15};
   if (call == ABOUT_LEAVES && given->status == NAGA_CHECK_MEMORY) return 1;
-  return memcmp(given, &nothing, sizeof nothing) == 0 ||
-         (call == ABOUT_TEXT && memcmp(given, &report, sizeof report) == 0);
+  return memcmp(given, &nothing, sizeof nothing) == 0;
 }
 
 int main(int argc, char **argv) {

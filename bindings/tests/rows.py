@@ -1,6 +1,7 @@
 #!/usr/bin/env python3
 """Asks the library what the rows of the repository ask the program naga_query, with each module as words and as text,
-and compares the results. The last line is how many were the same.
+and compares the results: with those of the rows, and those of the two forms with each other. The last lines are how
+many were the same.
 
     rows.py LIBRARY HEADER FILE..
 """
@@ -11,7 +12,7 @@ import sys
 
 from words_of_text import Unreadable, Writer
 
-OK, REFUSED, UNREADABLE, MEMORY, ROOM, NO_TYPE = range(6)
+OK, REFUSED, UNREADABLE, MEMORY, ROOM, NO_TYPE, LIMIT, OPTIONS, SETTINGS, NOT_SHAREABLE = range(10)
 STAGES = "handle layout type expression constant override".split()
 ITEMS = {"layout": "T", "type": "T", "expression": "G", "constant": "C", "override": "O"}
 ERRORS = {1: "HANDLE_ERROR", 2: "LAYOUT_ERROR", 3: "TYPE_ERROR", 4: "CONST_EXPRESSION_ERROR", 5: "CONSTANT_ERROR",
@@ -21,7 +22,9 @@ CAUSES = {"InvalidBlendSrc": "VARYING_ERROR", "WidthError": "WIDTH_ERROR", "Lite
           "Compose": "COMPOSE_ERROR", "Type": "RESOLVE_ERROR", "IndexableLength": "INDEXABLE_LENGTH_ERROR"}
 TYPE_FLAGS = "DATA SIZED COPY IO_SHAREABLE HOST_SHAREABLE CREATION_RESOLVED ARGUMENT CONSTRUCTIBLE".split()
 MOST_LEAVES = 1000
-ALL_CAPABILITIES = [2 << 8 | 2, 0xFFFFFFFF, 0xFFF]
+ALL_FLAGS, DEFAULT_CAPABILITIES, ALL_CAPABILITIES = 0x3F, 0x9000, 0xFFFFFFFFFFF
+NARROW = 1
+UNLIMITED = 2**64 - 1
 UNKNOWN = object()
 
 
@@ -37,8 +40,8 @@ class Header:
         text = re.sub(r"/\*.*?\*/", "", open(path, encoding="utf-8").read(), flags=re.DOTALL)
         found = re.findall(r"typedef struct naga_check_(\w+) \{(.*?)\}", text, re.DOTALL)
         structs = {name: struct(name, re.findall(r"(\w+) (\w+);", body)) for name, body in found}
-        self.outcome, self.info, self.leaf, self.counts = (
-            structs[name] for name in ("outcome", "type_info", "leaf", "counts"))
+        self.options, self.outcome, self.info, self.leaf, self.counts = (
+            structs[name] for name in ("options", "outcome", "type_info", "leaf", "counts"))
         self.numbers = {}
         for name, value in re.findall(r"\bNAGA_CHECK_(\w+) = (\d+)", text):
             self.numbers[name.replace("_", "")] = int(value)
@@ -61,37 +64,45 @@ class Library:
 
     def call(self, name, *arguments):
         passed = [ctypes.c_size_t(it) if isinstance(it, int) else it for it in arguments]
-        return getattr(self.calls, "naga_check_" + name)(*passed)
+        return getattr(self.calls, f"naga_check_{name}_with")(*passed)
 
-    def text(self, text):
+    def report(self, text):
         report, length = (ctypes.c_uint8 * 65536)(), ctypes.c_size_t()
-        status = self.call("text", array(ctypes.c_uint8, text), len(text), report, len(report), ctypes.byref(length))
+        status = self.call("report", array(ctypes.c_uint8, text), len(text), report, len(report),
+                           ctypes.byref(length))
         return status, bytes(report[:length.value]).decode()
 
-    def words(self, words):
+    def infos_of(self, name, given, options):
         outcome, infos = self.header.outcome(), (self.header.info * 4096)()
-        given = array(ctypes.c_uint32, words)
-        status = self.call("words", given, len(words), infos, len(infos), ctypes.byref(outcome))
+        status = self.call(name, given, len(given), ctypes.byref(options), infos, len(infos), ctypes.byref(outcome))
         return status, outcome, infos[:outcome.types] if status == OK else []
 
-    def functions(self, words):
+    def text(self, module):
+        return self.infos_of("text", array(ctypes.c_uint8, module.text), module.options(self.header))
+
+    def words(self, module, capable=False):
+        return self.infos_of("words", array(ctypes.c_uint32, module.words), module.options(self.header, capable))
+
+    def functions(self, module):
         outcome, stages = self.header.outcome(), (ctypes.c_uint32 * 4096)()
-        given = array(ctypes.c_uint32, words)
-        status = self.call("functions", given, len(words), stages, len(stages), ctypes.byref(outcome))
+        given = array(ctypes.c_uint32, module.words)
+        status = self.call("functions", given, len(given), ctypes.byref(module.options(self.header)), stages,
+                           len(stages), ctypes.byref(outcome))
         return status, outcome, stages[:outcome.written]
 
-    def leaves(self, words, ty, length):
+    def leaves(self, module, ty, length):
         counts, leaves = self.header.counts(), (self.header.leaf * MOST_LEAVES)()
-        paths = (ctypes.c_uint32 * (64 * MOST_LEAVES))()
-        status = self.call("leaves", array(ctypes.c_uint32, words), len(words), array(ctypes.c_uint32, [ty]), 1,
-                           ctypes.c_uint32(length), leaves, len(leaves), paths, len(paths), ctypes.byref(counts))
+        paths, given = (ctypes.c_uint32 * (64 * MOST_LEAVES))(), array(ctypes.c_uint32, module.words)
+        status = self.call("leaves", given, len(given), ctypes.byref(module.options(self.header, True)),
+                           array(ctypes.c_uint32, [ty]), 1, ctypes.c_uint32(length), leaves, len(leaves), paths,
+                           len(paths), ctypes.byref(counts))
         found = [(leaf, paths[leaf.path_at:leaf.path_at + leaf.path_length]) for leaf in leaves[:counts.leaves]]
         return status, found
 
-    def slots(self, words, ty, offset):
-        slots = ctypes.c_uint64()
-        status = self.call("slots", array(ctypes.c_uint32, words), len(words), ctypes.c_uint32(ty),
-                           ctypes.c_uint32(offset), ctypes.byref(slots))
+    def slots(self, module, ty, offset):
+        slots, given = ctypes.c_uint64(), array(ctypes.c_uint32, module.words)
+        status = self.call("slots", given, len(given), ctypes.byref(module.options(self.header, True)),
+                           ctypes.c_uint32(ty), ctypes.c_uint32(offset), ctypes.byref(slots))
         return status, slots.value
 
 
@@ -99,6 +110,7 @@ class Module:
     """A module of a case: its text, its words, and where the item of each line begins."""
 
     def __init__(self, lines):
+        self.lines = lines
         self.text = "".join(line + "\n" for line in lines).encode()
         writer = Writer()
         self.starts = []
@@ -108,9 +120,19 @@ class Module:
         writer.end_function()
         self.words = writer.words
         self.resolve = writer.resolve
-        # Leaves and slots depend on no capability, and a call on them validates the module first.
-        has_capabilities = any(line.startswith("caps ") for line in lines)
-        self.capable_words = self.words if has_capabilities else self.words + ALL_CAPABILITIES
+
+    def setting(self, keyword, default):
+        """The number that a line sets, if it is one."""
+        numbers = [line.split()[1] for line in self.lines if line.startswith(keyword + " ") and line.count(" ") == 1]
+        return int(numbers[0]) if numbers and numbers[0].isdigit() else default
+
+    def options(self, header, capable=False):
+        """Options that say what the lines say, with which these can agree. Leaves and slots depend on no capability, and
+        a call on them validates the module first: it may have all of them, unless a line says which."""
+        capabilities = self.setting("caps", ALL_CAPABILITIES if capable else DEFAULT_CAPABILITIES)
+        flags = self.setting("flags", ALL_FLAGS)
+        return header.options(ctypes.sizeof(header.options), flags & ALL_FLAGS, capabilities & ALL_CAPABILITIES,
+                              0, NARROW, UNLIMITED, UNLIMITED, UNLIMITED)
 
 
 def error_number(header, stage, error, cause):
@@ -131,9 +153,9 @@ def is_report(library, module, result):
     """Whether a report is right: of the text itself, and of the words."""
     *lines, last = result
     status = int(last.removeprefix("status "))
-    if library.text(module.text) != (status, "".join(line + "\n" for line in lines)):
+    if library.report(module.text) != (status, "".join(line + "\n" for line in lines)):
         return False
-    given, outcome, infos = library.words(module.words)
+    given, outcome, infos = library.words(module)
     if given != status:
         return False
     if status == UNREADABLE:
@@ -160,7 +182,7 @@ def layout_name(header, alignment, error):
 
 
 def is_handles(library, module, result):
-    _, outcome, _ = library.words(module.words)
+    _, outcome, _ = library.words(module)
     fault, *operands = result[0].split()
     if fault == "ok":
         return outcome.stage != 1
@@ -171,7 +193,7 @@ def is_handles(library, module, result):
 
 
 def is_validated(library, module, result):
-    status, outcome, _ = library.words(module.words)
+    status, outcome, _ = library.words(module)
     if result[0] == "ok":
         return status == OK
     stages = {"InvalidHandle": 1, "Layouter": 2, "Type_": 3, "ConstExpression": 4, "Constant": 5, "Override": 6}
@@ -189,7 +211,7 @@ def is_validated(library, module, result):
 
 
 def is_type(library, module, result, ty):
-    _, _, infos = library.words(module.words)
+    _, _, infos = library.words(module)
     found = re.match(r"T(\d+): size (\d+), alignment (\d+), TypeFlags\((.*?)\), uniform (.*), storage (.*), "
                      r"immediates (Ok|Err)", result[0])
     if found is None or not infos:
@@ -205,7 +227,7 @@ def is_type(library, module, result, ty):
 
 
 def is_leaves(library, module, result, ty, length=1):
-    status, found = library.leaves(module.capable_words, ty, length)
+    status, found = library.leaves(module, ty, length)
     if status == REFUSED:
         return UNKNOWN if not found else False
     more = ["and so on"] if status == ROOM else []
@@ -215,18 +237,19 @@ def is_leaves(library, module, result, ty, length=1):
 
 
 def is_slots(library, module, result, ty, offset):
-    status, slots = library.slots(module.capable_words, ty, offset)
+    status, slots = library.slots(module, ty, offset)
     if status == REFUSED:
         return UNKNOWN if slots == 0 else False
-    if status == NO_TYPE:
-        _, _, infos = library.words(module.capable_words)
+    if status in (NO_TYPE, NOT_SHAREABLE):
+        _, _, infos = library.words(module, True)
         is_shareable = ty < len(infos) and infos[ty].flags >> TYPE_FLAGS.index("HOST_SHAREABLE") & 1
-        return False if is_shareable or slots != 0 else UNKNOWN
+        is_right = (status == NO_TYPE) == (ty >= len(infos)) and not is_shareable and slots == 0
+        return UNKNOWN if is_right else False
     return status == OK and result[0].startswith(f"{slots:016x} ")
 
 
 def is_callables(library, module, result):
-    status, outcome, _ = library.functions(module.words)
+    status, outcome, _ = library.functions(module)
     if result[0] == "ok":
         return status == OK
     kind, index, expression, error, cause = re.match(
@@ -239,7 +262,7 @@ def is_callables(library, module, result):
 
 
 def is_stages(library, module, result, index, is_entry_point=False):
-    _, outcome, stages = library.functions(module.words)
+    _, outcome, stages = library.functions(module)
     at = index + (outcome.functions if is_entry_point else 0)
     if not result[-1].startswith("stages ") or at >= len(stages):
         return UNKNOWN
@@ -281,21 +304,47 @@ def answer(library, module, query, result):
     if name == "run" and result:
         given = query[len("run "):].strip('"').encode().decode("unicode_escape").encode("latin-1")
         *lines, last = result
-        return library.text(given) == (int(last.removeprefix("status ")), "".join(line + "\n" for line in lines))
+        return library.report(given) == (int(last.removeprefix("status ")), "".join(line + "\n" for line in lines))
     if name not in CHECKS or module is None or not result:
         return UNKNOWN
     return CHECKS[name](library, module, result, *(int(module.resolve(operand)) for operand in operands))
 
 
+def is_line_text(lines):
+    """Whether all lines have content that the text of naga_check may have."""
+    keywords = {"flags", "caps", "resolved", "type", "expr", "const", "override", "doc"}
+    return all(not line or line.startswith("#") or line.split(" ")[0] in keywords for line in lines)
+
+
+def plain(structure):
+    return tuple(getattr(structure, field) for field, _ in structure._fields_)
+
+
+def agree(library, module):
+    """Whether the calls on the text and on the words of a module return the same."""
+    (status, of_text, infos), (other, of_words, others) = library.text(module), library.words(module)
+    if (status, [plain(info) for info in infos]) != (other, [plain(info) for info in others]):
+        return False
+    if status == UNREADABLE:
+        return of_words.index == module.starts[of_text.index - 1]
+    return plain(of_text) == plain(of_words)
+
+
 def main():
     library = Library(sys.argv[1], Header(sys.argv[2]))
-    passed = failed = unknown = 0
+    passed = failed = unknown = agreed = 0
     for path in sys.argv[3:]:
         for title, lines, queries in cases_of(open(path, encoding="utf-8").read()):
             try:
                 module = Module(lines)
             except Unreadable:
                 module = None
+            if module is not None and is_line_text(lines):
+                if agree(library, module):
+                    agreed += 1
+                else:
+                    failed += 1
+                    print(f"rows: {path}: {title}: the text and the words have other results")
             for query, result in queries:
                 is_right = answer(library, module, query, result)
                 if is_right is UNKNOWN:
@@ -306,7 +355,8 @@ def main():
                     failed += 1
                     print(f"rows: {path}: {title}: {query[:100]}: {result[:3]}")
     print(f"rows: {passed} results the same, {failed} others, {unknown} of queries whose result no call returns")
-    sys.exit(failed > 0 or passed == 0)
+    print(f"rows: {agreed} modules have the same results as text and as words")
+    sys.exit(failed > 0 or passed == 0 or agreed == 0)
 
 
 if __name__ == "__main__":

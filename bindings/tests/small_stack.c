@@ -12,6 +12,11 @@
 #define GLOBAL(form, count) NAGA_CHECK_ITEM(NAGA_CHECK_GLOBAL_EXPRESSION(NAGA_CHECK_FORM_##form), count)
 #define ADD(...) add((const uint32_t[]){__VA_ARGS__}, sizeof((const uint32_t[]){__VA_ARGS__}) / sizeof(uint32_t))
 
+/* Options that leave what may be used to the words. */
+static const naga_check_options by_words = {
+    sizeof(naga_check_options), NAGA_CHECK_VALIDATE_ALL, NAGA_CHECK_CAPABILITY_ALL, 0, NAGA_CHECK_SETTINGS_NARROW,
+    UINT64_MAX, UINT64_MAX, UINT64_MAX};
+
 enum { DEEP = 20000, MOST_DEEP_WORDS = 1000000, STACK = 256 << 10 };
 
 static uint32_t words[MOST_DEEP_WORDS];
@@ -146,11 +151,11 @@ static void *ask_about(void *at) {
   naga_check_counts counts;
   uint64_t slots;
   naga_check_status of_functions;
-  if (naga_check_words(words, count, infos, 0, &outcome) != modules[which].of_words) return at;
-  of_functions = naga_check_functions(words, count, paths, 0, &outcome);
+  if (naga_check_words(words, count, &by_words, infos, 0, &outcome) != modules[which].of_words) return at;
+  of_functions = naga_check_functions(words, count, &by_words, paths, 0, &outcome);
   if (modules[which].of_functions != NONE && of_functions != modules[which].of_functions) return at;
-  naga_check_leaves(words, count, &last_type, 1, 1, leaves, 4, paths, 2 * DEEP, &counts);
-  if (modules[which].has_slots) naga_check_slots(words, count, last_type, 0, &slots);
+  naga_check_leaves(words, count, &by_words, &last_type, 1, 1, leaves, 4, paths, 2 * DEEP, &counts);
+  if (modules[which].has_slots) naga_check_slots(words, count, &by_words, last_type, 0, &slots);
   return NULL;
 }
 

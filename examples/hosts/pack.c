@@ -26,13 +26,13 @@ int main(void) {
   uint8_t buffer[32] = {0};
   size_t i;
 
-  if (naga_check_words(words, word_count, infos, 3, &outcome) != NAGA_CHECK_OK) {
+  if (naga_check_words(words, word_count, NULL, infos, 3, &outcome) != NAGA_CHECK_OK) {
     fprintf(stderr, "stage %u, item %llu: error %u\n", (unsigned)outcome.stage,
             (unsigned long long)outcome.index, (unsigned)outcome.error);
     return 1;
   }
   if (infos[pair].size > sizeof buffer) return 1;
-  if (naga_check_leaves(words, word_count, &pair, 1, 0, leaves, 2, paths, 2, &counts) != NAGA_CHECK_OK) return 1;
+  if (naga_check_leaves(words, word_count, NULL, &pair, 1, 0, leaves, 2, paths, 2, &counts) != NAGA_CHECK_OK) return 1;
   for (i = 0; i < counts.leaves; i++) {
     const uint32_t member = paths[leaves[i].path_at];
     memcpy(buffer + leaves[i].first, member == 0 ? (const void *)&number : vector, leaves[i].size);

@@ -3,7 +3,8 @@
 use crate::errors::{Disalignment, Error, Refusal};
 use crate::flags::{ShaderStages, TypeFlags};
 use crate::operands::Handle;
-use crate::raw;
+use crate::options::Options;
+use crate::raw::{self, Subject};
 use crate::sys::{self, NagaCheckLeaf, NagaCheckOutcome, NagaCheckStatus, NagaCheckTypeInfo};
 use crate::types::Type;
 use std::fmt;
@@ -206,25 +207,30 @@ fn error_of(status: NagaCheckStatus, outcome: &NagaCheckOutcome) -> Error {
         sys::NAGA_CHECK_UNREADABLE => Error::Unreadable { at: outcome.index },
         sys::NAGA_CHECK_MEMORY => Error::OutOfMemory,
         sys::NAGA_CHECK_NO_TYPE => Error::NoType,
+        sys::NAGA_CHECK_LIMIT => Error::Limit,
+        sys::NAGA_CHECK_OPTIONS => Error::Options,
+        sys::NAGA_CHECK_SETTINGS => Error::Settings,
+        sys::NAGA_CHECK_NOT_SHAREABLE => Error::NotShareable,
         _ => Error::Unknown,
     }
 }
 
 /// The error of a call that returns its status only. What is wrong with the module is looked up.
-fn error_of_status(status: NagaCheckStatus, words: &[u32]) -> Error {
+fn error_of_status(status: NagaCheckStatus, subject: Subject<'_>) -> Error {
     match status {
         sys::NAGA_CHECK_REFUSED | sys::NAGA_CHECK_UNREADABLE => {
-            let (status, outcome) = raw::check_words(words, &mut []);
+            let (status, outcome) = raw::check_words(subject, &mut []);
             error_of(status, &outcome)
         }
         _ => error_of(status, &NagaCheckOutcome::default()),
     }
 }
 
-/// Reports on a module in the text that the program `naga_check` reads.
+/// Reports on a module in the text that the program `naga_check` reads, as the program does: the text's own settings are
+/// in force, so this is for texts that a host wrote itself. [`check_text`] takes options.
 ///
 /// ```
-/// let report = naga_check::check_text(b"type scalar float 4\n")?;
+/// let report = naga_check::report(b"type scalar float 4\n")?;
 /// assert_eq!(report.verdict, naga_check::Verdict::Accepted);
 /// assert_eq!(report.text, "T0 ff 4 4\nok\n");
 /// # Ok::<(), naga_check::Error>(())
@@ -233,18 +239,13 @@ fn error_of_status(status: NagaCheckStatus, words: &[u32]) -> Error {
 /// # Errors
 ///
 /// `OutOfMemory`. A text that can't be read has a report too.
-pub fn check_text(text: &[u8]) -> Result<Report, Error> {
-    /// The report if memory was refused after the text was read. No refused module has it.
-    const OUT_OF_MEMORY: &[u8] = b"refused memory\n";
+pub fn report(text: &[u8]) -> Result<Report, Error> {
     // The report has a line for each type, and is rarely longer than the text.
     let mut report = buffer(text.len().saturating_add(64))?;
     loop {
-        let (status, length) = raw::check_text(text, &mut report);
+        let (status, length) = raw::report(text, &mut report);
         let verdict = match status {
             sys::NAGA_CHECK_OK => Verdict::Accepted,
-            sys::NAGA_CHECK_REFUSED if report[..length] == *OUT_OF_MEMORY => {
-                return Err(Error::OutOfMemory);
-            }
             sys::NAGA_CHECK_REFUSED => Verdict::Refused,
             sys::NAGA_CHECK_UNREADABLE => Verdict::Unreadable,
             sys::NAGA_CHECK_ROOM => {
@@ -259,30 +260,14 @@ pub fn check_text(text: &[u8]) -> Result<Report, Error> {
     }
 }
 
-/// Validates a module in words: its handles, types, global expressions, constants and overrides. Returns the info of
-/// each type.
-///
-/// ```
-/// use naga_check::{check_words, Scalar, TypeFlags, TypeInner, VectorSize, Words};
-///
-/// let mut words = Words::new();
-/// let vector = words.add_type(TypeInner::Vector { size: VectorSize::Tri, scalar: Scalar::F32 });
-/// let infos = check_words(&words.finish()?)?;
-/// let info = infos[vector.index() as usize];
-/// assert_eq!((info.size, info.alignment, info.uniform_layout), (12, 16, Ok(16)));
-/// assert!(info.flags.contains(TypeFlags::HOST_SHAREABLE));
-/// # Ok::<(), Box<dyn std::error::Error>>(())
-/// ```
-///
-/// # Errors
-///
-/// The first rule that the module breaks, or why nothing is known of it.
-pub fn check_words(words: &[u32]) -> Result<Vec<TypeInfo>, Error> {
-    let is_type =
-        |opcode| (sys::NAGA_CHECK_OP_SCALAR..=sys::NAGA_CHECK_OP_BINDING_ARRAY).contains(&opcode);
-    let mut infos = buffer(count_items(words, is_type))?;
+/// The infos that a call writes, which is given a buffer of at first `count` elements.
+fn infos_of(
+    count: usize,
+    call: impl Fn(&mut [NagaCheckTypeInfo]) -> (NagaCheckStatus, NagaCheckOutcome),
+) -> Result<Vec<TypeInfo>, Error> {
+    let mut infos = buffer(count)?;
     loop {
-        let (status, outcome) = raw::check_words(words, &mut infos);
+        let (status, outcome) = call(&mut infos);
         match status {
             // An empty buffer is never too short.
             sys::NAGA_CHECK_OK if outcome.types == infos.len() as u64 => {
@@ -298,17 +283,59 @@ pub fn check_words(words: &[u32]) -> Result<Vec<TypeInfo>, Error> {
     }
 }
 
+/// Validates a module in the text that the program `naga_check` reads, as [`check_words`] does one in words.
+///
+/// ```
+/// let infos = naga_check::check_text(b"type scalar float 4\n", &naga_check::Options::new())?;
+/// assert_eq!(infos[0].size, 4);
+/// # Ok::<(), naga_check::Error>(())
+/// ```
+///
+/// # Errors
+///
+/// As of [`check_words`]. `Unreadable` has the number of a line.
+pub fn check_text(text: &[u8], options: &Options) -> Result<Vec<TypeInfo>, Error> {
+    infos_of(0, |infos| raw::check_text(text, options, infos))
+}
+
+/// Validates a module in words: its handles, types, global expressions, constants and overrides. Returns the info of
+/// each type. Of statements, variables, bindings and entry points it says nothing: they are not validated yet.
+///
+/// ```
+/// use naga_check::{check_words, Options, Scalar, TypeFlags, TypeInner, VectorSize, Words};
+///
+/// let mut words = Words::new();
+/// let vector = words.add_type(TypeInner::Vector { size: VectorSize::Tri, scalar: Scalar::F32 });
+/// let infos = check_words(&words.finish()?, &Options::new())?;
+/// let info = infos[vector.index() as usize];
+/// assert_eq!((info.size, info.alignment, info.uniform_layout), (12, 16, Ok(16)));
+/// assert!(info.flags.contains(TypeFlags::HOST_SHAREABLE));
+/// # Ok::<(), Box<dyn std::error::Error>>(())
+/// ```
+///
+/// # Errors
+///
+/// The first rule that the module breaks, or why nothing is known of it.
+pub fn check_words(words: &[u32], options: &Options) -> Result<Vec<TypeInfo>, Error> {
+    let is_type =
+        |opcode| (sys::NAGA_CHECK_OP_SCALAR..=sys::NAGA_CHECK_OP_BINDING_ARRAY).contains(&opcode);
+    let subject = Subject { words, options };
+    infos_of(count_items(words, is_type), |infos| {
+        raw::check_words(subject, infos)
+    })
+}
+
 /// Validates a module as [`check_words`] does, and then the expressions of its functions in order, and of its entry
 /// points. Returns the pipeline stages that may use each.
 ///
 /// ```
-/// use naga_check::{check_functions, Expression, Function, Literal, ShaderStages, Words};
+/// use naga_check::{check_functions, Expression, Function, Literal, Options, ShaderStages, Words};
 ///
 /// let mut function = Function::default();
 /// function.add_expression(Expression::Literal(Literal::U32(7)));
 /// let mut words = Words::new();
 /// words.add_function(&function);
-/// let stages = check_functions(&words.finish()?)?;
+/// let stages = check_functions(&words.finish()?, &Options::new())?;
 /// assert!(stages.functions[0].contains(ShaderStages::FRAGMENT));
 /// # Ok::<(), Box<dyn std::error::Error>>(())
 /// ```
@@ -316,12 +343,12 @@ pub fn check_words(words: &[u32]) -> Result<Vec<TypeInfo>, Error> {
 /// # Errors
 ///
 /// The first rule that the module breaks, with the stages of the functions before, or why nothing is known of it.
-pub fn check_functions(words: &[u32]) -> Result<FunctionStages, FunctionsError> {
+pub fn check_functions(words: &[u32], options: &Options) -> Result<FunctionStages, FunctionsError> {
     let is_function =
         |opcode| [sys::NAGA_CHECK_OP_FUNCTION, sys::NAGA_CHECK_OP_ENTRY_POINT].contains(&opcode);
     let mut stages = buffer(count_items(words, is_function))?;
     loop {
-        let (status, outcome) = raw::check_functions(words, &mut stages);
+        let (status, outcome) = raw::check_functions(Subject { words, options }, &mut stages);
         let needed = outcome.functions.saturating_add(outcome.entry_points);
         let is_too_short = needed > stages.len() as u64;
         match status {
@@ -357,13 +384,13 @@ pub fn check_functions(words: &[u32]) -> Result<FunctionStages, FunctionsError> 
 /// the first ones only.
 ///
 /// ```
-/// use naga_check::{leaves, Scalar, StructMember, TypeInner, Words};
+/// use naga_check::{leaves, Options, Scalar, StructMember, TypeInner, Words};
 ///
 /// let mut words = Words::new();
 /// let number = words.add_type(TypeInner::Scalar(Scalar::U32));
 /// let members = vec![StructMember::at(0, number), StructMember::at(8, number)];
 /// let pair = words.add_type(TypeInner::Struct { members, span: 12 });
-/// let leaves = leaves(&words.finish()?, &[pair], 0)?;
+/// let leaves = leaves(&words.finish()?, &Options::new(), &[pair], 0)?;
 /// let places: Vec<_> = leaves.iter().map(|leaf| (leaf.path, leaf.first)).collect();
 /// assert_eq!(places, [(&[0][..], 0), (&[1][..], 8)]);
 /// # Ok::<(), Box<dyn std::error::Error>>(())
@@ -372,8 +399,13 @@ pub fn check_functions(words: &[u32]) -> Result<FunctionStages, FunctionsError> 
 /// # Errors
 ///
 /// As of [`check_words`], and `NoType`.
-pub fn leaves(words: &[u32], types: &[Handle<Type>], length: u32) -> Result<Leaves, Error> {
-    leaves_up_to(words, types, length, usize::MAX)
+pub fn leaves(
+    words: &[u32],
+    options: &Options,
+    types: &[Handle<Type>],
+    length: u32,
+) -> Result<Leaves, Error> {
+    leaves_up_to(words, options, types, length, usize::MAX)
 }
 
 /// The first leaves of types of a module, as [`leaves`] returns them all: at most `most` of them.
@@ -383,16 +415,18 @@ pub fn leaves(words: &[u32], types: &[Handle<Type>], length: u32) -> Result<Leav
 /// As of [`leaves`].
 pub fn leaves_up_to(
     words: &[u32],
+    options: &Options,
     types: &[Handle<Type>],
     length: u32,
     most: usize,
 ) -> Result<Leaves, Error> {
     const FIRST_ROOM: usize = 64;
+    let subject = Subject { words, options };
     let types: Vec<u32> = types.iter().map(|ty| ty.index()).collect();
     let mut found: Vec<NagaCheckLeaf> = buffer(FIRST_ROOM.min(most))?;
     let mut paths: Vec<u32> = buffer(FIRST_ROOM)?;
     loop {
-        let (status, counts) = raw::leaves(words, &types, length, &mut found, &mut paths);
+        let (status, counts) = raw::leaves(subject, &types, length, &mut found, &mut paths);
         let count = counts.leaves as usize;
         match status {
             sys::NAGA_CHECK_ROOM if count < most => {
@@ -411,7 +445,7 @@ pub fn leaves_up_to(
                     are_all: status == sys::NAGA_CHECK_OK,
                 });
             }
-            _ => return Err(error_of_status(status, words)),
+            _ => return Err(error_of_status(status, subject)),
         }
     }
 }
@@ -420,37 +454,43 @@ pub fn leaves_up_to(
 /// bytes `4 * k` to `4 * k + 3`.
 ///
 /// ```
-/// use naga_check::{slots, Scalar, TypeInner, VectorSize, Words};
+/// use naga_check::{slots, Options, Scalar, TypeInner, VectorSize, Words};
 ///
 /// let mut words = Words::new();
 /// let vector = words.add_type(TypeInner::Vector { size: VectorSize::Bi, scalar: Scalar::F32 });
-/// assert_eq!(slots(&words.finish()?, vector, 8)?, 0b1100);
+/// assert_eq!(slots(&words.finish()?, &Options::new(), vector, 8)?, 0b1100);
 /// # Ok::<(), Box<dyn std::error::Error>>(())
 /// ```
 ///
 /// # Errors
 ///
-/// As of [`check_words`], and `NoType`, also of a type whose values hosts may not share.
-pub fn slots(words: &[u32], ty: Handle<Type>, offset: u32) -> Result<u64, Error> {
+/// As of [`check_words`], `NoType`, and `NotShareable`.
+pub fn slots(
+    words: &[u32],
+    options: &Options,
+    ty: Handle<Type>,
+    offset: u32,
+) -> Result<u64, Error> {
     /// How deep structs may be nested on the stack that every caller has.
     const MOST_STRUCTS: usize = 1000;
     /// More than the library needs for a struct within a struct.
     const STACK_OF_STRUCT: usize = 1024;
+    let subject = Subject { words, options };
     let structs = count_items(words, |opcode| opcode == sys::NAGA_CHECK_OP_STRUCT);
     let (status, slots) = if structs <= MOST_STRUCTS {
-        raw::slots(words, ty.index(), offset)
+        raw::slots(subject, ty.index(), offset)
     } else {
         // All structs may be nested, and the library calls itself for each.
         let stack = structs.saturating_mul(STACK_OF_STRUCT);
         thread::scope(|scope| {
             let thread = thread::Builder::new().stack_size(stack);
-            let call = thread.spawn_scoped(scope, || raw::slots(words, ty.index(), offset));
+            let call = thread.spawn_scoped(scope, || raw::slots(subject, ty.index(), offset));
             call.ok()?.join().ok()
         })
         .ok_or(Error::OutOfMemory)?
     };
     match status {
         sys::NAGA_CHECK_OK => Ok(slots),
-        _ => Err(error_of_status(status, words)),
+        _ => Err(error_of_status(status, subject)),
     }
 }

@@ -62,15 +62,24 @@ pub(crate) use errors;
 pub enum Error {
     /// The module breaks a rule.
     Refused(Refusal),
-    /// The words can't be read.
+    /// The words or the text can't be read.
     Unreadable {
-        /// The index of the first word of the first item that can't be read, or the number of words.
+        /// The index of the first word of the first item that can't be read, or the number of words; of a text the
+        /// number of the first line that can't be read, from 1.
         at: u64,
     },
     /// Memory was refused: nothing is known of the module.
     OutOfMemory,
     /// The module has no type of an index that was given.
     NoType,
+    /// Hosts may not share values of the type that was given.
+    NotShareable,
+    /// There are more words, items or leaves than the options allow.
+    Limit,
+    /// The flags or the capabilities of the options have a bit that has no name.
+    Options,
+    /// Settings come with the module, and the options don't allow that.
+    Settings,
     /// The library returned a number that this crate doesn't know: it is of another version.
     Unknown,
 }
@@ -79,9 +88,13 @@ impl fmt::Display for Error {
     fn fmt(&self, f: &mut fmt::Formatter<'_>) -> fmt::Result {
         match self {
             Error::Refused(_) => f.write_str("The module breaks a rule"),
-            Error::Unreadable { at } => write!(f, "The words can't be read from word {at} on"),
+            Error::Unreadable { at } => write!(f, "The module can't be read from {at} on"),
             Error::OutOfMemory => f.write_str("Out of memory"),
             Error::NoType => f.write_str("The module has no such type"),
+            Error::NotShareable => f.write_str("Hosts may not share values of the type"),
+            Error::Limit => f.write_str("The module is larger than the options allow"),
+            Error::Options => f.write_str("The options have a flag that has no name"),
+            Error::Settings => f.write_str("Settings come with the module"),
             Error::Unknown => f.write_str("The library is of another version"),
         }
     }

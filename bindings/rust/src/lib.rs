@@ -2,15 +2,21 @@
 //!
 //! [`Words`] builds a module from types, expressions and functions that are named as in naga, and the calls read its
 //! words: [`check_words`] and [`check_functions`] validate it, [`leaves`] tells at which bytes of a buffer its values
-//! are, and [`slots`] which immediate data they use. [`check_text`] reports on a module in the text that the program
-//! `naga_check` reads.
+//! are, and [`slots`] which immediate data they use. [`check_text`] validates a module in the text that the program
+//! `naga_check` reads. [`Options`] say how a module is validated and how much a call may take: what comes in the words
+//! or the text of a stranger can't loosen them.
+//!
+//! `Ok` means that every rule of the module's handles, types, global expressions, constants and overrides holds, and
+//! after [`check_functions`] every rule of the expressions of functions and entry points. It says nothing of statements,
+//! of variables and their bindings, of what entry points hand to each other, nor of whether a type fits the address
+//! space that a variable is in: these are not validated yet.
 //!
 //! ```
-//! use naga_check::{check_words, Error, Scalar, TypeInner, Words};
+//! use naga_check::{check_words, Error, Options, Scalar, TypeInner, Words};
 //!
 //! let mut words = Words::new();
 //! words.add_type(TypeInner::Scalar(Scalar::F16));
-//! let Err(Error::Refused(refusal)) = check_words(&words.finish()?) else {
+//! let Err(Error::Refused(refusal)) = check_words(&words.finish()?, &Options::new()) else {
 //!     panic!("floats of 16 bits need a capability");
 //! };
 //! assert_eq!(refusal.to_string(), "Type [0] is invalid");
@@ -30,6 +36,7 @@ mod flags;
 mod module;
 mod operands;
 mod operators;
+mod options;
 #[allow(unsafe_code)]
 mod raw;
 mod statements;
@@ -39,7 +46,7 @@ mod types;
 mod words;
 
 pub use calls::{
-    check_functions, check_text, check_words, leaves, leaves_up_to, slots, FunctionStages,
+    check_functions, check_text, check_words, leaves, leaves_up_to, report, slots, FunctionStages,
     FunctionsError, Leaf, Leaves, Report, TypeInfo, Verdict,
 };
 pub use errors::{
@@ -56,6 +63,7 @@ pub use module::{
 };
 pub use operands::Handle;
 pub use operators::{BinaryOperator, MathFunction, RelationalFunction, UnaryOperator};
+pub use options::{Options, Settings};
 pub use statements::{
     AtomicFunction, Block, GatherMode, RayQueryFunction, Statement, SubgroupOperation, SwitchCase,
 };

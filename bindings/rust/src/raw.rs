@@ -4,16 +4,24 @@
 //! those of empty slices; a slice has as many elements as its length says, and at most `isize::MAX` bytes; and a
 //! mutable one overlaps no other, nor a local variable. The stack that a call needs is the caller's to give.
 
+use crate::options::Options;
 use crate::sys::{
     self, NagaCheckCounts, NagaCheckLeaf, NagaCheckOutcome, NagaCheckStatus, NagaCheckTypeInfo,
 };
 
+/// A module, and how it is validated.
+#[derive(Clone, Copy)]
+pub(crate) struct Subject<'a> {
+    pub(crate) words: &'a [u32],
+    pub(crate) options: &'a Options,
+}
+
 /// Writes the report on a text, and returns its length.
-pub(crate) fn check_text(text: &[u8], report: &mut [u8]) -> (NagaCheckStatus, usize) {
+pub(crate) fn report(text: &[u8], report: &mut [u8]) -> (NagaCheckStatus, usize) {
     let mut length = 0;
     // SAFETY: the buffers are slices, and `length` is a variable of its own.
     let status = unsafe {
-        sys::naga_check_text(
+        sys::naga_check_report_with(
             text.as_ptr(),
             text.len(),
             report.as_mut_ptr(),
@@ -24,17 +32,39 @@ pub(crate) fn check_text(text: &[u8], report: &mut [u8]) -> (NagaCheckStatus, us
     (status, length)
 }
 
-/// Validates a module, and writes the infos of its types.
-pub(crate) fn check_words(
-    words: &[u32],
+/// Validates a module in a text, and writes the infos of its types.
+pub(crate) fn check_text(
+    text: &[u8],
+    options: &Options,
     infos: &mut [NagaCheckTypeInfo],
 ) -> (NagaCheckStatus, NagaCheckOutcome) {
     let mut outcome = NagaCheckOutcome::default();
-    // SAFETY: the buffers are slices, and `outcome` is a variable of its own.
+    // SAFETY: the buffers are slices, the options are a reference, and `outcome` is a variable of its own.
     let status = unsafe {
-        sys::naga_check_words(
-            words.as_ptr(),
-            words.len(),
+        sys::naga_check_text_with(
+            text.as_ptr(),
+            text.len(),
+            options.as_raw(),
+            infos.as_mut_ptr(),
+            infos.len(),
+            &raw mut outcome,
+        )
+    };
+    (status, outcome)
+}
+
+/// Validates a module, and writes the infos of its types.
+pub(crate) fn check_words(
+    subject: Subject<'_>,
+    infos: &mut [NagaCheckTypeInfo],
+) -> (NagaCheckStatus, NagaCheckOutcome) {
+    let mut outcome = NagaCheckOutcome::default();
+    // SAFETY: the buffers are slices, the options are a reference, and `outcome` is a variable of its own.
+    let status = unsafe {
+        sys::naga_check_words_with(
+            subject.words.as_ptr(),
+            subject.words.len(),
+            subject.options.as_raw(),
             infos.as_mut_ptr(),
             infos.len(),
             &raw mut outcome,
@@ -45,15 +75,16 @@ pub(crate) fn check_words(
 
 /// Validates a module with its functions, and writes the stages of functions and entry points.
 pub(crate) fn check_functions(
-    words: &[u32],
+    subject: Subject<'_>,
     stages: &mut [u32],
 ) -> (NagaCheckStatus, NagaCheckOutcome) {
     let mut outcome = NagaCheckOutcome::default();
-    // SAFETY: the buffers are slices, and `outcome` is a variable of its own.
+    // SAFETY: the buffers are slices, the options are a reference, and `outcome` is a variable of its own.
     let status = unsafe {
-        sys::naga_check_functions(
-            words.as_ptr(),
-            words.len(),
+        sys::naga_check_functions_with(
+            subject.words.as_ptr(),
+            subject.words.len(),
+            subject.options.as_raw(),
             stages.as_mut_ptr(),
             stages.len(),
             &raw mut outcome,
@@ -64,18 +95,19 @@ pub(crate) fn check_functions(
 
 /// Writes the leaves of types, and their paths.
 pub(crate) fn leaves(
-    words: &[u32],
+    subject: Subject<'_>,
     types: &[u32],
     length: u32,
     leaves: &mut [NagaCheckLeaf],
     paths: &mut [u32],
 ) -> (NagaCheckStatus, NagaCheckCounts) {
     let mut counts = NagaCheckCounts::default();
-    // SAFETY: the buffers are slices, and `counts` is a variable of its own.
+    // SAFETY: the buffers are slices, the options are a reference, and `counts` is a variable of its own.
     let status = unsafe {
-        sys::naga_check_leaves(
-            words.as_ptr(),
-            words.len(),
+        sys::naga_check_leaves_with(
+            subject.words.as_ptr(),
+            subject.words.len(),
+            subject.options.as_raw(),
             types.as_ptr(),
             types.len(),
             length,
@@ -90,10 +122,18 @@ pub(crate) fn leaves(
 }
 
 /// Returns the slots of immediate data that a value of a type uses from a byte on.
-pub(crate) fn slots(words: &[u32], ty: u32, offset: u32) -> (NagaCheckStatus, u64) {
+pub(crate) fn slots(subject: Subject<'_>, ty: u32, offset: u32) -> (NagaCheckStatus, u64) {
     let mut slots = 0;
-    // SAFETY: the words are a slice, and `slots` is a variable of its own.
-    let status =
-        unsafe { sys::naga_check_slots(words.as_ptr(), words.len(), ty, offset, &raw mut slots) };
+    // SAFETY: the words are a slice, the options are a reference, and `slots` is a variable of its own.
+    let status = unsafe {
+        sys::naga_check_slots_with(
+            subject.words.as_ptr(),
+            subject.words.len(),
+            subject.options.as_raw(),
+            ty,
+            offset,
+            &raw mut slots,
+        )
+    };
     (status, slots)
 }

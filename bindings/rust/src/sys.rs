@@ -6,7 +6,7 @@ mod flags;
 
 pub use flags::*;
 
-/// What calls return: a `NAGA_CHECK_` constant from `NAGA_CHECK_OK` to `NAGA_CHECK_NO_TYPE`.
+/// What calls return: a `NAGA_CHECK_` constant from `NAGA_CHECK_OK` to `NAGA_CHECK_NOT_SHAREABLE`.
 pub type NagaCheckStatus = u32;
 
 /// Declares constants that share a line of documentation.
@@ -20,7 +20,7 @@ macro_rules! constants {
 }
 
 /// The version of the interface that this crate is written for.
-pub const NAGA_CHECK_ABI_VERSION: u32 = 1;
+pub const NAGA_CHECK_ABI_VERSION: u32 = 2;
 
 /// A word that stands for nothing: no index, no name, no width.
 pub const NAGA_CHECK_NONE: u32 = 0xFFFF_FFFF;
@@ -36,6 +36,38 @@ constants! {
     NAGA_CHECK_MEMORY = 3,
     NAGA_CHECK_ROOM = 4,
     NAGA_CHECK_NO_TYPE = 5,
+    NAGA_CHECK_LIMIT = 6,
+    NAGA_CHECK_OPTIONS = 7,
+    NAGA_CHECK_SETTINGS = 8,
+    NAGA_CHECK_NOT_SHAREABLE = 9,
+}
+
+constants! {
+    "What settings that come with a module are worth."
+    NAGA_CHECK_SETTINGS_REFUSED = 0,
+    NAGA_CHECK_SETTINGS_NARROW = 1,
+}
+
+/// How a module is validated, and how much a call may take.
+#[repr(C)]
+#[derive(Clone, Copy, Debug, PartialEq, Eq)]
+pub struct NagaCheckOptions {
+    /// The size of the struct in bytes.
+    pub size: u32,
+    /// Which parts are validated.
+    pub flags: u32,
+    /// What the module may use.
+    pub capabilities: u64,
+    /// 1 if overrides have to have their values, else 0.
+    pub resolved: u32,
+    /// What settings that come with a module are worth.
+    pub settings: u32,
+    /// The most words, or the most bytes of a text divided by four.
+    pub most_words: u64,
+    /// The most items of words, or the most line ends of a text.
+    pub most_items: u64,
+    /// The most leaves that a call may come to.
+    pub most_leaves: u64,
 }
 
 constants! {
@@ -682,37 +714,31 @@ unsafe extern "C" {
     /// The version of the interface that the library has.
     pub safe fn naga_check_abi_version() -> u32;
 
-    /// Writes the report on a text.
-    pub fn naga_check_text(
-        text: *const u8,
-        text_count: usize,
-        report: *mut u8,
-        report_count: usize,
-        length: *mut usize,
-    ) -> NagaCheckStatus;
-
     /// Validates a module in words.
-    pub fn naga_check_words(
+    pub fn naga_check_words_with(
         words: *const u32,
         word_count: usize,
+        options: *const NagaCheckOptions,
         infos: *mut NagaCheckTypeInfo,
         info_count: usize,
         outcome: *mut NagaCheckOutcome,
     ) -> NagaCheckStatus;
 
     /// Validates a module in words, and the expressions of its functions and entry points.
-    pub fn naga_check_functions(
+    pub fn naga_check_functions_with(
         words: *const u32,
         word_count: usize,
+        options: *const NagaCheckOptions,
         stages: *mut u32,
         stage_count: usize,
         outcome: *mut NagaCheckOutcome,
     ) -> NagaCheckStatus;
 
     /// Validates a module in words, and writes the leaves of types of it.
-    pub fn naga_check_leaves(
+    pub fn naga_check_leaves_with(
         words: *const u32,
         word_count: usize,
+        options: *const NagaCheckOptions,
         types: *const u32,
         type_count: usize,
         length: u32,
@@ -724,12 +750,32 @@ unsafe extern "C" {
     ) -> NagaCheckStatus;
 
     /// Validates a module in words, and writes the slots of immediate data that a value uses.
-    pub fn naga_check_slots(
+    pub fn naga_check_slots_with(
         words: *const u32,
         word_count: usize,
+        options: *const NagaCheckOptions,
         r#type: u32,
         offset: u32,
         slots: *mut u64,
+    ) -> NagaCheckStatus;
+
+    /// Validates a module in a text.
+    pub fn naga_check_text_with(
+        text: *const u8,
+        text_count: usize,
+        options: *const NagaCheckOptions,
+        infos: *mut NagaCheckTypeInfo,
+        info_count: usize,
+        outcome: *mut NagaCheckOutcome,
+    ) -> NagaCheckStatus;
+
+    /// Writes the report on a text.
+    pub fn naga_check_report_with(
+        text: *const u8,
+        text_count: usize,
+        report: *mut u8,
+        report_count: usize,
+        length: *mut usize,
     ) -> NagaCheckStatus;
 }
 
@@ -737,6 +783,8 @@ unsafe extern "C" {
 const _: () = {
     use std::mem::{offset_of, size_of};
 
+    assert!(size_of::<NagaCheckOptions>() == 48);
+    assert!(offset_of!(NagaCheckOptions, most_words) == 24);
     assert!(size_of::<NagaCheckOutcome>() == 56);
     assert!(offset_of!(NagaCheckOutcome, stage) == 40);
     assert!(offset_of!(NagaCheckOutcome, expression) == 52);

@@ -4,6 +4,9 @@ use naga_check::*;
 use std::error::Error as _;
 use std::num::NonZeroU32;
 
+/// What calls use for a null pointer.
+const DEFAULT: Options = Options::new();
+
 /// A module with one type, and the handle of it.
 fn module_of(inner: TypeInner) -> (Vec<u32>, Handle<Type>) {
     let mut words = Words::new();
@@ -29,24 +32,30 @@ fn the_version_is_that_of_the_header() {
 
 #[test]
 fn the_empty_module_is_accepted() {
-    assert_eq!(check_words(&[]), Ok(vec![]));
-    assert_eq!(check_functions(&[]), Ok(FunctionStages::default()));
-    assert!(leaves(&[], &[], 0).is_ok_and(|leaves| leaves.is_empty() && leaves.are_all()));
+    assert_eq!(check_words(&[], &DEFAULT), Ok(vec![]));
+    assert_eq!(
+        check_functions(&[], &DEFAULT),
+        Ok(FunctionStages::default())
+    );
+    assert!(leaves(&[], &DEFAULT, &[], 0).is_ok_and(|leaves| leaves.is_empty() && leaves.are_all()));
 }
 
 #[test]
 fn words_that_can_t_be_read() {
-    assert_eq!(check_words(&[3, 3]), Err(Error::Unreadable { at: 1 }));
     assert_eq!(
-        check_words(&[1 << 8 | 35, u32::MAX, 193]),
+        check_words(&[3, 3], &DEFAULT),
+        Err(Error::Unreadable { at: 1 })
+    );
+    assert_eq!(
+        check_words(&[1 << 8 | 35, u32::MAX, 193], &DEFAULT),
         Err(Error::Unreadable { at: 3 })
     );
     assert_eq!(
-        leaves(&[255], &[], 0).unwrap_err(),
+        leaves(&[255], &DEFAULT, &[], 0).unwrap_err(),
         Error::Unreadable { at: 0 }
     );
     assert_eq!(
-        slots(&[255], Handle::new(0), 0),
+        slots(&[255], &DEFAULT, Handle::new(0), 0),
         Err(Error::Unreadable { at: 0 })
     );
 }
@@ -56,11 +65,11 @@ fn a_refusal_says_which_item_and_why() {
     let (words, ty) = module_of(TypeInner::Scalar(Scalar::F16));
     let error = TypeError::WidthError(WidthError::MissingCapability);
     let refused = Error::Refused(Refusal::Type { ty, error });
-    assert_eq!(check_words(&words), Err(refused));
-    assert_eq!(leaves(&words, &[ty], 0).unwrap_err(), refused);
-    assert_eq!(slots(&words, ty, 0), Err(refused));
+    assert_eq!(check_words(&words, &DEFAULT), Err(refused));
+    assert_eq!(leaves(&words, &DEFAULT, &[ty], 0).unwrap_err(), refused);
+    assert_eq!(slots(&words, &DEFAULT, ty, 0), Err(refused));
     assert_eq!(
-        check_functions(&words).unwrap_err(),
+        check_functions(&words, &DEFAULT).unwrap_err(),
         FunctionsError::from(refused)
     );
     let refusal = refused.source().expect("a refusal has a source");
@@ -76,10 +85,13 @@ fn a_refusal_says_which_item_and_why() {
 fn a_type_that_is_not_there() {
     let (words, _) = module_of(TypeInner::Scalar(Scalar::U32));
     assert_eq!(
-        leaves(&words, &[Handle::new(1)], 0).unwrap_err(),
+        leaves(&words, &DEFAULT, &[Handle::new(1)], 0).unwrap_err(),
         Error::NoType
     );
-    assert_eq!(slots(&words, Handle::new(1), 0), Err(Error::NoType));
+    assert_eq!(
+        slots(&words, &DEFAULT, Handle::new(1), 0),
+        Err(Error::NoType)
+    );
 }
 
 #[test]
@@ -93,7 +105,7 @@ fn leaves_of_several_types() {
         stride: 4,
     });
     let words = words.finish().unwrap();
-    let found = leaves(&words, &[base, list], 300).unwrap();
+    let found = leaves(&words, &DEFAULT, &[base, list], 300).unwrap();
     assert_eq!((found.len(), found.are_all()), (301, true));
     let last = found.iter().last().unwrap();
     assert_eq!(
@@ -116,7 +128,7 @@ fn more_leaves_than_are_asked_for() {
     });
     let words = words.finish().unwrap();
     for most in [0, 1, 64, 100] {
-        let found = leaves_up_to(&words, &[list], 0, most).unwrap();
+        let found = leaves_up_to(&words, &DEFAULT, &[list], 0, most).unwrap();
         assert_eq!((found.len(), found.are_all()), (most, false));
         assert!(found.iter().zip(0..).all(|(leaf, at)| leaf.path == [at]));
     }
@@ -125,7 +137,7 @@ fn more_leaves_than_are_asked_for() {
 #[test]
 fn long_paths_have_room() {
     let (words, ty) = nested_structs(40);
-    let found = leaves(&words, &[ty; 3], 0).unwrap();
+    let found = leaves(&words, &DEFAULT, &[ty; 3], 0).unwrap();
     assert_eq!(found.len(), 3);
     assert!(found.iter().all(|leaf| leaf.path == [0; 40]));
 }
@@ -143,7 +155,7 @@ fn stages_of_functions_and_entry_points() {
         ..EntryPoint::default()
     };
     assert_eq!(words.add_entry_point(&entry_point), 0);
-    let stages = check_functions(&words.finish().unwrap()).unwrap();
+    let stages = check_functions(&words.finish().unwrap(), &DEFAULT).unwrap();
     assert_eq!((stages.functions.len(), stages.entry_points.len()), (2, 1));
     assert!(stages.entry_points[0].contains(ShaderStages::COMPUTE_LIKE));
 }
@@ -151,21 +163,21 @@ fn stages_of_functions_and_entry_points() {
 #[test]
 fn deep_structs_need_no_stack_of_the_caller() {
     let (words, ty) = nested_structs(20_000);
-    let call = move || slots(&words, ty, 8);
+    let call = move || slots(&words, &DEFAULT, ty, 8);
     let thread = std::thread::Builder::new().stack_size(512 << 10);
     assert_eq!(thread.spawn(call).unwrap().join().unwrap(), Ok(0b100));
 }
 
 #[test]
 fn reports_longer_than_their_texts_have_room() {
-    let report = check_text(b"type scalar float 4\ntype vector 4 float 4\n").unwrap();
-    assert_eq!(report.text, "T0 ff 4 4\nT1 ff 16 16\nok\n");
-    let report = check_text(b"?").unwrap();
-    assert_eq!(report.verdict, Verdict::Unreadable);
-    assert_eq!(report.text, "line 1 not readable\n");
-    let report = check_text(b"type scalar float 2").unwrap();
+    let made = report(b"type scalar float 4\ntype vector 4 float 4\n").unwrap();
+    assert_eq!(made.text, "T0 ff 4 4\nT1 ff 16 16\nok\n");
+    let made = report(b"?").unwrap();
+    assert_eq!(made.verdict, Verdict::Unreadable);
+    assert_eq!(made.text, "line 1 not readable\n");
+    let made = report(b"type scalar float 2").unwrap();
     assert_eq!(
-        (report.verdict, &report.text[..]),
+        (made.verdict, &made.text[..]),
         (Verdict::Refused, "refused type T0 WidthError\n")
     );
 }
@@ -182,4 +194,166 @@ fn flags_show_their_names() {
     assert_eq!(ValidationFlags::default().bits(), 63);
     assert_eq!(Capabilities::default().bits(), 36864);
     assert_eq!(Capabilities::ALL.bits(), 17_592_186_044_415);
+}
+
+/// A module that has this one type, and its words after those of settings.
+fn words_with(set: impl FnOnce(&mut Words), inner: TypeInner) -> Vec<u32> {
+    let mut words = Words::new();
+    set(&mut words);
+    words.add_type(inner);
+    words.finish().expect("one type has words")
+}
+
+#[test]
+fn a_text_is_validated_as_words_are() {
+    let infos = check_text(b"type scalar uint 4\ntype vector 3 float 4\n", &DEFAULT).unwrap();
+    assert_eq!((infos.len(), infos[1].size), (2, 12));
+    let unreadable = Err(Error::Unreadable { at: 2 });
+    assert_eq!(check_text(b"# a comment\n?", &DEFAULT), unreadable);
+    let error = TypeError::WidthError(WidthError::MissingCapability);
+    let ty = Handle::new(0);
+    let refused = Err(Error::Refused(Refusal::Type { ty, error }));
+    assert_eq!(check_text(b"type scalar float 2", &DEFAULT), refused);
+}
+
+#[test]
+fn settings_that_come_with_a_module_are_refused() {
+    let number = TypeInner::Scalar(Scalar::U32);
+    let said: [fn(&mut Words); 3] = [
+        |words| words.set_flags(ValidationFlags::ALL),
+        |words| words.set_capabilities(Capabilities::default()),
+        |words| words.require_resolved_overrides(),
+    ];
+    for set in said {
+        let words = words_with(set, number.clone());
+        assert_eq!(check_words(&words, &DEFAULT), Err(Error::Settings));
+        let narrow = DEFAULT.settings(Settings::Narrow);
+        assert_eq!(check_words(&words, &narrow).map(|infos| infos.len()), Ok(1));
+    }
+    for text in ["flags 63\n", "caps 36864\n", "resolved\n"] {
+        assert_eq!(check_text(text.as_bytes(), &DEFAULT), Err(Error::Settings));
+    }
+}
+
+#[test]
+fn settings_that_come_with_a_module_never_widen() {
+    let f16 = TypeInner::Scalar(Scalar::F16);
+    let error = TypeError::WidthError(WidthError::MissingCapability);
+    let ty = Handle::new(0);
+    let refused = Err(Error::Refused(Refusal::Type { ty, error }));
+    let narrow = DEFAULT.settings(Settings::Narrow);
+    let all = words_with(
+        |words| words.set_capabilities(Capabilities::ALL),
+        f16.clone(),
+    );
+    assert_eq!(check_words(&all, &narrow), refused);
+    assert!(check_words(&all, &narrow.capabilities(Capabilities::ALL)).is_ok());
+    let none = words_with(|words| words.set_capabilities(Capabilities::EMPTY), f16);
+    assert_eq!(
+        check_words(&none, &narrow.capabilities(Capabilities::ALL)),
+        refused
+    );
+}
+
+#[test]
+fn settings_that_come_with_a_module_validate_no_less() {
+    // A constant of a f32 that is a u32.
+    let wrong = |flags: Option<ValidationFlags>| {
+        let mut words = Words::new();
+        if let Some(flags) = flags {
+            words.set_flags(flags);
+        }
+        let ty = words.add_type(TypeInner::Scalar(Scalar::F32));
+        let init = words.add_global_expression(&Expression::Literal(Literal::U32(7)));
+        words.add_constant(&Constant {
+            name: None,
+            ty,
+            init,
+        });
+        words.finish().unwrap()
+    };
+    let narrow = DEFAULT.settings(Settings::Narrow);
+    let nothing = ValidationFlags::EMPTY;
+    assert!(matches!(
+        check_words(&wrong(None), &DEFAULT),
+        Err(Error::Refused(_))
+    ));
+    assert!(matches!(
+        check_words(&wrong(Some(nothing)), &narrow),
+        Err(Error::Refused(_))
+    ));
+    assert!(check_words(&wrong(None), &DEFAULT.flags(nothing)).is_ok());
+    let all = wrong(Some(ValidationFlags::ALL));
+    assert!(matches!(
+        check_words(&all, &narrow.flags(nothing)),
+        Err(Error::Refused(_))
+    ));
+}
+
+#[test]
+fn overrides_have_to_have_values_if_either_says_so() {
+    let uninitialised = |resolved: bool| {
+        let mut words = Words::new();
+        if resolved {
+            words.require_resolved_overrides();
+        }
+        let ty = words.add_type(TypeInner::Scalar(Scalar::U32));
+        words.add_override(&Override {
+            name: None,
+            id: None,
+            ty,
+            init: None,
+        });
+        words.finish().unwrap()
+    };
+    let narrow = DEFAULT.settings(Settings::Narrow);
+    assert!(check_words(&uninitialised(false), &DEFAULT).is_ok());
+    assert!(check_words(&uninitialised(false), &DEFAULT.resolved(true)).is_err());
+    assert!(check_words(&uninitialised(true), &narrow).is_err());
+    assert!(check_words(&uninitialised(true), &narrow.resolved(false)).is_err());
+}
+
+#[test]
+fn limits_are_kept() {
+    let (words, ty) = nested_structs(3);
+    let count = words.len() as u64;
+    assert!(check_words(&words, &DEFAULT.most_words(count).most_items(4)).is_ok());
+    let limit = Error::Limit;
+    assert_eq!(
+        check_words(&words, &DEFAULT.most_words(count - 1)),
+        Err(limit)
+    );
+    assert_eq!(check_words(&words, &DEFAULT.most_items(3)), Err(limit));
+    assert_eq!(
+        check_functions(&words, &DEFAULT.most_items(3))
+            .unwrap_err()
+            .error,
+        limit
+    );
+    assert_eq!(slots(&words, &DEFAULT.most_words(0), ty, 0), Err(limit));
+    assert!(leaves(&words, &DEFAULT.most_leaves(2), &[ty; 2], 0).is_ok());
+    assert_eq!(
+        leaves(&words, &DEFAULT.most_leaves(2), &[ty; 3], 0).unwrap_err(),
+        limit
+    );
+    assert!(check_text(b"#12345\n", &DEFAULT.most_words(1).most_items(1)).is_ok());
+    assert_eq!(check_text(b"#123456\n", &DEFAULT.most_words(1)), Err(limit));
+    assert_eq!(check_text(b"\n\n", &DEFAULT.most_items(1)), Err(limit));
+}
+
+#[test]
+fn flags_without_a_name_are_no_options() {
+    let flags = ValidationFlags::from_bits(64);
+    assert_eq!(check_words(&[], &DEFAULT.flags(flags)), Err(Error::Options));
+    let capabilities = Capabilities::from_bits(1 << 63);
+    assert_eq!(
+        check_words(&[], &DEFAULT.capabilities(capabilities)),
+        Err(Error::Options)
+    );
+}
+
+#[test]
+fn values_that_hosts_may_not_share_have_no_slots() {
+    let (words, ty) = module_of(TypeInner::Scalar(Scalar::BOOL));
+    assert_eq!(slots(&words, &DEFAULT, ty, 0), Err(Error::NotShareable));
 }

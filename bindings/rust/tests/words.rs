@@ -78,7 +78,12 @@ fn equal_types_are_one() {
     assert_ne!(first, named);
     assert_eq!(words.add_type(TypeInner::Scalar(Scalar::U32)), first);
     assert_eq!(words.add_type(TypeInner::Scalar(Scalar::I32)).index(), 2);
-    assert_eq!(check_words(&words.finish().unwrap()).unwrap().len(), 3);
+    assert_eq!(
+        check_words(&words.finish().unwrap(), &Options::new())
+            .unwrap()
+            .len(),
+        3
+    );
 }
 
 #[test]
@@ -231,9 +236,12 @@ fn blocks_end_where_they_end() {
 #[test]
 fn blocks_may_be_127_deep() {
     let deepest = nested(127);
-    assert!(check_functions(&deepest).is_ok());
+    assert!(check_functions(&deepest, &Options::new()).is_ok());
     let deeper = [&deepest[..2 + 127], &[193, 200], &deepest[2 + 127..]].concat();
-    assert_eq!(check_words(&deeper), Err(Error::Unreadable { at: 2 + 127 }));
+    assert_eq!(
+        check_words(&deeper, &Options::new()),
+        Err(Error::Unreadable { at: 2 + 127 })
+    );
     assert!(nested(128).is_empty(), "no words are deeper");
 }
 

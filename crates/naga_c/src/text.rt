@@ -59,6 +59,9 @@ pub extern "C" fn naga_check_text_with(
     text_types(alloc, text, options, infos, outcome).code()
 }
 
+/// The report if memory was refused while a module was validated.
+const REFUSED_MEMORY: &[u8] = b"refused memory\n";
+
 /// Writes the report on a text and its length, or its length alone if it is longer than the buffer.
 fn report_text(alloc: Global, text: &[u8], report: &mut [u8], length: &mut usize) -> Status
     ensures { IsReported text.now report.old report.new length.old length.new result }
@@ -67,6 +70,10 @@ fn report_text(alloc: Global, text: &[u8], report: &mut [u8], length: &mut usize
         return Status::OutOfMemory;
     };
     let bytes = made.text.as_bytes();
+    // The program calls that refused, and prints it. A host has to tell it from a module that breaks a rule.
+    if bytes == REFUSED_MEMORY {
+        return Status::OutOfMemory;
+    }
     *length = bytes.len();
     if bytes.len() > report.len() {
         return Status::Room;
@@ -76,8 +83,8 @@ fn report_text(alloc: Global, text: &[u8], report: &mut [u8], length: &mut usize
     status_of(made.outcome)
 }
 
-/// Writes the report on a text, as the program does, and its length. If the report is longer than the buffer, only its
-/// length is written.
+/// Writes the report on a text that the program prints, and its length. If the report is longer than the buffer, only
+/// its length is written, and nothing if memory was refused.
 #[unsafe(no_mangle)]
 pub extern "C" fn naga_check_report_with(
     alloc: Global,
