@@ -1,5 +1,5 @@
 -- What a call on a module writes of its functions.
-use Rattle.std.specs.Prelude.{◌≡◌, ◌+◌, ◌<◌, ◌≤◌, ℕ, List, [], ◌++◌, Ok, Err, bit_or, length, map}
+use Rattle.std.specs.Prelude.{◌≡◌, ◌+◌, ◌<◌, ◌≤◌, ℕ, List, [], ◌∷◌, ◌++◌, Ok, Err, bit_or, length, map}
 use Rattle.naga_exprs.specs.Math.{math_typing}
 use Rattle.naga_flags.specs.Bits.{CONSTANTS}
 use Rattle.naga_flags.specs.declared.flags.ValidationFlags.{ValidationFlags}
@@ -21,7 +21,8 @@ use Rattle.naga_valid.specs.declared.function.FunctionsError.{FunctionsError}
 use Rattle.naga_c.specs.declared.subject.Subject.{Subject}
 use Rattle.naga_c.specs.Buffers.{BeginsWith}
 use Rattle.naga_c.specs.Calls.{IsNotAccepted, LeavesBuffer}
-use Rattle.naga_c.specs.Codes.{expression_error_cause, expression_error_code}
+use Rattle.naga_c.specs.Codes.{expression_error_cause, expression_error_code, expression_error_second_cause}
+use Rattle.naga_c.specs.Values.{counted, expression_error_values}
 use Rattle.naga_c.specs.Verdicts.{counts_of, no_outcome, settings_in}
 use Rattle.naga_c.specs.declared.results.Outcome.{Outcome}
 use Rattle.naga_c.specs.declared.status.Status.{Status}
@@ -35,10 +36,24 @@ stages_of lists = map (λ (i : FunctionInfo). i.available_stages.0) (lists.funct
 abbrev pub callable_count : Module → ℕ
 callable_count m = length m.functions + length m.entry_points
 
+-- what is written of the function or entry point of an index, of a stage and a kind, whose expression is refused
+abbrev pub refused_expression : Module → ℕ → ℕ → ℕ → ℕ → ExpressionError → Outcome
+refused_expression m stage kind index expression error =
+    let values = counted (expression_error_values error) in
+    record (counts_of m) {
+      index = index;
+      values = values.items;
+      stage = stage;
+      kind = kind;
+      errors = expression_error_code error ∷ expression_error_cause error ∷ expression_error_second_cause error ∷ 0 ∷ [];
+      value_count = values.count;
+      expression = expression;
+    }
+
 -- what is written of a function or entry point whose expression is refused, without how many stages are written
 abbrev pub refused_at : Module → Callable → ℕ → ExpressionError → Outcome
-refused_at m (callable.Function i) expression error = record (counts_of m) { index = i; stage = 7; error = expression_error_code error; cause = expression_error_cause error; expression = expression }
-refused_at m (callable.EntryPoint i) expression error = record (counts_of m) { index = i; stage = 8; error = expression_error_code error; cause = expression_error_cause error; expression = expression }
+refused_at m (callable.Function i) expression error = refused_expression m 7 7 i expression error
+refused_at m (callable.EntryPoint i) expression error = refused_expression m 8 9 i expression error
 
 -- these flags, and the one by which constants are validated
 abbrev pub with_constants : ValidationFlags → ValidationFlags

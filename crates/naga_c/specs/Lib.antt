@@ -6,12 +6,14 @@
 -- module
 -- Types.ChecksTypes, Functions.ChecksFunctions, Leaves.ChecksLeaves, Slots.ChecksSlots: what calls write of a module
 -- Text.IsReported: what the call for a report leaves with its caller
--- Verdicts, Refusals, Codes: what calls write of a module that can't be read, or that is refused
+-- Verdicts, Refusals, Codes, Values: what calls write of a module that can't be read, or that is refused
 pub mod Buffers
 pub mod Calls
 pub mod Codes
 pub mod Functions
+pub mod Kinds
 pub mod Leaves
+pub mod Numbers
 pub mod Options
 pub mod Refusals
 pub mod Slots
@@ -19,4 +21,5 @@ pub mod Statuses
 pub mod Subjects
 pub mod Text
 pub mod Types
+pub mod Values
 pub mod Verdicts

@@ -1,5 +1,5 @@
 -- What calls write of a module that can't be read, or that is refused.
-use Rattle.std.specs.Prelude.{ℕ, length}
+use Rattle.std.specs.Prelude.{ℕ, List, [], ◌∷◌, length}
 use Rattle.naga_ir.specs.declared.ir.Module.{Module}
 use Rattle.naga_valid.specs.State.{Settings}
 use Rattle.naga_valid.specs.declared.error.ValidationError.{ValidationError}
@@ -14,7 +14,19 @@ use Rattle.naga_c.specs.declared.status.Status.TheVariants as status
 
 -- nothing was found out
 abbrev pub no_outcome : Outcome
-no_outcome = record { index = 0; types = 0; functions = 0; entry_points = 0; written = 0; stage = 0; error = 0; cause = 0; expression = 0 }
+no_outcome = record {
+  index = 0;
+  types = 0;
+  functions = 0;
+  entry_points = 0;
+  written = 0;
+  values = 0 ∷ 0 ∷ 0 ∷ 0 ∷ 0 ∷ [];
+  stage = 0;
+  kind = 0;
+  errors = 0 ∷ 0 ∷ 0 ∷ 0 ∷ [];
+  value_count = 0;
+  expression = 0;
+}
 
 -- what is written by a call that has no module to validate
 abbrev pub outcome_without : NoSubject → Outcome
@@ -46,7 +58,7 @@ refused_status OutOfMemory = status.OutOfMemory
 
 -- what is written of a module that is refused with an error
 abbrev pub refused_by : Module → ValidationError → Outcome
-refused_by m e = let r = refusal_of e in record (counts_of m) { index = r.index; stage = r.stage; error = r.error; cause = r.cause }
+refused_by m e = let r = refusal_of e in record (counts_of m) { index = r.index; values = r.values.items; stage = r.stage; kind = r.kind; errors = r.errors; value_count = r.values.count }
 
 -- what is written of a module that is not accepted
 abbrev pub refused_outcome : Module → ValidationError → Outcome

@@ -1,8 +1,7 @@
 //! The numbers of errors, which bindings/c/naga_check.h names: of each enum from 1, in the order of its variants. A
 //! number never changes its meaning.
 
-ghost use Rattle.naga_c.specs.Codes.{compose_error_code, const_expression_error_cause, const_expression_error_code, constant_error_code, disalignment_code, expression_error_cause, expression_error_code, handle_error_code, indexable_length_error_code, layout_error_code, literal_error_cause, override_error_cause, override_error_code, resolve_error_code, type_error_cause, type_error_code, varying_error_code, width_error_code};
-ghost use Rattle.naga_c.specs.Refusals.{handle_error_index, refusal_of};
+ghost use Rattle.naga_c.specs.Codes.{compose_error_code, const_expression_error_cause, const_expression_error_code, const_expression_error_second_cause, constant_error_code, disalignment_code, expression_error_cause, expression_error_code, expression_error_second_cause, handle_error_code, indexable_length_error_code, layout_error_code, literal_error_cause, literal_error_code, override_error_cause, override_error_code, override_error_second_cause, override_error_third_cause, resolve_error_code, type_error_cause, type_error_code, varying_error_code, width_error_code};
 ghost use Rattle.std.specs.Prelude.{◌≡◌};
 
 use naga_handles::error::InvalidHandleError;
@@ -12,48 +11,10 @@ use naga_types::error::{ComposeError, Disalignment, TypeError, VaryingError};
 use naga_typing::index::IndexableLengthError;
 use naga_typing::layouter::LayoutErrorInner;
 use naga_typing::typifier::ResolveError;
-use naga_valid::{ConstantError, OverrideError, ValidationError, WidthError};
-
-/// The stage of the handles of a module.
-const HANDLE: u32 = 1;
-
-/// The stage of the layouts of types.
-const LAYOUT: u32 = 2;
-
-/// The stage of the rules of types.
-const TYPE: u32 = 3;
-
-/// The stage of global expressions.
-const GLOBAL_EXPRESSION: u32 = 4;
-
-/// The stage of constants.
-const CONSTANT: u32 = 5;
-
-/// The stage of overrides.
-const OVERRIDE: u32 = 6;
-
-/// The stage of the expressions of functions.
-pub(crate) const FUNCTION: u32 = 7;
-
-/// The stage of the expressions of entry points.
-pub(crate) const ENTRY_POINT: u32 = 8;
-
-/// The stage of what no validation returns.
-const MODULE: u32 = 9;
-
-/// Which item is refused, and why.
-#[derive(Clone, Copy, Debug, PartialEq)]
-pub struct Refusal {
-    pub stage: u32,
-    /// The item, among those of its kind.
-    pub index: u64,
-    pub error: u32,
-    /// The error within the error, or 0.
-    pub cause: u32,
-}
+use naga_valid::{ConstantError, OverrideError, WidthError};
 
 /// The number of an error of handles.
-fn handle_error_code(error: &InvalidHandleError) -> u32
+pub(crate) fn handle_error_code(error: &InvalidHandleError) -> u32
     ensures { result ≡ handle_error_code error.now }
 {
     match error {
@@ -64,7 +25,7 @@ fn handle_error_code(error: &InvalidHandleError) -> u32
 }
 
 /// The number of an error of layouts.
-fn layout_error_code(error: &LayoutErrorInner) -> u32
+pub(crate) fn layout_error_code(error: &LayoutErrorInner) -> u32
     ensures { result ≡ layout_error_code error.now }
 {
     match error {
@@ -75,7 +36,7 @@ fn layout_error_code(error: &LayoutErrorInner) -> u32
 }
 
 /// The number of an error of types.
-fn type_error_code(error: &TypeError) -> u32
+pub(crate) fn type_error_code(error: &TypeError) -> u32
     ensures { result ≡ type_error_code error.now }
 {
     match error {
@@ -104,7 +65,7 @@ fn type_error_code(error: &TypeError) -> u32
 }
 
 /// The number of an error of global expressions.
-fn const_expression_error_code(error: &ConstExpressionError) -> u32
+pub(crate) fn const_expression_error_code(error: &ConstExpressionError) -> u32
     ensures { result ≡ const_expression_error_code error.now }
 {
     match error {
@@ -119,7 +80,7 @@ fn const_expression_error_code(error: &ConstExpressionError) -> u32
 }
 
 /// The number of an error of constants.
-fn constant_error_code(error: &ConstantError) -> u32
+pub(crate) fn constant_error_code(error: &ConstantError) -> u32
     ensures { result ≡ constant_error_code error.now }
 {
     match error {
@@ -130,7 +91,7 @@ fn constant_error_code(error: &ConstantError) -> u32
 }
 
 /// The number of an error of overrides.
-fn override_error_code(error: &OverrideError) -> u32
+pub(crate) fn override_error_code(error: &OverrideError) -> u32
     ensures { result ≡ override_error_code error.now }
 {
     match error {
@@ -288,6 +249,15 @@ fn indexable_length_error_code(error: &IndexableLengthError) -> u32
     }
 }
 
+/// The number of an error of a literal.
+fn literal_error_code(error: &LiteralError) -> u32
+    ensures { result ≡ literal_error_code error.now }
+{
+    match error {
+        LiteralError::Width(_) => 1,
+    }
+}
+
 /// The number of the error within an error of a literal.
 fn literal_error_cause(error: &LiteralError) -> u32
     ensures { result ≡ literal_error_cause error.now }
@@ -298,7 +268,7 @@ fn literal_error_cause(error: &LiteralError) -> u32
 }
 
 /// The number of the error within an error of types, or 0.
-fn type_error_cause(error: &TypeError) -> u32
+pub(crate) fn type_error_cause(error: &TypeError) -> u32
     ensures { result ≡ type_error_cause error.now }
 {
     match error {
@@ -327,13 +297,13 @@ fn type_error_cause(error: &TypeError) -> u32
 }
 
 /// The number of the error within an error of global expressions, or 0.
-fn const_expression_error_cause(error: &ConstExpressionError) -> u32
+pub(crate) fn const_expression_error_cause(error: &ConstExpressionError) -> u32
     ensures { result ≡ const_expression_error_cause error.now }
 {
     match error {
         ConstExpressionError::Compose(error) => compose_error_code(error),
         ConstExpressionError::Type_(error) => resolve_error_code(error),
-        ConstExpressionError::Literal(error) => literal_error_cause(error),
+        ConstExpressionError::Literal(error) => literal_error_code(error),
         ConstExpressionError::Width(error) => width_error_code(error),
         ConstExpressionError::NonConstOrOverride
         | ConstExpressionError::NonFullyEvaluatedConst
@@ -342,11 +312,62 @@ fn const_expression_error_cause(error: &ConstExpressionError) -> u32
 }
 
 /// The number of the error within an error of overrides, or 0.
-fn override_error_cause(error: &OverrideError) -> u32
+pub(crate) fn override_error_cause(error: &OverrideError) -> u32
     ensures { result ≡ override_error_cause error.now }
 {
     match error {
         OverrideError::ConstExpression { source, .. } => const_expression_error_code(source),
+        OverrideError::MissingNameAndID
+        | OverrideError::DuplicateID
+        | OverrideError::InitializerExprType
+        | OverrideError::InvalidType
+        | OverrideError::NonConstructibleType
+        | OverrideError::TypeNotScalar
+        | OverrideError::NotAllowed
+        | OverrideError::UninitializedOverride => 0,
+    }
+}
+
+/// The number of the second error within an error of global expressions, or 0.
+pub(crate) fn const_expression_error_second_cause(error: &ConstExpressionError) -> u32
+    ensures { result ≡ const_expression_error_second_cause error.now }
+{
+    match error {
+        ConstExpressionError::Literal(error) => literal_error_cause(error),
+        ConstExpressionError::NonConstOrOverride
+        | ConstExpressionError::NonFullyEvaluatedConst
+        | ConstExpressionError::Compose(_)
+        | ConstExpressionError::InvalidSplatType(_)
+        | ConstExpressionError::Type_(_)
+        | ConstExpressionError::Width(_) => 0,
+    }
+}
+
+/// The number of the second error within an error of overrides, or 0.
+pub(crate) fn override_error_second_cause(error: &OverrideError) -> u32
+    ensures { result ≡ override_error_second_cause error.now }
+{
+    match error {
+        OverrideError::ConstExpression { source, .. } => const_expression_error_cause(source),
+        OverrideError::MissingNameAndID
+        | OverrideError::DuplicateID
+        | OverrideError::InitializerExprType
+        | OverrideError::InvalidType
+        | OverrideError::NonConstructibleType
+        | OverrideError::TypeNotScalar
+        | OverrideError::NotAllowed
+        | OverrideError::UninitializedOverride => 0,
+    }
+}
+
+/// The number of the third error within an error of overrides, or 0.
+pub(crate) fn override_error_third_cause(error: &OverrideError) -> u32
+    ensures { result ≡ override_error_third_cause error.now }
+{
+    match error {
+        OverrideError::ConstExpression { source, .. } => const_expression_error_second_cause(
+            source,
+        ),
         OverrideError::MissingNameAndID
         | OverrideError::DuplicateID
         | OverrideError::InitializerExprType
@@ -366,7 +387,7 @@ pub(crate) fn expression_error_cause(error: &ExpressionError) -> u32
         ExpressionError::Compose(error) => compose_error_code(error),
         ExpressionError::IndexableLength(error) => indexable_length_error_code(error),
         ExpressionError::Type_(error) => resolve_error_code(error),
-        ExpressionError::Literal(error) => literal_error_cause(error),
+        ExpressionError::Literal(error) => literal_error_code(error),
         ExpressionError::NotInScope
         | ExpressionError::InvalidBaseType(_)
         | ExpressionError::InvalidIndexType(_)
@@ -429,72 +450,73 @@ pub(crate) fn expression_error_cause(error: &ExpressionError) -> u32
     }
 }
 
-/// Which index an error of handles is about: what is dangling, what depends on a later item, or the start of a range.
-fn handle_error_index(error: &InvalidHandleError) -> u64
-    ensures { result ≡ handle_error_index error.now }
+/// The number of the second error within an error of an expression of a function, or 0.
+pub(crate) fn expression_error_second_cause(error: &ExpressionError) -> u32
+    ensures { result ≡ expression_error_second_cause error.now }
 {
     match error {
-        InvalidHandleError::BadHandle(error) => error.index as u64,
-        InvalidHandleError::ForwardDependency(error) => error.subject() as u64,
-        InvalidHandleError::BadRange(error) => u64::from(error.start),
-    }
-}
-
-/// Which item a refusal is about, and why.
-pub(crate) fn refusal_of(error: &ValidationError) -> Refusal
-    ensures { result ≡ refusal_of error.now }
-{
-    match error {
-        ValidationError::InvalidHandle(error) => Refusal {
-            stage: HANDLE,
-            index: handle_error_index(error),
-            error: handle_error_code(error),
-            cause: 0,
-        },
-        ValidationError::Layouter(error) => Refusal {
-            stage: LAYOUT,
-            index: error.ty.index() as u64,
-            error: layout_error_code(&error.inner),
-            cause: 0,
-        },
-        ValidationError::Type_ { handle, source, .. } => Refusal {
-            stage: TYPE,
-            index: handle.index() as u64,
-            error: type_error_code(source),
-            cause: type_error_cause(source),
-        },
-        ValidationError::ConstExpression { handle, source } => Refusal {
-            stage: GLOBAL_EXPRESSION,
-            index: handle.index() as u64,
-            error: const_expression_error_code(source),
-            cause: const_expression_error_cause(source),
-        },
-        ValidationError::Constant { handle, source, .. } => Refusal {
-            stage: CONSTANT,
-            index: handle.index() as u64,
-            error: constant_error_code(source),
-            cause: 0,
-        },
-        ValidationError::Override { handle, source, .. } => Refusal {
-            stage: OVERRIDE,
-            index: handle.index() as u64,
-            error: override_error_code(source),
-            cause: override_error_cause(source),
-        },
-        ValidationError::Corrupted => never(0, 1),
-        ValidationError::ArraySizeError { handle } => never(handle.index() as u64, 2),
-        ValidationError::OutOfMemory => never(0, 0),
-    }
-}
-
-/// The refusal of what no validation returns, or of refused memory.
-fn never(index: u64, error: u32) -> Refusal
-    ensures { result ≡ record { stage = 9; index = index; error = error; cause = 0 } }
-{
-    Refusal {
-        stage: MODULE,
-        index,
-        error,
-        cause: 0,
+        ExpressionError::Literal(error) => literal_error_cause(error),
+        ExpressionError::NotInScope
+        | ExpressionError::InvalidBaseType(_)
+        | ExpressionError::InvalidIndexType(_)
+        | ExpressionError::NegativeIndex(_)
+        | ExpressionError::IndexOutOfBounds(..)
+        | ExpressionError::FunctionArgumentDoesntExist(_)
+        | ExpressionError::InvalidPointerType(_)
+        | ExpressionError::InvalidArrayType(_)
+        | ExpressionError::InvalidRayQueryType(_)
+        | ExpressionError::InvalidSplatType(_)
+        | ExpressionError::InvalidVectorType(_)
+        | ExpressionError::InvalidSwizzleComponent(..)
+        | ExpressionError::Compose(_)
+        | ExpressionError::InvalidZeroValue(_)
+        | ExpressionError::IndexableLength(_)
+        | ExpressionError::InvalidUnaryOperandType(..)
+        | ExpressionError::InvalidBinaryOperandTypes { .. }
+        | ExpressionError::SelectValuesTypeMismatch { .. }
+        | ExpressionError::SelectConditionNotABool { .. }
+        | ExpressionError::InvalidBooleanVector(_)
+        | ExpressionError::InvalidFloatArgument(_)
+        | ExpressionError::Type_(_)
+        | ExpressionError::ExpectedGlobalVariable
+        | ExpressionError::ExpectedGlobalOrArgument
+        | ExpressionError::ExpectedBindingArrayType(_)
+        | ExpressionError::ExpectedImageType(_)
+        | ExpressionError::ExpectedSamplerType(_)
+        | ExpressionError::InvalidImageClass(_)
+        | ExpressionError::InvalidImageFormat(_)
+        | ExpressionError::InvalidImageStorageAccess(_)
+        | ExpressionError::InvalidDerivative
+        | ExpressionError::InvalidImageArrayIndex
+        | ExpressionError::InvalidImageSampleSelector
+        | ExpressionError::MissingImageSampleSelector
+        | ExpressionError::InvalidImageLevelSelector
+        | ExpressionError::MissingImageLevelSelector
+        | ExpressionError::InvalidImageArrayIndexType(_)
+        | ExpressionError::InvalidImageOtherIndexType(_)
+        | ExpressionError::InvalidImageCoordinateType(..)
+        | ExpressionError::ComparisonSamplingMismatch { .. }
+        | ExpressionError::InvalidSampleOffsetExprType
+        | ExpressionError::InvalidSampleOffset(..)
+        | ExpressionError::InvalidDepthReference(_)
+        | ExpressionError::InvalidDepthSampleLevel
+        | ExpressionError::InvalidGatherLevel
+        | ExpressionError::InvalidGatherComponent(_)
+        | ExpressionError::InvalidGatherDimension(_)
+        | ExpressionError::InvalidSampleLevelExactType(_)
+        | ExpressionError::InvalidSampleLevelBiasType(_)
+        | ExpressionError::InvalidSampleLevelBiasDimension(_)
+        | ExpressionError::InvalidSampleLevelGradientType(..)
+        | ExpressionError::InvalidSampleClampCoordinateToEdge(_)
+        | ExpressionError::InvalidCastArgument
+        | ExpressionError::WrongArgumentCount(_)
+        | ExpressionError::InvalidArgumentType(..)
+        | ExpressionError::InvalidWorkGroupUniformLoadResultType(_)
+        | ExpressionError::MissingCapabilities(_)
+        | ExpressionError::UnsupportedWidth(..)
+        | ExpressionError::InvalidCooperativeOperand(_)
+        | ExpressionError::ShiftAmountTooLarge { .. }
+        | ExpressionError::DivideByZero
+        | ExpressionError::OutOfMemory => 0,
     }
 }

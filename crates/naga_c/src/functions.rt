@@ -9,16 +9,19 @@ ghost use Rattle.naga_valid.specs.AllFunctions.{HaveInfos, IsNext};
 ghost use Rattle.naga_valid.specs.State.{new_state, settings_of, stages_with};
 ghost use Rattle.std.specs.Prelude.{◌≡◌, ◌+◌, ◌<◌, ◌≤◌, Some, length, slice_get};
 
-use crate::codes::{ENTRY_POINT, FUNCTION, expression_error_cause, expression_error_code};
+use crate::codes::{expression_error_cause, expression_error_code, expression_error_second_cause};
+use crate::kinds;
+use crate::refusal::{ENTRY_POINT, FUNCTION};
 use crate::results::Outcome;
 use crate::status::Status;
-use crate::verdict::{counts_of, refused_outcome, refused_status, validate};
+use crate::subject::Subject;
+use crate::values::{Values, expression_error_values};
+use crate::verdict::{counts_of, no_outcome, refused_outcome, refused_status, validate};
 use naga_info::expression_error::ExpressionError;
 use naga_valid::{
     Callable, ExpressionTag, Flags, FullTyping, FunctionError, FunctionInfo, FunctionTag,
     FunctionsError, Handle, Module, ModuleInfo, ValidationFlags, Validator,
 };
-use crate::subject::Subject;
 use std::alloc::Global;
 
 /// The stages that may use a function or entry point, as bits.
@@ -110,15 +113,24 @@ fn refused_at(
 ) -> Outcome
     ensures { result ≡ refused_at «module».now at.now expression error.now }
 {
-    let (stage, index) = match *at {
-        Callable::Function(handle) => (FUNCTION, handle.index()),
-        Callable::EntryPoint(index) => (ENTRY_POINT, index),
+    let (stage, kind, index) = match *at {
+        Callable::Function(handle) => (FUNCTION, kinds::FUNCTION, handle.index()),
+        Callable::EntryPoint(index) => (ENTRY_POINT, kinds::ENTRY_POINT, index),
     };
+    let Values { count, items } = expression_error_values(error);
+    let errors = [
+        expression_error_code(error),
+        expression_error_cause(error),
+        expression_error_second_cause(error),
+        0,
+    ];
     Outcome {
         index: index as u64,
+        values: items,
         stage,
-        error: expression_error_code(error),
-        cause: expression_error_cause(error),
+        kind,
+        errors,
+        value_count: count,
         expression: expression.index() as u32,
         ..counts_of(module)
     }
@@ -137,7 +149,7 @@ fn report_refused(
     ensures { ReportsRefused «module».now info.now.lists refused.now stages.old stages.new outcome.new result }
 {
     let FunctionError::Expression { handle, source } = &refused.source else {
-        *outcome = Outcome::default();
+        *outcome = no_outcome();
         return Status::OutOfMemory;
     };
     *outcome = refused_at(module, &refused.at, *handle, source);

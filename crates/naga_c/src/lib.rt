@@ -6,12 +6,16 @@
 mod calls;
 mod codes;
 mod functions;
+mod kinds;
 mod leaves;
+mod numbers;
 mod options;
+mod refusal;
 mod results;
 mod slots;
 mod status;
 mod subject;
 mod text;
 mod types;
+mod values;
 mod verdict;

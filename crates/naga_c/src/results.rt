@@ -12,12 +12,16 @@ pub struct Outcome {
     pub entry_points: u64,
     /// How many elements were written to the caller's buffer.
     pub written: u64,
-    /// Which kind of item is refused, or 0.
+    /// What the errors hold, outermost error first, then 0.
+    pub values: [u64; 5],
+    /// Which kind of rule is broken, or 0.
     pub stage: u32,
-    /// The error of the stage, or 0.
-    pub error: u32,
-    /// The error within that error, or 0.
-    pub cause: u32,
+    /// The kind of item that `index` is of, or 0.
+    pub kind: u32,
+    /// The error of the stage, and the errors within it, outermost first, then 0.
+    pub errors: [u32; 4],
+    /// How many values the errors hold.
+    pub value_count: u32,
     /// The expression that is refused, of a function or entry point.
     pub expression: u32,
 }

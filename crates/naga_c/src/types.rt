@@ -10,7 +10,9 @@ ghost use Rattle.std.specs.Prelude.{◌≡◌, ◌≤◌, length};
 use crate::codes::disalignment_code;
 use crate::results::{Outcome, TypeRow};
 use crate::status::Status;
-use crate::verdict::{counts_of, refused_outcome, refused_status, validate, validator_for};
+use crate::verdict::{
+    counts_of, no_outcome, refused_outcome, refused_status, validate, validator_for,
+};
 use naga_typing::context::to_ctx;
 use naga_typing::layouter::{Layouter, TypeLayout};
 use naga_valid::{Flags, FullTyping, Handle, LayoutCompatibility, Module, TypeInfo, Validator};
@@ -88,7 +90,7 @@ fn report_types(
     }
     let mut layouter = Layouter::new(alloc);
     let Ok(()) = layouter.update(to_ctx(module)) else {
-        *outcome = Outcome::default();
+        *outcome = no_outcome();
         return Status::OutOfMemory;
     };
     write_rows(validator, &layouter, rows);

@@ -12,12 +12,19 @@ ghost use Rattle.naga_valid.specs.State.{new_state, settings_of};
 ghost use Rattle.naga_valid.specs.declared.error.ValidationError.TheVariants as error;
 ghost use Rattle.std.specs.Prelude.{◌≡◌, OnOk};
 
-use crate::codes::refusal_of;
+use crate::refusal::refusal_of;
 use crate::results::Outcome;
 use crate::status::Status;
 use crate::subject::{NoSubject, Subject};
 use naga_valid::{FullTyping, Module, ModuleInfo, ValidationError, Validator, WithSpan};
 use std::alloc::Global;
+
+/// What is written if nothing was found out.
+pub(crate) fn no_outcome() -> Outcome
+    ensures { result ≡ spec.no_outcome }
+{
+    Outcome::default()
+}
 
 /// What is written by a call that has no module to validate.
 pub(crate) fn outcome_without(why: NoSubject) -> Outcome
@@ -26,12 +33,10 @@ pub(crate) fn outcome_without(why: NoSubject) -> Outcome
     match why {
         NoSubject::Unreadable(at) => Outcome {
             index: at as u64,
-            ..Outcome::default()
+            ..no_outcome()
         },
-        NoSubject::Options
-        | NoSubject::Limit
-        | NoSubject::Settings
-        | NoSubject::OutOfMemory => Outcome::default(),
+        NoSubject::Options | NoSubject::Limit | NoSubject::Settings | NoSubject::OutOfMemory =>
+            no_outcome(),
     }
 }
 
@@ -43,7 +48,7 @@ pub(crate) fn counts_of(module: &Module) -> Outcome
         types: module.types.len() as u64,
         functions: module.functions.len() as u64,
         entry_points: module.entry_points.len() as u64,
-        ..Outcome::default()
+        ..no_outcome()
     }
 }
 
@@ -96,14 +101,18 @@ pub(crate) fn refused_outcome(module: &Module, error: &ValidationError) -> Outco
     ensures { result ≡ spec.refused_outcome «module».now error.now }
 {
     if refused_status(error) == Status::OutOfMemory {
-        return Outcome::default();
+        return no_outcome();
     }
     let refusal = refusal_of(error);
+    let values = refusal.values.items;
+    let errors = refusal.errors;
     Outcome {
         index: refusal.index,
+        values,
         stage: refusal.stage,
-        error: refusal.error,
-        cause: refusal.cause,
+        kind: refusal.kind,
+        errors,
+        value_count: refusal.values.count,
         ..counts_of(module)
     }
 }

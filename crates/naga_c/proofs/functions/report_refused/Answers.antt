@@ -1,11 +1,7 @@
 use Rattle.std.proofs.Common.{◌≡◌, ◌+◌, arith, length, refl, rules}
-use Rattle.naga_c.specs.Functions.{before_short, before_undecided, before_written}
-use Rattle.naga_c.proofs.CallLaws.{other_source}
+use Rattle.naga_c.specs.Functions.{before_short, before_written}
 use Rattle.naga_c.proofs.RowLaws.{with_written}
 use Rattle.naga_c.proofs.functions.report_refused.Goals as goal
-
-pub returns-in_default : goal.returns-in_default
-returns-in_default c = before_undecided (other_source _ c.in_default.not-Expression) (search rules) refl
 
 pub returns-then-stages-all : goal.returns-then-stages-all
 returns-then-stages-all c = before_short _ _ c.in-Expression.is (omega arith) (refl, c.refused_at.ensures) refl
