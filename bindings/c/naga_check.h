@@ -484,6 +484,20 @@ enum {
   NAGA_CHECK_STAGE_MODULE = 9
 };
 
+/* Kinds of items of a module. Expressions are those of the module and of functions. */
+enum {
+  NAGA_CHECK_ITEM_KIND_NONE = 0,
+  NAGA_CHECK_ITEM_KIND_TYPE = 1,
+  NAGA_CHECK_ITEM_KIND_CONSTANT = 2,
+  NAGA_CHECK_ITEM_KIND_OVERRIDE = 3,
+  NAGA_CHECK_ITEM_KIND_GLOBAL_VARIABLE = 4,
+  NAGA_CHECK_ITEM_KIND_EXPRESSION = 5,
+  NAGA_CHECK_ITEM_KIND_LOCAL_VARIABLE = 6,
+  NAGA_CHECK_ITEM_KIND_FUNCTION = 7,
+  NAGA_CHECK_ITEM_KIND_DIAGNOSTIC_FILTER_NODE = 8,
+  NAGA_CHECK_ITEM_KIND_ENTRY_POINT = 9
+};
+
 /* Errors of handles. */
 enum {
   NAGA_CHECK_HANDLE_ERROR_BAD_HANDLE = 1,
@@ -634,6 +648,9 @@ enum {
   NAGA_CHECK_VARYING_ERROR_INCOMPLETE_BLEND_SRC_USAGE = 6
 };
 
+/* Causes: why a literal is refused. */
+enum { NAGA_CHECK_LITERAL_ERROR_WIDTH = 1 };
+
 /* Causes: why a width is refused. */
 enum {
   NAGA_CHECK_WIDTH_ERROR_INVALID = 1,
@@ -682,9 +699,12 @@ typedef struct naga_check_outcome {
   uint64_t functions;
   uint64_t entry_points;
   uint64_t written;      /* how many elements were written to the caller's buffer */
+  /* What the errors hold, outermost error first, then 0: docs/HOSTS.md says of each error what its values are. */
+  uint64_t values[5];
   uint32_t stage;        /* NAGA_CHECK_STAGE_.. with NAGA_CHECK_REFUSED, else 0 */
-  uint32_t error;        /* NAGA_CHECK_.._ERROR_.. of the stage, or 0 */
-  uint32_t cause;        /* the error within that error, where the error has one, or 0 */
+  uint32_t kind;         /* the kind of the item of `index`, NAGA_CHECK_ITEM_KIND_.. with NAGA_CHECK_REFUSED, else 0 */
+  uint32_t errors[4];    /* NAGA_CHECK_.._ERROR_.. of the stage, and the errors within it, outermost first, then 0 */
+  uint32_t value_count;  /* how many values the errors hold */
   uint32_t expression;   /* of the stages FUNCTION and ENTRY_POINT the expression that is refused, else 0 */
 } naga_check_outcome;
 

@@ -20,7 +20,8 @@ RUST_TYPES = {"u8": "uint8_t", "u32": "uint32_t", "u64": "uint64_t", "usize": "s
 ERRORS = {"InvalidHandleError": "HANDLE_ERROR", "LayoutErrorInner": "LAYOUT_ERROR", "TypeError": "TYPE_ERROR",
           "ConstExpressionError": "CONST_EXPRESSION_ERROR", "ConstantError": "CONSTANT_ERROR",
           "OverrideError": "OVERRIDE_ERROR", "ExpressionError": "EXPRESSION_ERROR", "VaryingError": "VARYING_ERROR",
-          "WidthError": "WIDTH_ERROR", "ComposeError": "COMPOSE_ERROR", "ResolveError": "RESOLVE_ERROR",
+          "LiteralError": "LITERAL_ERROR", "WidthError": "WIDTH_ERROR", "ComposeError": "COMPOSE_ERROR",
+          "ResolveError": "RESOLVE_ERROR",
           "IndexableLengthError": "INDEXABLE_LENGTH_ERROR", "Disalignment": "DISALIGNMENT"}
 TABLES = {"ScalarKind": "KIND", "CooperativeRole": "ROLE", "ImageDimension": "DIMENSION",
           "SwizzleComponent": "COMPONENT", "UnaryOperator": "UNARY", "BinaryOperator": "BINARY",
@@ -67,13 +68,20 @@ def sys_constants(text):
 
 def header_structs(text):
     found = re.findall(r"typedef struct (\w+) \{(.*?)\} \w+;", text, re.DOTALL)
-    return {name: re.findall(r"(\w+) (\w+);", body) for name, body in found}
+    return {name: [(ty + length, field) for ty, field, length in re.findall(r"(\w+) (\w+)(\[\d+\])?;", body)]
+            for name, body in found}
+
+
+def rust_type(ty):
+    """The C type of a Rust type of a field, with the length of an array after it."""
+    of_array = re.fullmatch(r"\[(\w+); (\d+)\]", ty)
+    return f"{RUST_TYPES.get(of_array[1], of_array[1])}[{of_array[2]}]" if of_array else RUST_TYPES.get(ty, ty)
 
 
 def rust_structs(text):
     found = re.findall(r"#\[repr\(C\)\]\s*(?:#\[[^\]]*\]\s*)*pub struct (\w+) \{(.*?)\n\}", text, re.DOTALL)
-    return {RUST_TYPES.get(name, name): [(RUST_TYPES.get(ty, ty), field.removeprefix("r#"))
-                                         for field, ty in re.findall(r"pub (\S+): (\w+),", body)]
+    return {RUST_TYPES.get(name, name): [(rust_type(ty), field.removeprefix("r#"))
+                                         for field, ty in re.findall(r"pub (\S+): ([^,]+),", body)]
             for name, body in found}
 
 
@@ -220,6 +228,14 @@ def compare_numbers(constants, names, numbers):
     same("number", named, ours)
 
 
+def compare_consts(constants, prefix, path):
+    """Compares the constants of a prefix, except that of none, with all constants of a file in Rattle."""
+    start = f"NAGA_CHECK_{prefix}_"
+    ours = {name.removeprefix(start): value for name, value in constants.items() if name.startswith(start) and value}
+    same(f"{prefix} of {os.path.basename(path)}", ours,
+         {name: int(value) for name, value in re.findall(r"const (\w+): u32 = (\d+);", read(path))})
+
+
 def compare_crates(constants, functions, structs, crates):
     """Compares with the crates in Rattle, as far as they are there."""
     exports, reader = sources_of(crates, "naga_c"), sources_of(crates, "naga_words")
@@ -227,6 +243,8 @@ def compare_crates(constants, functions, structs, crates):
     if exports:
         compare_exports(functions, structs, exports)
         compare_numbers(constants, ERRORS, numbers_of_errors(exports))
+        compare_consts(constants, "ITEM_KIND", f"{crates}/naga_c/src/kinds.rt")
+        compare_consts(constants, "STAGE", f"{crates}/naga_c/src/refusal.rt")
     if reader:
         compare_numbers(constants, TABLES, numbers_of_tables(reader))
     if not exports or not reader:
@@ -237,7 +255,8 @@ def main():
     header_path, sys_path, words_path, crates = sys.argv[1:]
     flags_path = header_path.removesuffix(".h") + "_flags.h"
     header = without_comments(read(header_path) + read(flags_path))
-    rust = without_comments(read(sys_path) + read(sys_path.removesuffix(".rs") + "/flags.rs"))
+    sys_paths = [sys_path, *sorted(glob.glob(sys_path.removesuffix(".rs") + "/*.rs"))]
+    rust = without_comments("".join(map(read, sys_paths)))
     constants = header_constants(header)
     same("constant", constants, sys_constants(rust))
     same("struct", header_structs(header), rust_structs(rust))

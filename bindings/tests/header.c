@@ -17,16 +17,18 @@ IS_AT(naga_check_options, most_words, 24);
 IS_AT(naga_check_options, most_items, 32);
 IS_AT(naga_check_options, most_leaves, 40);
 
-HOLDS(size_of_outcome, sizeof(naga_check_outcome) == 56);
+HOLDS(size_of_outcome, sizeof(naga_check_outcome) == 112);
 IS_AT(naga_check_outcome, index, 0);
 IS_AT(naga_check_outcome, types, 8);
 IS_AT(naga_check_outcome, functions, 16);
 IS_AT(naga_check_outcome, entry_points, 24);
 IS_AT(naga_check_outcome, written, 32);
-IS_AT(naga_check_outcome, stage, 40);
-IS_AT(naga_check_outcome, error, 44);
-IS_AT(naga_check_outcome, cause, 48);
-IS_AT(naga_check_outcome, expression, 52);
+IS_AT(naga_check_outcome, values, 40);
+IS_AT(naga_check_outcome, stage, 80);
+IS_AT(naga_check_outcome, kind, 84);
+IS_AT(naga_check_outcome, errors, 88);
+IS_AT(naga_check_outcome, value_count, 104);
+IS_AT(naga_check_outcome, expression, 108);
 
 HOLDS(size_of_type_info, sizeof(naga_check_type_info) == 32);
 IS_AT(naga_check_type_info, flags, 0);

@@ -10,6 +10,7 @@ import ctypes
 import re
 import sys
 
+from debug_form import read, told
 from words_of_text import Unreadable, Writer
 
 OK, REFUSED, UNREADABLE, MEMORY, ROOM, NO_TYPE, LIMIT, OPTIONS, SETTINGS, NOT_SHAREABLE = range(10)
@@ -17,9 +18,8 @@ STAGES = "handle layout type expression constant override".split()
 ITEMS = {"layout": "T", "type": "T", "expression": "G", "constant": "C", "override": "O"}
 ERRORS = {1: "HANDLE_ERROR", 2: "LAYOUT_ERROR", 3: "TYPE_ERROR", 4: "CONST_EXPRESSION_ERROR", 5: "CONSTANT_ERROR",
           6: "OVERRIDE_ERROR", 7: "EXPRESSION_ERROR", 8: "EXPRESSION_ERROR"}
-# What an error holds, for those that hold an error.
-CAUSES = {"InvalidBlendSrc": "VARYING_ERROR", "WidthError": "WIDTH_ERROR", "Literal": "WIDTH_ERROR",
-          "Compose": "COMPOSE_ERROR", "Type": "RESOLVE_ERROR", "IndexableLength": "INDEXABLE_LENGTH_ERROR"}
+# The kind of the item that an outcome is about, by its stage; of the stage HANDLE the row says it.
+KINDS = {2: "TYPE", 3: "TYPE", 4: "EXPRESSION", 5: "CONSTANT", 6: "OVERRIDE", 7: "FUNCTION", 8: "ENTRY_POINT"}
 TYPE_FLAGS = "DATA SIZED COPY IO_SHAREABLE HOST_SHAREABLE CREATION_RESOLVED ARGUMENT CONSTRUCTIBLE".split()
 MOST_LEAVES = 1000
 ALL_FLAGS, DEFAULT_CAPABILITIES, ALL_CAPABILITIES = 0x3F, 0x9000, 0xFFFFFFFFFFF
@@ -30,7 +30,8 @@ UNKNOWN = object()
 
 def struct(name, fields):
     kinds = {"uint32_t": ctypes.c_uint32, "uint64_t": ctypes.c_uint64}
-    return type(name, (ctypes.Structure,), {"_fields_": [(field, kinds[ty]) for ty, field in fields]})
+    return type(name, (ctypes.Structure,), {"_fields_": [
+        (field, kinds[ty] * int(length) if length else kinds[ty]) for ty, field, length in fields]})
 
 
 class Header:
@@ -39,12 +40,18 @@ class Header:
     def __init__(self, path):
         text = re.sub(r"/\*.*?\*/", "", open(path, encoding="utf-8").read(), flags=re.DOTALL)
         found = re.findall(r"typedef struct naga_check_(\w+) \{(.*?)\}", text, re.DOTALL)
-        structs = {name: struct(name, re.findall(r"(\w+) (\w+);", body)) for name, body in found}
+        structs = {name: struct(name, re.findall(r"(\w+) (\w+)(?:\[(\d+)\])?;", body)) for name, body in found}
         self.options, self.outcome, self.info, self.leaf, self.counts = (
             structs[name] for name in ("options", "outcome", "type_info", "leaf", "counts"))
         self.numbers = {}
         for name, value in re.findall(r"\bNAGA_CHECK_(\w+) = (\d+)", text):
             self.numbers[name.replace("_", "")] = int(value)
+        flags = open(path.removesuffix(".h") + "_flags.h", encoding="utf-8").read()
+        named = re.findall(r"^#define NAGA_CHECK_(\w+) (?:UINT64_C\()?(0x\w+?)u?\)?$", flags, re.MULTILINE)
+        self.flags = {name: int(value, 0) for name, value in named}
+
+    def find(self, enum, variant):
+        return self.numbers.get((enum + variant).replace("_", "").upper())
 
     def number(self, enum, variant):
         return self.numbers[(enum + variant).replace("_", "").upper()]
@@ -135,18 +142,17 @@ class Module:
                               0, NARROW, UNLIMITED, UNLIMITED, UNLIMITED)
 
 
-def error_number(header, stage, error, cause):
-    """The numbers of an error and of the error in it, by naga's names."""
-    error = error.rstrip("_")
-    number = header.number(ERRORS[stage], error)
-    if error not in CAUSES or cause is None:
-        return number, None
-    return number, header.number(CAUSES[error], cause.rstrip("_"))
+def is_named(outcome, header, stage, index, error):
+    """Whether an item is refused with the error of a name."""
+    number = header.number(ERRORS[stage], error.rstrip("_"))
+    return (outcome.stage, outcome.index, outcome.errors[0]) == (stage, index, number)
 
 
-def is_refusal(outcome, header, stage, index, error, cause=None):
-    number, within = error_number(header, stage, error, cause)
-    return (outcome.stage, outcome.index, outcome.error) == (stage, index, number) and within in (None, outcome.cause)
+def is_refusal(outcome, header, stage, index, errors, values, kind=None):
+    """Whether an item is refused with these errors, which hold these values."""
+    kind = header.number("ITEM_KIND", kind or KINDS[stage])
+    return ((outcome.stage, outcome.index, outcome.kind, outcome.value_count) == (stage, index, kind, len(values)) and
+            list(outcome.errors) == (errors + [0] * 4)[:4] and list(outcome.values) == (values + [0] * 5)[:5])
 
 
 def is_report(library, module, result):
@@ -164,7 +170,7 @@ def is_report(library, module, result):
         _, kind, *place, name = lines[0].split()
         stage = STAGES.index(kind) + 1
         index = int(place[0][1:]) if place else outcome.index
-        return is_refusal(outcome, library.header, stage, index, name)
+        return is_named(outcome, library.header, stage, index, name)
     return [report_line(library.header, at, info) for at, info in enumerate(infos)] + ["ok"] == lines
 
 
@@ -186,28 +192,30 @@ def is_handles(library, module, result):
     fault, *operands = result[0].split()
     if fault == "ok":
         return outcome.stage != 1
+    header, numbers = library.header, [int(operand) for operand in operands if operand.isdigit()]
     if fault == "MissingMember":
-        return is_refusal(outcome, library.header, 3, int(operands[0]), "InvalidData")
-    index = int(operands[0] if fault == "BadRange" else operands[1])
-    return is_refusal(outcome, library.header, 1, index, fault)
+        return is_refusal(outcome, header, 3, numbers[0], [header.number(ERRORS[3], "InvalidData")], numbers[:1])
+    kind = "Expression" if fault == "BadRange" else operands[0]
+    return is_refusal(outcome, header, 1, numbers[0], [header.number(ERRORS[1], fault)], numbers, kind)
 
 
 def is_validated(library, module, result):
     status, outcome, _ = library.words(module)
     if result[0] == "ok":
         return status == OK
-    stages = {"InvalidHandle": 1, "Layouter": 2, "Type_": 3, "ConstExpression": 4, "Constant": 5, "Override": 6}
-    name = re.match(r"\w+", result[0])[0]
-    if name == "InvalidHandle":
-        error, index = re.match(r"InvalidHandle\((\w+)\(\w+ \{.*?(?:index|subject|start): (\d+)", result[0]).groups()
-        return is_refusal(outcome, library.header, 1, int(index), error)
-    index = int(re.search(r"(?:handle|ty): \[(\d+)\]", result[0])[1])
-    error, cause = re.search(r"(?:source|inner): (\w+)(?:\((\w+))?", result[0]).groups()
-    if error == "Literal":
-        cause = re.search(r"Literal\(Width\((\w+)", result[0])[1]
-    is_same = is_refusal(outcome, library.header, stages[name], index, error, cause)
+    form = read(result[0])
+    stage = 1 + "InvalidHandle Layouter Type ConstExpression Constant Override".split().index(form.name)
+    held = form.fields[0] if stage <= 2 else form
+    if stage == 1:
+        within = held.within()
+        errors, values = told(library.header, ERRORS[1], within)
+        kind = within.fields["subject_kind" if held.name == "ForwardDependency" else "kind"]
+        return is_refusal(outcome, library.header, 1, values[0], errors, values, kind.strip('"'))
+    error = held.fields["inner" if stage == 2 else "source"]
+    index = held.fields["ty" if stage == 2 else "handle"]
+    is_same = is_refusal(outcome, library.header, stage, index, *told(library.header, ERRORS[stage], error))
     # The rows are of the plain typing, which gives no type where the library's, naga's own, may have one.
-    return is_same or (UNKNOWN if name == "ConstExpression" and error == "Type_" else False)
+    return is_same or (UNKNOWN if stage == 4 and error.name == "Type" else False)
 
 
 def is_type(library, module, result, ty):
@@ -252,13 +260,11 @@ def is_callables(library, module, result):
     status, outcome, _ = library.functions(module)
     if result[0] == "ok":
         return status == OK
-    kind, index, expression, error, cause = re.match(
-        r"([FN])(\d+) E(\d+) refused (\w+)(?:\((\w+))?", result[0]).groups()
+    kind, index, expression, error = re.match(r"([FN])(\d+) E(\d+) refused (.*)", result[0]).groups()
     stage = 7 if kind == "F" else 8
-    if error == "Literal":
-        cause = None
     is_place = outcome.expression == int(expression)
-    return is_place and is_refusal(outcome, library.header, stage, int(index), error, cause)
+    refusal = told(library.header, ERRORS[stage], read(error))
+    return is_place and is_refusal(outcome, library.header, stage, int(index), *refusal)
 
 
 def is_stages(library, module, result, index, is_entry_point=False):
@@ -317,7 +323,8 @@ def is_line_text(lines):
 
 
 def plain(structure):
-    return tuple(getattr(structure, field) for field, _ in structure._fields_)
+    values = (getattr(structure, field) for field, _ in structure._fields_)
+    return tuple(tuple(value) if isinstance(value, ctypes.Array) else value for value in values)
 
 
 def agree(library, module):

@@ -28,7 +28,7 @@ int main(void) {
 
   if (naga_check_words(words, word_count, NULL, infos, 3, &outcome) != NAGA_CHECK_OK) {
     fprintf(stderr, "stage %u, item %llu: error %u\n", (unsigned)outcome.stage,
-            (unsigned long long)outcome.index, (unsigned)outcome.error);
+            (unsigned long long)outcome.index, (unsigned)outcome.errors[0]);
     return 1;
   }
   if (infos[pair].size > sizeof buffer) return 1;

@@ -64,7 +64,7 @@ impl TypeInfo {
 /// A layout by its alignment, which is 0 if there is none, and the code of why there is none.
 fn layout(alignment: u32, error: u32) -> Option<Result<u32, Disalignment>> {
     if alignment == 0 {
-        Disalignment::from_codes(error, 0).map(Err)
+        Disalignment::of_number(error).map(Err)
     } else {
         Some(Ok(alignment))
     }

@@ -1,60 +1,18 @@
 //! What is wrong with a module.
 //!
-//! The errors have naga's names and naga's texts. The library returns which error it is, without the handles and
-//! numbers in naga's error: where naga's text shows them, the text here leaves them out.
+//! The errors have naga's names, naga's fields and naga's texts, but for types and texts, which the library doesn't
+//! return: where naga's text shows one, the text here leaves it out.
 
 use crate::expression_error::ExpressionError;
 use crate::expressions::Expression;
+use crate::flags::Capabilities;
 use crate::module::{Constant, Function, Override};
 use crate::operands::Handle;
 use crate::sys::{self, NagaCheckOutcome};
-use crate::types::Type;
+use crate::told::{errors, ItemKind, Tell, Told};
+use crate::types::{AddressSpace, ImageClass, ImageDimension, Scalar, ScalarKind, Type};
 use std::error;
 use std::fmt;
-
-/// Declares an enum of errors. After `=` are the code of a variant and its text.
-macro_rules! errors {
-    (
-        $(#[$about:meta])*
-        pub enum $name:ident {
-            $(
-                $(#[$doc:meta])*
-                $variant:ident $( ( $cause:ident: $cause_type:ty ) )? = $code:path => $text:literal,
-            )+
-        }
-    ) => {
-        $(#[$about])*
-        #[derive(Clone, Copy, Debug, PartialEq, Eq, Hash)]
-        #[non_exhaustive]
-        pub enum $name {
-            $( $(#[$doc])* $variant $( ( $cause_type ) )?, )+
-        }
-
-        impl $name {
-            /// The error of a code, and of the code of the error within it.
-            #[allow(unused_variables)]
-            pub(crate) fn from_codes(error: u32, cause: u32) -> Option<$name> {
-                match error {
-                    $( $code => Some($name::$variant $( ( <$cause_type>::from_codes(cause, 0)? ) )?), )+
-                    _ => None,
-                }
-            }
-        }
-
-        impl std::fmt::Display for $name {
-            #[allow(unused_variables)]
-            fn fmt(&self, f: &mut std::fmt::Formatter<'_>) -> std::fmt::Result {
-                match self {
-                    $( $name::$variant $( ( $cause ) )? => write!(f, $text), )+
-                }
-            }
-        }
-
-        impl std::error::Error for $name {}
-    };
-}
-
-pub(crate) use errors;
 
 /// Why a call has no result.
 #[derive(Clone, Copy, Debug, PartialEq, Eq, Hash)]
@@ -115,6 +73,8 @@ impl error::Error for Error {
 pub enum Refusal {
     /// A handle or range is not right.
     Handle {
+        /// The kind of the item.
+        kind: ItemKind,
         /// The dangling index, the index of the item that depends on a later one, or the start of the range.
         index: u64,
         /// What is wrong.
@@ -189,36 +149,33 @@ fn handle<T>(index: u64) -> Option<Handle<T>> {
 impl Refusal {
     /// What a call found out, if this crate knows its numbers.
     pub(crate) fn from_outcome(outcome: &NagaCheckOutcome) -> Option<Refusal> {
-        let NagaCheckOutcome {
-            index,
-            error,
-            cause,
-            ..
-        } = *outcome;
+        let index = outcome.index;
+        let told = &mut Told::of_outcome(outcome);
         Some(match outcome.stage {
             sys::NAGA_CHECK_STAGE_HANDLE => Refusal::Handle {
+                kind: ItemKind::tell(told)?,
                 index,
-                error: HandleError::from_codes(error, cause)?,
+                error: HandleError::tell(told)?,
             },
             sys::NAGA_CHECK_STAGE_LAYOUT => Refusal::Layout {
                 ty: handle(index)?,
-                error: LayoutError::from_codes(error, cause)?,
+                error: LayoutError::tell(told)?,
             },
             sys::NAGA_CHECK_STAGE_TYPE => Refusal::Type {
                 ty: handle(index)?,
-                error: TypeError::from_codes(error, cause)?,
+                error: TypeError::tell(told)?,
             },
             sys::NAGA_CHECK_STAGE_GLOBAL_EXPRESSION => Refusal::GlobalExpression {
                 expression: handle(index)?,
-                error: ConstExpressionError::from_codes(error, cause)?,
+                error: ConstExpressionError::tell(told)?,
             },
             sys::NAGA_CHECK_STAGE_CONSTANT => Refusal::Constant {
                 constant: handle(index)?,
-                error: ConstantError::from_codes(error, cause)?,
+                error: ConstantError::tell(told)?,
             },
             sys::NAGA_CHECK_STAGE_OVERRIDE => Refusal::Override {
                 by: handle(index)?,
-                error: OverrideError::from_codes(error, cause)?,
+                error: OverrideError::tell(told)?,
             },
             _ => return Refusal::of_expression(outcome),
         })
@@ -226,26 +183,22 @@ impl Refusal {
 
     /// The same of the stages after those of `naga_check_words`.
     fn of_expression(outcome: &NagaCheckOutcome) -> Option<Refusal> {
-        let NagaCheckOutcome {
-            index,
-            error,
-            cause,
-            ..
-        } = *outcome;
+        let index = outcome.index;
+        let told = &mut Told::of_outcome(outcome);
         let expression = handle(outcome.expression.into())?;
         Some(match outcome.stage {
             sys::NAGA_CHECK_STAGE_FUNCTION => Refusal::Function {
                 function: handle(index)?,
                 expression,
-                error: ExpressionError::from_codes(error, cause)?,
+                error: ExpressionError::tell(told)?,
             },
             sys::NAGA_CHECK_STAGE_ENTRY_POINT => Refusal::EntryPoint {
                 index,
                 expression,
-                error: ExpressionError::from_codes(error, cause)?,
+                error: ExpressionError::tell(told)?,
             },
             sys::NAGA_CHECK_STAGE_MODULE => Refusal::Module {
-                error: ModuleError::from_codes(error, cause)?,
+                error: ModuleError::tell(told)?,
             },
             _ => return None,
         })
@@ -255,7 +208,9 @@ impl Refusal {
 impl fmt::Display for Refusal {
     fn fmt(&self, f: &mut fmt::Formatter<'_>) -> fmt::Result {
         match self {
-            Refusal::Handle { index, .. } => write!(f, "Handle or range [{index}] is invalid"),
+            Refusal::Handle { kind, index, .. } => {
+                write!(f, "Handle or range [{index}] of {kind} is invalid")
+            }
             Refusal::Layout { ty, .. } => write!(f, "Error laying out type {ty:?}"),
             Refusal::Type { ty, .. } => write!(f, "Type {ty:?} is invalid"),
             Refusal::GlobalExpression { expression, .. } => {
@@ -305,13 +260,33 @@ errors! {
     /// What is wrong with a handle or range of a module.
     pub enum HandleError {
         /// It is dangling.
-        BadHandle = sys::NAGA_CHECK_HANDLE_ERROR_BAD_HANDLE => "The handle is either not present, or inaccessible yet",
+        BadHandle {
+            /// The kind of the item.
+            kind: ItemKind,
+            /// The index.
+            index: u64,
+        } = sys::NAGA_CHECK_HANDLE_ERROR_BAD_HANDLE
+            => "Handle {index} of {kind} is either not present, or inaccessible yet",
         /// What it names doesn't precede the item that depends on it.
-        ForwardDependency = sys::NAGA_CHECK_HANDLE_ERROR_FORWARD_DEPENDENCY
-            => "The item depends on one that has not been processed yet",
+        ForwardDependency {
+            /// The kind of both items.
+            kind: ItemKind,
+            /// The item.
+            subject: u64,
+            /// What it depends on.
+            depends_on: u64,
+        } = sys::NAGA_CHECK_HANDLE_ERROR_FORWARD_DEPENDENCY
+            => "[{subject}] of kind \"{kind}\" depends on [{depends_on}] of kind {kind}, which has not been processed yet",
         /// It is a range of expressions to emit that goes back, or ends after the last expression.
-        BadRange = sys::NAGA_CHECK_HANDLE_ERROR_BAD_RANGE
-            => "The range is either not present, or inaccessible yet",
+        BadRange {
+            /// The kind of the items.
+            kind: ItemKind,
+            /// The first index.
+            start: u32,
+            /// The index after the last.
+            end: u32,
+        } = sys::NAGA_CHECK_HANDLE_ERROR_BAD_RANGE
+            => "Handle range [{start}..{end}] of {kind} is either not present, or inaccessible yet",
     }
 }
 
@@ -330,47 +305,82 @@ errors! {
     /// Why a type is refused.
     pub enum TypeError {
         /// A type needs a capability that isn't given.
-        MissingCapability = sys::NAGA_CHECK_TYPE_ERROR_MISSING_CAPABILITY => "A capability is required",
+        MissingCapability(capabilities: Capabilities) = sys::NAGA_CHECK_TYPE_ERROR_MISSING_CAPABILITY
+            => "Capability {capabilities:?} is required",
         /// No capability allows atomic scalars of this kind and width.
-        InvalidAtomicWidth = sys::NAGA_CHECK_TYPE_ERROR_INVALID_ATOMIC_WIDTH
-            => "The scalar width is not supported for an atomic",
+        InvalidAtomicWidth(kind: ScalarKind, width: u8) = sys::NAGA_CHECK_TYPE_ERROR_INVALID_ATOMIC_WIDTH
+            => "The {kind:?} scalar width {width} is not supported for an atomic",
         /// A pointer's base is not data (WGSL "Memory Views").
-        InvalidPointerBase = sys::NAGA_CHECK_TYPE_ERROR_INVALID_POINTER_BASE => "Invalid type for pointer target",
+        InvalidPointerBase(base: Handle<Type>) = sys::NAGA_CHECK_TYPE_ERROR_INVALID_POINTER_BASE
+            => "Invalid type for pointer target {base:?}",
         /// A pointer's base has no fixed size, and the pointer's space is not `Storage`.
-        InvalidPointerToUnsized = sys::NAGA_CHECK_TYPE_ERROR_INVALID_POINTER_TO_UNSIZED
-            => "Unsized types must be in the `Storage` address space",
+        InvalidPointerToUnsized {
+            /// The base.
+            base: Handle<Type>,
+            /// The pointer's space.
+            space: AddressSpace,
+        } = sys::NAGA_CHECK_TYPE_ERROR_INVALID_POINTER_TO_UNSIZED
+            => "Unsized types like {base:?} must be in the `Storage` address space, not `{space:?}`",
         /// The type can't be the type of a member or of an element of a binding array, or a comment is on a member that
         /// the type doesn't have.
-        InvalidData = sys::NAGA_CHECK_TYPE_ERROR_INVALID_DATA => "Expected data type",
+        InvalidData(ty: Handle<Type>) = sys::NAGA_CHECK_TYPE_ERROR_INVALID_DATA
+            => "Expected data type, found {ty:?}",
         /// An array's elements are not data of a size that is fixed when a module is created (WGSL "Array Types").
-        InvalidArrayBaseType = sys::NAGA_CHECK_TYPE_ERROR_INVALID_ARRAY_BASE_TYPE
-            => "Base type for the array is invalid",
+        InvalidArrayBaseType(base: Handle<Type>) = sys::NAGA_CHECK_TYPE_ERROR_INVALID_ARRAY_BASE_TYPE
+            => "Base type {base:?} for the array is invalid",
         /// A matrix has components other than floating-point numbers (WGSL "Matrix Types").
         MatrixElementNotFloat = sys::NAGA_CHECK_TYPE_ERROR_MATRIX_ELEMENT_NOT_FLOAT
             => "Matrix elements must always be floating-point types",
         /// Never returned: no constant is specialized here.
-        UnsupportedSpecializedArrayLength = sys::NAGA_CHECK_TYPE_ERROR_UNSUPPORTED_SPECIALIZED_ARRAY_LENGTH
-            => "The constant is specialized, and cannot be used as an array size",
+        UnsupportedSpecializedArrayLength(constant: Handle<Constant>) = sys::NAGA_CHECK_TYPE_ERROR_UNSUPPORTED_SPECIALIZED_ARRAY_LENGTH
+            => "The constant {constant:?} is specialized, and cannot be used as an array size",
         /// Images of this dimension and class are not supported (WGSL "Texture Types").
-        UnsupportedImageType = sys::NAGA_CHECK_TYPE_ERROR_UNSUPPORTED_IMAGE_TYPE
-            => "Images of this dimensionality and class are not supported",
+        UnsupportedImageType {
+            /// The dimension.
+            dim: ImageDimension,
+            /// Whether the image has layers.
+            arrayed: bool,
+            /// The class.
+            class: ImageClass,
+        } = sys::NAGA_CHECK_TYPE_ERROR_UNSUPPORTED_IMAGE_TYPE
+            => "{} of dimensionality {dim:?} and class {class:?} are not supported" (images(*arrayed)),
         /// An array has a stride below the size of its elements.
-        InvalidArrayStride = sys::NAGA_CHECK_TYPE_ERROR_INVALID_ARRAY_STRIDE
-            => "Array stride does not match the expected",
+        InvalidArrayStride {
+            /// The stride, in bytes.
+            stride: u32,
+            /// The size of an element, in bytes.
+            expected: u32,
+        } = sys::NAGA_CHECK_TYPE_ERROR_INVALID_ARRAY_STRIDE
+            => "Array stride {stride} does not match the expected {expected}",
         /// A member has no fixed size, and isn't an array at the end of its struct (WGSL "Structure Types").
-        InvalidDynamicArray = sys::NAGA_CHECK_TYPE_ERROR_INVALID_DYNAMIC_ARRAY
-            => "A field can't be dynamically-sized",
+        InvalidDynamicArray(ty: Handle<Type>) = sys::NAGA_CHECK_TYPE_ERROR_INVALID_DYNAMIC_ARRAY
+            => "A field can't be dynamically-sized, has type {ty:?}",
         /// The elements of a binding array are data, but not structs.
-        BindingArrayBaseTypeNotStruct = sys::NAGA_CHECK_TYPE_ERROR_BINDING_ARRAY_BASE_TYPE_NOT_STRUCT
-            => "The base has to be a struct",
+        BindingArrayBaseTypeNotStruct(base: Handle<Type>) = sys::NAGA_CHECK_TYPE_ERROR_BINDING_ARRAY_BASE_TYPE_NOT_STRUCT
+            => "The base handle {base:?} has to be a struct",
         /// The elements of a binding array are external images.
         BindingArrayBaseExternalTextures = sys::NAGA_CHECK_TYPE_ERROR_BINDING_ARRAY_BASE_EXTERNAL_TEXTURES
             => "Binding arrays of external textures are not yet supported",
         /// A member begins before the end of the one before it, and not at 0.
-        MemberOverlap = sys::NAGA_CHECK_TYPE_ERROR_MEMBER_OVERLAP => "A structure member overlaps the previous member",
+        MemberOverlap {
+            /// The member, from 0.
+            index: u32,
+            /// Its offset, in bytes.
+            offset: u32,
+        } = sys::NAGA_CHECK_TYPE_ERROR_MEMBER_OVERLAP
+            => "Structure member[{index}] at {offset} overlaps the previous member",
         /// A member ends past the end of its struct.
-        MemberOutOfBounds = sys::NAGA_CHECK_TYPE_ERROR_MEMBER_OUT_OF_BOUNDS
-            => "A structure member crosses the structure boundary",
+        MemberOutOfBounds {
+            /// The member, from 0.
+            index: u32,
+            /// Its offset, in bytes.
+            offset: u32,
+            /// Its size, in bytes.
+            size: u32,
+            /// The size of the struct, in bytes.
+            span: u32,
+        } = sys::NAGA_CHECK_TYPE_ERROR_MEMBER_OUT_OF_BOUNDS
+            => "Structure member[{index}] at {offset} and size {size} crosses the structure boundary of size {span}",
         /// A struct has no members.
         EmptyStruct = sys::NAGA_CHECK_TYPE_ERROR_EMPTY_STRUCT => "Structure types must have at least one member",
         /// Some members are sources of blending, and can't be so.
@@ -379,11 +389,11 @@ errors! {
         /// A scalar's width is not allowed.
         WidthError(cause: WidthError) = sys::NAGA_CHECK_TYPE_ERROR_WIDTH_ERROR => "{cause}",
         /// Never returned: sizes that overrides decide are `InvalidArraySize`.
-        UnresolvedOverride = sys::NAGA_CHECK_TYPE_ERROR_UNRESOLVED_OVERRIDE
-            => "The base has an override-expression that didn't get resolved to a constant",
+        UnresolvedOverride(base: Handle<Type>) = sys::NAGA_CHECK_TYPE_ERROR_UNRESOLVED_OVERRIDE
+            => "The base handle {base:?} has an override-expression that didn't get resolved to a constant",
         /// Overrides must have their values, and the one that sizes this array gives no count above 0.
-        InvalidArraySize = sys::NAGA_CHECK_TYPE_ERROR_INVALID_ARRAY_SIZE
-            => "Override-sized array type does not have a positive size",
+        InvalidArraySize(base: Handle<Type>) = sys::NAGA_CHECK_TYPE_ERROR_INVALID_ARRAY_SIZE
+            => "Override-sized array type {base:?} does not have a positive size",
     }
 }
 
@@ -399,11 +409,14 @@ errors! {
         /// A value can't be composed of its components.
         Compose(cause: ComposeError) = sys::NAGA_CHECK_CONST_EXPRESSION_ERROR_COMPOSE => "{cause}",
         /// The operand of a splat is not a scalar.
-        InvalidSplatType = sys::NAGA_CHECK_CONST_EXPRESSION_ERROR_INVALID_SPLAT_TYPE => "Splatting can't be done",
+        InvalidSplatType(operand: Handle<Expression>) = sys::NAGA_CHECK_CONST_EXPRESSION_ERROR_INVALID_SPLAT_TYPE
+            => "Splatting {operand:?} can't be done",
         /// It has no type.
-        Type(cause: ResolveError) = sys::NAGA_CHECK_CONST_EXPRESSION_ERROR_TYPE => "Type resolution failed",
+        Type(source: ResolveError) = sys::NAGA_CHECK_CONST_EXPRESSION_ERROR_TYPE
+            => "Type resolution failed",
         /// The width of a literal is not allowed.
-        Literal(cause: WidthError) = sys::NAGA_CHECK_CONST_EXPRESSION_ERROR_LITERAL => "{cause}",
+        Literal(cause: LiteralError) = sys::NAGA_CHECK_CONST_EXPRESSION_ERROR_LITERAL
+            => "{cause}",
         /// Never returned: a width is refused inside `Literal`.
         Width(cause: WidthError) = sys::NAGA_CHECK_CONST_EXPRESSION_ERROR_WIDTH => "{cause}",
     }
@@ -445,7 +458,13 @@ errors! {
         /// Overrides have to have their values, and this one has no initialiser.
         UninitializedOverride = sys::NAGA_CHECK_OVERRIDE_ERROR_UNINITIALIZED_OVERRIDE => "Override is uninitialized",
         /// Never returned: the rule of global expressions refuses them before.
-        ConstExpression = sys::NAGA_CHECK_OVERRIDE_ERROR_CONST_EXPRESSION => "A constant expression is invalid",
+        ConstExpression {
+            /// The expression.
+            handle: Handle<Expression>,
+            /// Why it is refused.
+            source: ConstExpressionError,
+        } = sys::NAGA_CHECK_OVERRIDE_ERROR_CONST_EXPRESSION
+            => "Constant expression {handle:?} is invalid",
     }
 }
 
@@ -455,7 +474,8 @@ errors! {
         /// The module is corrupted.
         Corrupted = sys::NAGA_CHECK_MODULE_ERROR_CORRUPTED => "Module is corrupted",
         /// The size of an array is not positive.
-        ArraySize = sys::NAGA_CHECK_MODULE_ERROR_ARRAY_SIZE => "Array size expression is not strictly positive",
+        ArraySize(handle: Handle<Expression>) = sys::NAGA_CHECK_MODULE_ERROR_ARRAY_SIZE
+            => "Array size expression {handle:?} is not strictly positive",
     }
 }
 
@@ -463,23 +483,50 @@ errors! {
     /// Why the members of a struct can't be the two sources of blending (WGSL "blend_src").
     pub enum VaryingError {
         /// A source of blending has another location than 0, or an index other than 0 and 1.
-        InvalidBlendSrcIndex = sys::NAGA_CHECK_VARYING_ERROR_INVALID_BLEND_SRC_INDEX
-            => "A blend source has to be 0 or 1 at location 0",
+        InvalidBlendSrcIndex {
+            /// The location.
+            location: u32,
+            /// The index of the source.
+            blend_src: u32,
+        } = sys::NAGA_CHECK_VARYING_ERROR_INVALID_BLEND_SRC_INDEX
+            => "A blend source has to be 0 or 1 at location 0, and not {blend_src} at location {location}",
         /// A member before is the same source.
-        BindingCollisionBlendSrc = sys::NAGA_CHECK_VARYING_ERROR_BINDING_COLLISION_BLEND_SRC
-            => "Several members are the same blend source",
+        BindingCollisionBlendSrc {
+            /// The index of the source.
+            blend_src: u32,
+        } = sys::NAGA_CHECK_VARYING_ERROR_BINDING_COLLISION_BLEND_SRC
+            => "Several members are the blend source {blend_src}",
         /// A member of a struct with blend sources has a location, but is not a source itself.
-        InvalidBlendSrcWithOtherBindings = sys::NAGA_CHECK_VARYING_ERROR_INVALID_BLEND_SRC_WITH_OTHER_BINDINGS
-            => "A member at a location stands beside blend sources",
+        InvalidBlendSrcWithOtherBindings {
+            /// The location of the last such member.
+            location: u32,
+        } = sys::NAGA_CHECK_VARYING_ERROR_INVALID_BLEND_SRC_WITH_OTHER_BINDINGS
+            => "A member at location {location} stands beside blend sources",
         /// The two sources have different types.
-        BlendSrcOutputTypeMismatch = sys::NAGA_CHECK_VARYING_ERROR_BLEND_SRC_OUTPUT_TYPE_MISMATCH
-            => "The blend sources are of types which differ",
+        BlendSrcOutputTypeMismatch {
+            /// The type of the source 0.
+            blend_src_0_type: Handle<Type>,
+            /// The type of the source 1.
+            blend_src_1_type: Handle<Type>,
+        } = sys::NAGA_CHECK_VARYING_ERROR_BLEND_SRC_OUTPUT_TYPE_MISMATCH
+            => "The blend sources are of the types {blend_src_0_type:?} and {blend_src_1_type:?}, which differ",
         /// Pipeline stages can't pass values of the sources' type (WGSL "Input-output Locations").
-        NotIOShareableType = sys::NAGA_CHECK_VARYING_ERROR_NOT_IO_SHAREABLE_TYPE
-            => "Values of the type can't be passed between pipeline stages",
+        NotIOShareableType(ty: Handle<Type>) = sys::NAGA_CHECK_VARYING_ERROR_NOT_IO_SHAREABLE_TYPE
+            => "Values of the type {ty:?} can't be passed between pipeline stages",
         /// Only one of the two sources exists.
-        IncompleteBlendSrcUsage = sys::NAGA_CHECK_VARYING_ERROR_INCOMPLETE_BLEND_SRC_USAGE
-            => "Only one blend source is there, and not the other one",
+        IncompleteBlendSrcUsage {
+            /// The index of the source that exists.
+            present_blend_src: u32,
+        } = sys::NAGA_CHECK_VARYING_ERROR_INCOMPLETE_BLEND_SRC_USAGE
+            => "Only the blend source {present_blend_src} is there, and not the other one",
+    }
+}
+
+errors! {
+    /// Why a literal is refused.
+    pub enum LiteralError {
+        /// The width of its scalar is not allowed.
+        Width(cause: WidthError) = sys::NAGA_CHECK_LITERAL_ERROR_WIDTH => "{cause}",
     }
 }
 
@@ -487,10 +534,16 @@ errors! {
     /// Why a width of a scalar is refused.
     pub enum WidthError {
         /// No capability allows scalars of this kind the width.
-        Invalid = sys::NAGA_CHECK_WIDTH_ERROR_INVALID => "The scalar width is not supported",
+        Invalid(kind: ScalarKind, width: u8) = sys::NAGA_CHECK_WIDTH_ERROR_INVALID
+            => "The {kind:?} scalar width {width} is not supported",
         /// The width needs a capability.
-        MissingCapability = sys::NAGA_CHECK_WIDTH_ERROR_MISSING_CAPABILITY
-            => "Using values of the type requires a flag of `Capabilities`",
+        MissingCapability {
+            /// The scalars, whose name naga shows.
+            name: Scalar,
+            /// The capability.
+            flag: Capabilities,
+        } = sys::NAGA_CHECK_WIDTH_ERROR_MISSING_CAPABILITY
+            => "Using `{}` values requires the `naga::valid::Capabilities::{}` flag" (name_of(*name), flag_of(*flag)),
         /// Only constant expressions have abstract scalars (WGSL "Abstract Numeric Types").
         Abstract = sys::NAGA_CHECK_WIDTH_ERROR_ABSTRACT
             => "Abstract types may only appear in constant expressions",
@@ -501,13 +554,22 @@ errors! {
     /// Why a value can't be composed.
     pub enum ComposeError {
         /// Values of the type aren't composed.
-        Type = sys::NAGA_CHECK_COMPOSE_ERROR_TYPE => "Composing of the type can't be done",
+        Type(ty: Handle<Type>) = sys::NAGA_CHECK_COMPOSE_ERROR_TYPE
+            => "Composing of type {ty:?} can't be done",
         /// The components are too few or too many.
-        ComponentCount = sys::NAGA_CHECK_COMPOSE_ERROR_COMPONENT_COUNT
-            => "Composing expects another number of components",
+        ComponentCount {
+            /// How many there are; of a vector, how many components of it they make.
+            given: u32,
+            /// How many the type has.
+            expected: u32,
+        } = sys::NAGA_CHECK_COMPOSE_ERROR_COMPONENT_COUNT
+            => "Composing expects {expected} components but {given} were given",
         /// A component has the wrong type.
-        ComponentType = sys::NAGA_CHECK_COMPOSE_ERROR_COMPONENT_TYPE
-            => "Composing's component type is not expected",
+        ComponentType {
+            /// The place of the component, from 0.
+            index: u32,
+        } = sys::NAGA_CHECK_COMPOSE_ERROR_COMPONENT_TYPE
+            => "Composing {index}'s component type is not expected",
     }
 }
 
@@ -554,5 +616,45 @@ errors! {
         UnsizedMember = sys::NAGA_CHECK_DISALIGNMENT_UNSIZED_MEMBER => "A struct member is not statically sized",
         /// Hosts can't share values of the type (WGSL "Host-shareable Types").
         NonHostShareable = sys::NAGA_CHECK_DISALIGNMENT_NON_HOST_SHAREABLE => "The type is not host-shareable",
+    }
+}
+
+/// What images are called in an error.
+fn images(arrayed: bool) -> &'static str {
+    if arrayed {
+        "Arrayed images"
+    } else {
+        "Images"
+    }
+}
+
+/// The name of scalars that need a capability.
+fn name_of(scalar: Scalar) -> &'static str {
+    match scalar {
+        Scalar::F64 => "f64",
+        Scalar::F16 => "f16",
+        Scalar::I64 => "i64",
+        Scalar::I16 => "i16",
+        Scalar::U64 => "u64",
+        Scalar::U16 => "u16",
+        _ => "scalar",
+    }
+}
+
+/// The name of a capability that scalars need.
+fn flag_of(capability: Capabilities) -> &'static str {
+    match capability {
+        Capabilities::FLOAT64 => "FLOAT64",
+        Capabilities::SHADER_FLOAT16 => "SHADER_FLOAT16",
+        Capabilities::SHADER_INT64 => "SHADER_INT64",
+        Capabilities::SHADER_INT16 => "SHADER_INT16",
+        _ => "capability",
+    }
+}
+
+impl Disalignment {
+    /// Why there is no layout, by the number of the error.
+    pub(crate) fn of_number(number: u32) -> Option<Disalignment> {
+        Disalignment::tell(&mut Told::of_number(&number))
     }
 }

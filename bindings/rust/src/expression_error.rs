@@ -1,7 +1,13 @@
 //! Why an expression of a function is refused.
 
-use crate::errors::{errors, ComposeError, IndexableLengthError, ResolveError, WidthError};
+use crate::errors::{ComposeError, IndexableLengthError, LiteralError, ResolveError};
+use crate::expressions::{Expression, SwizzleComponent};
+use crate::flags::Capabilities;
+use crate::operands::Handle;
+use crate::operators::{BinaryOperator, MathFunction, UnaryOperator};
 use crate::sys;
+use crate::told::errors;
+use crate::types::{ImageClass, ImageDimension, ScalarKind, StorageAccess, Type, VectorSize};
 
 errors! {
     /// Why an expression of a function or an entry point is refused.
@@ -10,46 +16,59 @@ errors! {
         NotInScope = sys::NAGA_CHECK_EXPRESSION_ERROR_NOT_IN_SCOPE
             => "Used by a statement before it was introduced into the scope by any of the dominating blocks",
         /// The base of an access has no parts.
-        InvalidBaseType = sys::NAGA_CHECK_EXPRESSION_ERROR_INVALID_BASE_TYPE
-            => "Base type is not compatible with this expression",
+        InvalidBaseType(operand: Handle<Expression>) = sys::NAGA_CHECK_EXPRESSION_ERROR_INVALID_BASE_TYPE
+            => "Base type {operand:?} is not compatible with this expression",
         /// The index of an access is not an integer, or is a constant of another width than 16 or 32 bits.
-        InvalidIndexType = sys::NAGA_CHECK_EXPRESSION_ERROR_INVALID_INDEX_TYPE
-            => "Accessing with this index can't be done",
+        InvalidIndexType(operand: Handle<Expression>) = sys::NAGA_CHECK_EXPRESSION_ERROR_INVALID_INDEX_TYPE
+            => "Accessing with index {operand:?} can't be done",
         /// A base is accessed at a constant index below 0.
-        NegativeIndex = sys::NAGA_CHECK_EXPRESSION_ERROR_NEGATIVE_INDEX => "Accessing via a negative index is invalid",
+        NegativeIndex(operand: Handle<Expression>) = sys::NAGA_CHECK_EXPRESSION_ERROR_NEGATIVE_INDEX
+            => "Accessing {operand:?} via a negative index is invalid",
         /// A base is accessed at an index past its last part.
-        IndexOutOfBounds = sys::NAGA_CHECK_EXPRESSION_ERROR_INDEX_OUT_OF_BOUNDS => "Accessing index is out of bounds",
+        IndexOutOfBounds(base: Handle<Expression>, index: u32) = sys::NAGA_CHECK_EXPRESSION_ERROR_INDEX_OUT_OF_BOUNDS
+            => "Accessing index {index} is out of {base:?} bounds",
         /// The function has no argument of this index.
-        FunctionArgumentDoesntExist = sys::NAGA_CHECK_EXPRESSION_ERROR_FUNCTION_ARGUMENT_DOESNT_EXIST
-            => "Function argument doesn't exist",
+        FunctionArgumentDoesntExist(index: u32) = sys::NAGA_CHECK_EXPRESSION_ERROR_FUNCTION_ARGUMENT_DOESNT_EXIST
+            => "Function argument {index} doesn't exist",
         /// A value is loaded through something that is neither a pointer to data of a fixed size nor a value pointer,
         /// or a cooperative matrix through something that is not a pointer to scalars or vectors.
-        InvalidPointerType = sys::NAGA_CHECK_EXPRESSION_ERROR_INVALID_POINTER_TYPE => "Loading can't be done",
+        InvalidPointerType(operand: Handle<Expression>) = sys::NAGA_CHECK_EXPRESSION_ERROR_INVALID_POINTER_TYPE
+            => "Loading of {operand:?} can't be done",
         /// The length is taken of something that is not a pointer to a runtime-sized array.
-        InvalidArrayType = sys::NAGA_CHECK_EXPRESSION_ERROR_INVALID_ARRAY_TYPE => "Array length can't be done",
+        InvalidArrayType(operand: Handle<Expression>) = sys::NAGA_CHECK_EXPRESSION_ERROR_INVALID_ARRAY_TYPE
+            => "Array length of {operand:?} can't be done",
         /// A hit is read from something that is not a pointer to a ray query of the function.
-        InvalidRayQueryType = sys::NAGA_CHECK_EXPRESSION_ERROR_INVALID_RAY_QUERY_TYPE
-            => "Get intersection can't be done",
+        InvalidRayQueryType(operand: Handle<Expression>) = sys::NAGA_CHECK_EXPRESSION_ERROR_INVALID_RAY_QUERY_TYPE
+            => "Get intersection of {operand:?} can't be done",
         /// The operand of a splat is not a scalar.
-        InvalidSplatType = sys::NAGA_CHECK_EXPRESSION_ERROR_INVALID_SPLAT_TYPE => "Splatting can't be done",
+        InvalidSplatType(operand: Handle<Expression>) = sys::NAGA_CHECK_EXPRESSION_ERROR_INVALID_SPLAT_TYPE
+            => "Splatting {operand:?} can't be done",
         /// The operand of a swizzle is not a vector.
-        InvalidVectorType = sys::NAGA_CHECK_EXPRESSION_ERROR_INVALID_VECTOR_TYPE => "Swizzling can't be done",
+        InvalidVectorType(operand: Handle<Expression>) = sys::NAGA_CHECK_EXPRESSION_ERROR_INVALID_VECTOR_TYPE
+            => "Swizzling {operand:?} can't be done",
         /// A vector of this size has no such component.
-        InvalidSwizzleComponent = sys::NAGA_CHECK_EXPRESSION_ERROR_INVALID_SWIZZLE_COMPONENT
-            => "Swizzle component is outside of vector size",
+        InvalidSwizzleComponent(component: SwizzleComponent, size: VectorSize) = sys::NAGA_CHECK_EXPRESSION_ERROR_INVALID_SWIZZLE_COMPONENT
+            => "Swizzle component {component:?} is outside of vector size {size:?}",
         /// A value can't be composed of its components.
         Compose(cause: ComposeError) = sys::NAGA_CHECK_EXPRESSION_ERROR_COMPOSE => "{cause}",
         /// A type without a zero.
-        InvalidZeroValue = sys::NAGA_CHECK_EXPRESSION_ERROR_INVALID_ZERO_VALUE
-            => "Cannot construct zero value of a type because it is not a constructible type",
+        InvalidZeroValue(ty: Handle<Type>) = sys::NAGA_CHECK_EXPRESSION_ERROR_INVALID_ZERO_VALUE
+            => "Cannot construct zero value of {ty:?} because it is not a constructible type",
         /// The base of an access at a constant index has no length.
         IndexableLength(cause: IndexableLengthError) = sys::NAGA_CHECK_EXPRESSION_ERROR_INDEXABLE_LENGTH => "{cause}",
         /// The operator takes no such operand.
-        InvalidUnaryOperandType = sys::NAGA_CHECK_EXPRESSION_ERROR_INVALID_UNARY_OPERAND_TYPE
-            => "Operation can't work with its operand",
+        InvalidUnaryOperandType(op: UnaryOperator, operand: Handle<Expression>) = sys::NAGA_CHECK_EXPRESSION_ERROR_INVALID_UNARY_OPERAND_TYPE
+            => "Operation {op:?} can't work with {operand:?}",
         /// The operator takes no such pair of operands.
-        InvalidBinaryOperandTypes = sys::NAGA_CHECK_EXPRESSION_ERROR_INVALID_BINARY_OPERAND_TYPES
-            => "Operation can't work with its operands",
+        InvalidBinaryOperandTypes {
+            /// The operator.
+            op: BinaryOperator,
+            /// The left operand.
+            lhs_expr: Handle<Expression>,
+            /// The right operand.
+            rhs_expr: Handle<Expression>,
+        } = sys::NAGA_CHECK_EXPRESSION_ERROR_INVALID_BINARY_OPERAND_TYPES
+            => "Operation {op:?} can't work with {lhs_expr:?} and {rhs_expr:?}",
         /// The two values of a selection have different types.
         SelectValuesTypeMismatch = sys::NAGA_CHECK_EXPRESSION_ERROR_SELECT_VALUES_TYPE_MISMATCH
             => "Expected selection argument types to match, but reject value's type does not match accept value's",
@@ -58,33 +77,37 @@ errors! {
         SelectConditionNotABool = sys::NAGA_CHECK_EXPRESSION_ERROR_SELECT_CONDITION_NOT_A_BOOL
             => "Expected selection condition to be a boolean value",
         /// The argument of `All` or `Any` is not a vector of bools.
-        InvalidBooleanVector = sys::NAGA_CHECK_EXPRESSION_ERROR_INVALID_BOOLEAN_VECTOR
-            => "Relational argument is not a boolean vector",
+        InvalidBooleanVector(operand: Handle<Expression>) = sys::NAGA_CHECK_EXPRESSION_ERROR_INVALID_BOOLEAN_VECTOR
+            => "Relational argument {operand:?} is not a boolean vector",
         /// The argument of `IsNan` or `IsInf` is neither a floating-point number nor a vector of such.
-        InvalidFloatArgument = sys::NAGA_CHECK_EXPRESSION_ERROR_INVALID_FLOAT_ARGUMENT
-            => "Relational argument is not a float",
+        InvalidFloatArgument(operand: Handle<Expression>) = sys::NAGA_CHECK_EXPRESSION_ERROR_INVALID_FLOAT_ARGUMENT
+            => "Relational argument {operand:?} is not a float",
         /// An expression has no type.
-        Type(cause: ResolveError) = sys::NAGA_CHECK_EXPRESSION_ERROR_TYPE => "Type resolution failed",
+        Type(source: ResolveError) = sys::NAGA_CHECK_EXPRESSION_ERROR_TYPE
+            => "Type resolution failed",
         /// An image or a sampler is neither a variable of the module nor an argument nor an element of such a variable.
         ExpectedGlobalVariable = sys::NAGA_CHECK_EXPRESSION_ERROR_EXPECTED_GLOBAL_VARIABLE => "Not a global variable",
         /// Never returned: `ExpectedGlobalVariable` is.
         ExpectedGlobalOrArgument = sys::NAGA_CHECK_EXPRESSION_ERROR_EXPECTED_GLOBAL_OR_ARGUMENT
             => "Not a global variable or a function argument",
         /// An element is taken of a variable that is not a binding array.
-        ExpectedBindingArrayType = sys::NAGA_CHECK_EXPRESSION_ERROR_EXPECTED_BINDING_ARRAY_TYPE
-            => "Needs to be an binding array",
+        ExpectedBindingArrayType(ty: Handle<Type>) = sys::NAGA_CHECK_EXPRESSION_ERROR_EXPECTED_BINDING_ARRAY_TYPE
+            => "Needs to be an binding array instead of {ty:?}",
         /// Something else stands in place of an image.
-        ExpectedImageType = sys::NAGA_CHECK_EXPRESSION_ERROR_EXPECTED_IMAGE_TYPE => "Needs to be an image",
+        ExpectedImageType(ty: Handle<Type>) = sys::NAGA_CHECK_EXPRESSION_ERROR_EXPECTED_IMAGE_TYPE
+            => "Needs to be an image instead of {ty:?}",
         /// Something else stands in place of a sampler.
-        ExpectedSamplerType = sys::NAGA_CHECK_EXPRESSION_ERROR_EXPECTED_SAMPLER_TYPE => "Needs to be an image",
+        ExpectedSamplerType(ty: Handle<Type>) = sys::NAGA_CHECK_EXPRESSION_ERROR_EXPECTED_SAMPLER_TYPE
+            => "Needs to be an image instead of {ty:?}",
         /// Images of this class can't be used so.
-        InvalidImageClass = sys::NAGA_CHECK_EXPRESSION_ERROR_INVALID_IMAGE_CLASS => "Unable to operate on image class",
+        InvalidImageClass(class: ImageClass) = sys::NAGA_CHECK_EXPRESSION_ERROR_INVALID_IMAGE_CLASS
+            => "Unable to operate on image class {class:?}",
         /// Never returned: image atomics are not checked here.
-        InvalidImageFormat = sys::NAGA_CHECK_EXPRESSION_ERROR_INVALID_IMAGE_FORMAT
-            => "Image atomics are not supported for storage format",
+        InvalidImageFormat(format: u32) = sys::NAGA_CHECK_EXPRESSION_ERROR_INVALID_IMAGE_FORMAT
+            => "Image atomics are not supported for storage format {format}",
         /// Never returned: image atomics are not checked here.
-        InvalidImageStorageAccess = sys::NAGA_CHECK_EXPRESSION_ERROR_INVALID_IMAGE_STORAGE_ACCESS
-            => "Image atomics require atomic storage access",
+        InvalidImageStorageAccess(access: StorageAccess) = sys::NAGA_CHECK_EXPRESSION_ERROR_INVALID_IMAGE_STORAGE_ACCESS
+            => "Image atomics require atomic storage access, {access:?} is insufficient",
         /// A derivative is taken of something that is not a floating-point number of at least 32 bits, nor a vector of
         /// such.
         InvalidDerivative = sys::NAGA_CHECK_EXPRESSION_ERROR_INVALID_DERIVATIVE
@@ -106,50 +129,57 @@ errors! {
             => "Cannot textureLoad from a mipmapped image without specifying a level.",
         /// The index of an array layer is not an integer, for a load not an integer of 32 bits; or the level of a load
         /// is not an integer.
-        InvalidImageArrayIndexType = sys::NAGA_CHECK_EXPRESSION_ERROR_INVALID_IMAGE_ARRAY_INDEX_TYPE
-            => "Image array index type is not an integer scalar",
+        InvalidImageArrayIndexType(operand: Handle<Expression>) = sys::NAGA_CHECK_EXPRESSION_ERROR_INVALID_IMAGE_ARRAY_INDEX_TYPE
+            => "Image array index type of {operand:?} is not an integer scalar",
         /// The index of a sample or a level is not an integer of 32 bits.
-        InvalidImageOtherIndexType = sys::NAGA_CHECK_EXPRESSION_ERROR_INVALID_IMAGE_OTHER_INDEX_TYPE
-            => "Image sample or level-of-detail index's type is not an integer scalar",
+        InvalidImageOtherIndexType(operand: Handle<Expression>) = sys::NAGA_CHECK_EXPRESSION_ERROR_INVALID_IMAGE_OTHER_INDEX_TYPE
+            => "Image sample or level-of-detail index's type of {operand:?} is not an integer scalar",
         /// The coordinates don't fit an image of this dimension.
-        InvalidImageCoordinateType = sys::NAGA_CHECK_EXPRESSION_ERROR_INVALID_IMAGE_COORDINATE_TYPE
-            => "Image coordinate type does not match the dimension",
+        InvalidImageCoordinateType(dim: ImageDimension, operand: Handle<Expression>) = sys::NAGA_CHECK_EXPRESSION_ERROR_INVALID_IMAGE_COORDINATE_TYPE
+            => "Image coordinate type of {operand:?} does not match dimension {dim:?}",
         /// A reference is given to a sampler that doesn't compare, or none to one that does; or a sampler compares, and
         /// the image holds no depths.
-        ComparisonSamplingMismatch = sys::NAGA_CHECK_EXPRESSION_ERROR_COMPARISON_SAMPLING_MISMATCH
-            => "Comparison sampling mismatch of image, sampler and reference",
+        ComparisonSamplingMismatch {
+            /// The class of the image.
+            image: ImageClass,
+            /// Whether the sampler compares.
+            sampler: bool,
+            /// Whether there is a reference.
+            has_ref: bool,
+        } = sys::NAGA_CHECK_EXPRESSION_ERROR_COMPARISON_SAMPLING_MISMATCH
+            => "Comparison sampling mismatch: image has class {image:?}, but the sampler is comparison={sampler}, and the reference was provided={has_ref}",
         /// The offset of a sample is not known when the shader is compiled.
         InvalidSampleOffsetExprType = sys::NAGA_CHECK_EXPRESSION_ERROR_INVALID_SAMPLE_OFFSET_EXPR_TYPE
             => "Sample offset must be a const-expression",
         /// The offset doesn't fit an image of this dimension.
-        InvalidSampleOffset = sys::NAGA_CHECK_EXPRESSION_ERROR_INVALID_SAMPLE_OFFSET
-            => "Sample offset doesn't match the image dimension",
+        InvalidSampleOffset(dim: ImageDimension, operand: Handle<Expression>) = sys::NAGA_CHECK_EXPRESSION_ERROR_INVALID_SAMPLE_OFFSET
+            => "Sample offset constant {operand:?} doesn't match the image dimension {dim:?}",
         /// What depths are compared with is not a floating-point number.
-        InvalidDepthReference = sys::NAGA_CHECK_EXPRESSION_ERROR_INVALID_DEPTH_REFERENCE
-            => "Depth reference is not a scalar float",
+        InvalidDepthReference(operand: Handle<Expression>) = sys::NAGA_CHECK_EXPRESSION_ERROR_INVALID_DEPTH_REFERENCE
+            => "Depth reference {operand:?} is not a scalar float",
         /// Depths are compared at another level than `Auto` or `Zero`.
         InvalidDepthSampleLevel = sys::NAGA_CHECK_EXPRESSION_ERROR_INVALID_DEPTH_SAMPLE_LEVEL
             => "Depth sample level can only be Auto or Zero",
         /// Texels are gathered at another level than `Zero`.
         InvalidGatherLevel = sys::NAGA_CHECK_EXPRESSION_ERROR_INVALID_GATHER_LEVEL => "Gather level can only be Zero",
         /// The image has no such component to gather.
-        InvalidGatherComponent = sys::NAGA_CHECK_EXPRESSION_ERROR_INVALID_GATHER_COMPONENT
-            => "Gather component doesn't exist in the image",
+        InvalidGatherComponent(component: SwizzleComponent) = sys::NAGA_CHECK_EXPRESSION_ERROR_INVALID_GATHER_COMPONENT
+            => "Gather component {component:?} doesn't exist in the image",
         /// Texels can't be gathered of an image of this dimension.
-        InvalidGatherDimension = sys::NAGA_CHECK_EXPRESSION_ERROR_INVALID_GATHER_DIMENSION
-            => "Gather can't be done for image dimension",
+        InvalidGatherDimension(dim: ImageDimension) = sys::NAGA_CHECK_EXPRESSION_ERROR_INVALID_GATHER_DIMENSION
+            => "Gather can't be done for image dimension {dim:?}",
         /// The number of a level is not an integer for a depth image, or not a floating-point number for another.
-        InvalidSampleLevelExactType = sys::NAGA_CHECK_EXPRESSION_ERROR_INVALID_SAMPLE_LEVEL_EXACT_TYPE
-            => "Sample level (exact) type has an invalid type",
+        InvalidSampleLevelExactType(operand: Handle<Expression>) = sys::NAGA_CHECK_EXPRESSION_ERROR_INVALID_SAMPLE_LEVEL_EXACT_TYPE
+            => "Sample level (exact) type {operand:?} has an invalid type",
         /// The bias of a level is not a floating-point number.
-        InvalidSampleLevelBiasType = sys::NAGA_CHECK_EXPRESSION_ERROR_INVALID_SAMPLE_LEVEL_BIAS_TYPE
-            => "Sample level (bias) type is not a scalar float",
+        InvalidSampleLevelBiasType(operand: Handle<Expression>) = sys::NAGA_CHECK_EXPRESSION_ERROR_INVALID_SAMPLE_LEVEL_BIAS_TYPE
+            => "Sample level (bias) type {operand:?} is not a scalar float",
         /// Images of this dimension have no bias.
-        InvalidSampleLevelBiasDimension = sys::NAGA_CHECK_EXPRESSION_ERROR_INVALID_SAMPLE_LEVEL_BIAS_DIMENSION
-            => "Bias can't be done for image dimension",
+        InvalidSampleLevelBiasDimension(dim: ImageDimension) = sys::NAGA_CHECK_EXPRESSION_ERROR_INVALID_SAMPLE_LEVEL_BIAS_DIMENSION
+            => "Bias can't be done for image dimension {dim:?}",
         /// A derivative doesn't fit the coordinates of an image of this dimension.
-        InvalidSampleLevelGradientType = sys::NAGA_CHECK_EXPRESSION_ERROR_INVALID_SAMPLE_LEVEL_GRADIENT_TYPE
-            => "Sample level (gradient) doesn't match the image dimension",
+        InvalidSampleLevelGradientType(dim: ImageDimension, operand: Handle<Expression>) = sys::NAGA_CHECK_EXPRESSION_ERROR_INVALID_SAMPLE_LEVEL_GRADIENT_TYPE
+            => "Sample level (gradient) of {operand:?} doesn't match the image dimension {dim:?}",
         /// Coordinates can't be clamped to the edges together with this.
         InvalidSampleClampCoordinateToEdge = sys::NAGA_CHECK_EXPRESSION_ERROR_INVALID_SAMPLE_CLAMP_COORDINATE_TO_EDGE
             => "Clamping sample coordinate to edge is not supported",
@@ -157,27 +187,32 @@ errors! {
         /// convert to.
         InvalidCastArgument = sys::NAGA_CHECK_EXPRESSION_ERROR_INVALID_CAST_ARGUMENT => "Unable to cast",
         /// A math function has too few arguments, or a gap between them.
-        WrongArgumentCount = sys::NAGA_CHECK_EXPRESSION_ERROR_WRONG_ARGUMENT_COUNT => "Invalid argument count",
+        WrongArgumentCount(function: MathFunction) = sys::NAGA_CHECK_EXPRESSION_ERROR_WRONG_ARGUMENT_COUNT
+            => "Invalid argument count for {function:?}",
         /// The argument of this index has a wrong type.
-        InvalidArgumentType = sys::NAGA_CHECK_EXPRESSION_ERROR_INVALID_ARGUMENT_TYPE
-            => "An argument has an invalid type.",
+        InvalidArgumentType(function: MathFunction, index: u32, argument: Handle<Expression>) = sys::NAGA_CHECK_EXPRESSION_ERROR_INVALID_ARGUMENT_TYPE
+            => "Argument [{index}] to {function:?} as expression {argument:?} has an invalid type.",
         /// A workgroup can't load a value of this type together, which has no fixed size or isn't constructible.
-        InvalidWorkGroupUniformLoadResultType
-            = sys::NAGA_CHECK_EXPRESSION_ERROR_INVALID_WORKGROUP_UNIFORM_LOAD_RESULT_TYPE
-            => "workgroupUniformLoad result type can only be a constructible type.",
+        InvalidWorkGroupUniformLoadResultType(ty: Handle<Type>) = sys::NAGA_CHECK_EXPRESSION_ERROR_INVALID_WORKGROUP_UNIFORM_LOAD_RESULT_TYPE
+            => "workgroupUniformLoad result type can't be {ty:?}. It can only be a constructible type.",
         /// The expression needs capabilities that aren't given.
-        MissingCapabilities = sys::NAGA_CHECK_EXPRESSION_ERROR_MISSING_CAPABILITIES => "Shader requires capabilities",
+        MissingCapabilities(capabilities: Capabilities) = sys::NAGA_CHECK_EXPRESSION_ERROR_MISSING_CAPABILITIES
+            => "Shader requires capability {capabilities:?}",
         /// A literal is refused.
-        Literal(cause: WidthError) = sys::NAGA_CHECK_EXPRESSION_ERROR_LITERAL => "{cause}",
+        Literal(cause: LiteralError) = sys::NAGA_CHECK_EXPRESSION_ERROR_LITERAL
+            => "{cause}",
         /// Never returned: the typing checks the arguments of math functions.
-        UnsupportedWidth = sys::NAGA_CHECK_EXPRESSION_ERROR_UNSUPPORTED_WIDTH
-            => "Arguments of this width are not supported yet, see https://github.com/gfx-rs/wgpu/issues/5276",
+        UnsupportedWidth(function: MathFunction, kind: ScalarKind, width: u8) = sys::NAGA_CHECK_EXPRESSION_ERROR_UNSUPPORTED_WIDTH
+            => "{function:?} is not supported for Width {width} {kind:?} arguments yet, see https://github.com/gfx-rs/wgpu/issues/5276",
         /// An operand of a cooperative multiplication is not a cooperative matrix of its role.
-        InvalidCooperativeOperand = sys::NAGA_CHECK_EXPRESSION_ERROR_INVALID_COOPERATIVE_OPERAND
+        InvalidCooperativeOperand(operand: Handle<Expression>) = sys::NAGA_CHECK_EXPRESSION_ERROR_INVALID_COOPERATIVE_OPERAND
             => "Invalid operand for cooperative op",
         /// An integer is shifted by a constant of at least as many bits as it has, or that has such a component.
-        ShiftAmountTooLarge = sys::NAGA_CHECK_EXPRESSION_ERROR_SHIFT_AMOUNT_TOO_LARGE
-            => "Shift amount exceeds the bit width",
+        ShiftAmountTooLarge {
+            /// By what it is shifted.
+            rhs_expr: Handle<Expression>,
+        } = sys::NAGA_CHECK_EXPRESSION_ERROR_SHIFT_AMOUNT_TOO_LARGE
+            => "Shift amount {rhs_expr:?} exceeds the bit width",
         /// An integer is divided by a constant that is zero, or has a component that is.
         DivideByZero = sys::NAGA_CHECK_EXPRESSION_ERROR_DIVIDE_BY_ZERO => "Division by zero",
     }

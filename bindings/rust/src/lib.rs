@@ -42,6 +42,7 @@ mod raw;
 mod statements;
 #[allow(unsafe_code)]
 pub mod sys;
+mod told;
 mod types;
 mod words;
 
@@ -51,8 +52,8 @@ pub use calls::{
 };
 pub use errors::{
     ComposeError, ConstExpressionError, ConstantError, Disalignment, Error, HandleError,
-    IndexableLengthError, LayoutError, ModuleError, OverrideError, Refusal, ResolveError,
-    TypeError, VaryingError, WidthError,
+    IndexableLengthError, LayoutError, LiteralError, ModuleError, OverrideError, Refusal,
+    ResolveError, TypeError, VaryingError, WidthError,
 };
 pub use expression_error::ExpressionError;
 pub use expressions::{Expression, ImageQuery, Literal, SampleLevel, SwizzleComponent};
@@ -67,6 +68,7 @@ pub use options::{Options, Settings};
 pub use statements::{
     AtomicFunction, Block, GatherMode, RayQueryFunction, Statement, SubgroupOperation, SwitchCase,
 };
+pub use told::ItemKind;
 pub use types::{
     AddressSpace, ArraySize, Binding, CooperativeRole, CooperativeSize, ImageClass, ImageDimension,
     Scalar, ScalarKind, StorageAccess, StructMember, Type, TypeInner, VectorSize,

@@ -240,7 +240,7 @@ pub struct StorageAccess {
 
 impl StorageAccess {
     /// The sum of the accesses.
-    fn word(self) -> u32 {
+    pub(crate) fn word(self) -> u32 {
         let load = u32::from(self.load) * sys::NAGA_CHECK_ACCESS_LOAD;
         let store = u32::from(self.store) * sys::NAGA_CHECK_ACCESS_STORE;
         let atomic = u32::from(self.atomic) * sys::NAGA_CHECK_ACCESS_ATOMIC;

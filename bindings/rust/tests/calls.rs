@@ -7,6 +7,12 @@ use std::num::NonZeroU32;
 /// What calls use for a null pointer.
 const DEFAULT: Options = Options::new();
 
+/// Why numbers of 16 bits are refused where no capability allows them.
+const NEEDS_F16: WidthError = WidthError::MissingCapability {
+    name: Scalar::F16,
+    flag: Capabilities::SHADER_FLOAT16,
+};
+
 /// A module with one type, and the handle of it.
 fn module_of(inner: TypeInner) -> (Vec<u32>, Handle<Type>) {
     let mut words = Words::new();
@@ -63,7 +69,7 @@ fn words_that_can_t_be_read() {
 #[test]
 fn a_refusal_says_which_item_and_why() {
     let (words, ty) = module_of(TypeInner::Scalar(Scalar::F16));
-    let error = TypeError::WidthError(WidthError::MissingCapability);
+    let error = TypeError::WidthError(NEEDS_F16);
     let refused = Error::Refused(Refusal::Type { ty, error });
     assert_eq!(check_words(&words, &DEFAULT), Err(refused));
     assert_eq!(leaves(&words, &DEFAULT, &[ty], 0).unwrap_err(), refused);
@@ -77,7 +83,7 @@ fn a_refusal_says_which_item_and_why() {
     let rule = refusal.source().expect("a rule is broken");
     assert_eq!(
         rule.to_string(),
-        "Using values of the type requires a flag of `Capabilities`"
+        "Using `f16` values requires the `naga::valid::Capabilities::SHADER_FLOAT16` flag"
     );
 }
 
@@ -210,7 +216,7 @@ fn a_text_is_validated_as_words_are() {
     assert_eq!((infos.len(), infos[1].size), (2, 12));
     let unreadable = Err(Error::Unreadable { at: 2 });
     assert_eq!(check_text(b"# a comment\n?", &DEFAULT), unreadable);
-    let error = TypeError::WidthError(WidthError::MissingCapability);
+    let error = TypeError::WidthError(NEEDS_F16);
     let ty = Handle::new(0);
     let refused = Err(Error::Refused(Refusal::Type { ty, error }));
     assert_eq!(check_text(b"type scalar float 2", &DEFAULT), refused);
@@ -238,7 +244,7 @@ fn settings_that_come_with_a_module_are_refused() {
 #[test]
 fn settings_that_come_with_a_module_never_widen() {
     let f16 = TypeInner::Scalar(Scalar::F16);
-    let error = TypeError::WidthError(WidthError::MissingCapability);
+    let error = TypeError::WidthError(NEEDS_F16);
     let ty = Handle::new(0);
     let refused = Err(Error::Refused(Refusal::Type { ty, error }));
     let narrow = DEFAULT.settings(Settings::Narrow);
@@ -356,4 +362,94 @@ fn flags_without_a_name_are_no_options() {
 fn values_that_hosts_may_not_share_have_no_slots() {
     let (words, ty) = module_of(TypeInner::Scalar(Scalar::BOOL));
     assert_eq!(slots(&words, &DEFAULT, ty, 0), Err(Error::NotShareable));
+}
+
+/// What is broken in a module, by its texts: of the rule, and of the rules within it.
+fn rules_of(words: Words) -> Vec<String> {
+    let refused = check_functions(&words.finish().unwrap(), &DEFAULT).unwrap_err();
+    let mut rules = Vec::new();
+    let mut rule = refused.error.source();
+    while let Some(error) = rule {
+        rules.push(error.to_string());
+        rule = error.source();
+    }
+    rules
+}
+
+#[test]
+fn a_stride_is_told_with_what_was_expected() {
+    let mut words = Words::new();
+    let base = words.add_type(TypeInner::Vector {
+        size: VectorSize::Tri,
+        scalar: Scalar::F32,
+    });
+    let size = ArraySize::Constant(NonZeroU32::MIN);
+    let stride = 8;
+    words.add_type(TypeInner::Array { base, size, stride });
+    let array = "Array stride 8 does not match the expected 12";
+    assert_eq!(rules_of(words), ["Type [1] is invalid", array]);
+}
+
+#[test]
+fn a_handle_is_told_with_its_kind() {
+    let mut words = Words::new();
+    words.add_type(TypeInner::Atomic(Scalar::U32));
+    words.add_type(TypeInner::Pointer {
+        base: Handle::new(7),
+        space: AddressSpace::Private,
+    });
+    let handle = "Handle 7 of Type is either not present, or inaccessible yet";
+    assert_eq!(
+        rules_of(words),
+        ["Handle or range [7] of Type is invalid", handle]
+    );
+}
+
+#[test]
+fn a_dependency_is_told_with_what_depends_on_it() {
+    let mut words = Words::new();
+    words.add_type(TypeInner::Pointer {
+        base: Handle::new(1),
+        space: AddressSpace::Private,
+    });
+    words.add_type(TypeInner::Scalar(Scalar::U32));
+    let refused = check_words(&words.finish().unwrap(), &DEFAULT).unwrap_err();
+    let error = HandleError::ForwardDependency {
+        kind: ItemKind::Type,
+        subject: 0,
+        depends_on: 1,
+    };
+    let kind = ItemKind::Type;
+    let index = 0;
+    assert_eq!(
+        refused,
+        Error::Refused(Refusal::Handle { kind, index, error })
+    );
+}
+
+#[test]
+fn a_literal_is_told_with_its_width() {
+    let mut words = Words::new();
+    words.add_global_expression(&Expression::Literal(Literal::F64(0)));
+    let width = "Using `f64` values requires the `naga::valid::Capabilities::FLOAT64` flag";
+    assert_eq!(
+        rules_of(words),
+        ["Constant expression [0] is invalid", width]
+    );
+}
+
+#[test]
+fn an_operation_is_told_with_its_operands() {
+    let mut words = Words::new();
+    let mut function = Function::default();
+    let left = function.add_expression(Expression::Literal(Literal::U32(1)));
+    let right = function.add_expression(Expression::Literal(Literal::Bool(true)));
+    let op = BinaryOperator::Add;
+    function.add_expression(Expression::Binary { op, left, right });
+    words.add_function(&function);
+    let operands = "Operation Add can't work with [0] and [1]";
+    assert_eq!(
+        rules_of(words),
+        ["Expression [2] of function [0] is invalid", operands]
+    );
 }
