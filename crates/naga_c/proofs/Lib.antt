@@ -1,7 +1,9 @@
 pub mod CallLaws
+pub mod CountLaws
 pub mod CursorLaws
 pub mod Fronts
 pub mod LeafLaws
 pub mod RowLaws
 pub mod SlotLaws
 pub mod StageLaws
+pub mod SubjectLaws

@@ -1,5 +1,5 @@
 -- What hosts say of how their modules are validated, and of what calls may take.
-use Rattle.std.specs.Prelude.{◌≡◌, ◌==◌, ◌≤◌, ◌+◌, ◌/◌, ◌⊎◌, ℕ, Bool, false, List, [], ◌∷◌, Option, None, Some, bit_and, bit_or, drop, filter, length, suc, ◌||◌}
+use Rattle.std.specs.Prelude.{◌≡◌, ◌==◌, ◌≤◌, ◌+◌, ◌/◌, ◌⊎◌, ℕ, Bool, false, List, [], ◌∷◌, Option, None, Some, bit_and, bit_or, drop, filter, length, suc, zero, ◌||◌}
 use Rattle.naga_flags.specs.Bits.{all_capabilities, all_validation_flags}
 use Rattle.naga_flags.specs.declared.flags.Capabilities.{Capabilities}
 use Rattle.naga_flags.specs.declared.flags.ValidationFlags.{ValidationFlags}
@@ -18,7 +18,7 @@ pub record AreKnown (options : Options) : Type 0 where
 
 -- of words as many items as `n` heads follow one another, each so many words after the one before as that says
 abbrev pub items_within : ℕ → List ℕ → ℕ
-items_within 0 words = 0
+items_within zero words = 0
 items_within (suc n) [] = 0
 items_within (suc n) (head ∷ rest) = 1 + items_within n (drop (head / 256) rest)
 
@@ -27,9 +27,9 @@ abbrev pub item_count : List ℕ → ℕ
 item_count words = items_within (length words) words
 
 -- words are not more than options allow
-pub record AreWithin (options : Options) (words : List ℕ) : Type 0 where
-  pub words : length words ≤ options.most_words
-  pub items : item_count words ≤ options.most_items
+pub record AreWithin (options : Options) (given : List ℕ) : Type 0 where
+  pub words : length given ≤ options.most_words
+  pub items : item_count given ≤ options.most_items
 
 -- how many line ends a text has
 abbrev pub line_ends : List ℕ → ℕ

@@ -1,5 +1,5 @@
 -- What a call has to validate: the module that it reads, and the settings in force.
-use Rattle.std.specs.Prelude.{◌≡◌, ℕ, List, Result, Ok, Err, ⊤, ⊥}
+use Rattle.std.specs.Prelude.{◌≡◌, ℕ, List, Result, Ok, Err, ⊤}
 use Rattle.naga_ir.specs.declared.ir.Module.{Module}
 use Rattle.naga_text.specs.Text.{IsFirstUnreadable as IsFirstUnreadableLine, IsText}
 use Rattle.naga_text.specs.Words.{lines_of}

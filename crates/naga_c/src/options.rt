@@ -3,8 +3,7 @@
 ghost use Rattle.naga_c.specs.Options.{AreKnown};
 ghost use Rattle.std.specs.Prelude.{◌≡◌, ◌↔◌, IsTrue};
 
-use naga_flags::flags::{Capabilities, ValidationFlags};
-use naga_valid::Flags;
+use naga_words::{all_capabilities, all_flags};
 
 /// The size of `Options` in bytes.
 const SIZE: u32 = 48;
@@ -40,10 +39,12 @@ impl Options {
     pub(crate) fn are_known(&self) -> bool
         ensures { IsTrue result ↔ AreKnown self.now }
     {
-        self.size == SIZE
-            && self.flags <= u32::from(ValidationFlags::all().bits())
-            && self.capabilities <= Capabilities::all().bits()
-            && self.resolved <= 1
-            && self.settings <= NARROW
+        if self.size != SIZE || self.resolved > 1 || self.settings > NARROW {
+            return false;
+        }
+        if self.flags > all_flags() {
+            return false;
+        }
+        self.capabilities <= all_capabilities()
     }
 }

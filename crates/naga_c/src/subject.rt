@@ -1,9 +1,9 @@
 //! What a call validates: the module of words or of a text, and the settings in force.
 
-ghost use Rattle.naga_c.specs.Options.{Allow, AreWithin, IsTextWithin, capabilities_of_both, flags_of_both, item_count, line_ends, nothing_said, subject_of};
+ghost use Rattle.naga_c.specs.Options.{Allow, AreKnown, AreWithin, IsTextWithin, capabilities_of_both, flags_of_both, item_count, line_ends, nothing_said, subject_of};
 ghost use Rattle.naga_c.specs.Subjects.{IsSubjectOfText, IsSubjectOfWords, IsTaken};
 ghost use Rattle.naga_c.specs.declared.subject.NoSubject.TheVariants as none;
-ghost use Rattle.std.specs.Prelude.{◌≡◌, ◌↔◌, IsTrue};
+ghost use Rattle.std.specs.Prelude.{◌≡◌, ◌↔◌, ◌<◌, IsTrue, drop};
 
 use crate::options::{NARROW, Options};
 use naga_flags::flags::{Capabilities, ValidationFlags};
@@ -79,6 +79,17 @@ impl From<TextError> for NoSubject {
     }
 }
 
+/// The words after so many of them.
+fn words_after(words: &[u32], count: usize) -> &[u32]
+    ensures { result.now ≡ drop count words.now }
+{
+    if count < words.len() {
+        &words[count..]
+    } else {
+        &[]
+    }
+}
+
 /// How many items words have, by their heads alone: the last may lack operands.
 fn count_items(words: &[u32]) -> usize
     ensures { result ≡ item_count words.now }
@@ -86,12 +97,7 @@ fn count_items(words: &[u32]) -> usize
     let mut left = words;
     let mut count = 0;
     'items: while let Some((head, rest)) = left.split_first() {
-        let operands = (*head / OPCODES) as usize;
-        left = if operands < rest.len() {
-            &rest[operands..]
-        } else {
-            &[]
-        };
+        left = words_after(rest, (*head / OPCODES) as usize);
         count += 1;
     }
     count
@@ -101,7 +107,10 @@ fn count_items(words: &[u32]) -> usize
 fn are_within(options: &Options, words: &[u32]) -> bool
     ensures { IsTrue result ↔ AreWithin options.now words.now }
 {
-    words.len() as u64 <= options.most_words && count_items(words) as u64 <= options.most_items
+    if words.len() as u64 > options.most_words {
+        return false;
+    }
+    count_items(words) as u64 <= options.most_items
 }
 
 /// How many line ends a text has.
@@ -115,8 +124,10 @@ fn count_line_ends(text: &[u8]) -> usize
 fn is_text_within(options: &Options, text: &[u8]) -> bool
     ensures { IsTrue result ↔ IsTextWithin options.now text.now }
 {
-    (text.len() / 4) as u64 <= options.most_words
-        && count_line_ends(text) as u64 <= options.most_items
+    if (text.len() / 4) as u64 > options.most_words {
+        return false;
+    }
+    count_line_ends(text) as u64 <= options.most_items
 }
 
 /// What is validated: what the options say, and what was said.
@@ -146,8 +157,18 @@ fn capabilities_of_both(bits: u64, said: Option<Capabilities>) -> Capabilities
 fn allow(options: &Options, said: &Said) -> bool
     ensures { IsTrue result ↔ Allow options.now said.now }
 {
-    options.settings == NARROW
-        || (said.flags.is_none() && said.capabilities.is_none() && !said.resolved)
+    if options.settings == NARROW {
+        return true;
+    }
+    let Said {
+        flags: None,
+        capabilities: None,
+        resolved: false,
+    } = said
+    else {
+        return false;
+    };
+    true
 }
 
 /// A module with the settings in force, unless settings come with it that the options don't allow.

@@ -1,12 +1,12 @@
 //! The items of a module.
 
-ghost use Rattle.naga_flags.specs.Bits.{all_capabilities, all_validation_flags};
 ghost use Rattle.naga_words.specs.ItemForms.{IsForm};
 ghost use Rattle.naga_words.specs.steps.ItemReaders.{ReadsAfterName, ReadsAfterText, capabilities_of, commented_of, constant_item_of, entry_point_item_of, filter_of, flags_of, function_item_of, global_variable_item_of, id_of, member_comment_of, named_item_of, optional_id_of, override_item_of, plain_item_of, resolved_of, special_types_of};
 ghost use Rattle.naga_words.specs.declared.item.Item.{Item as ItemType};
 ghost use Rattle.naga_words.specs.declared.unread.Unread.TheVariants as unread;
 ghost use Rattle.std.specs.Prelude.{◌≡◌, IfErr, IfOk};
 
+use crate::bits::{all_capabilities, all_flags};
 use crate::expressions::expression;
 use crate::item::{Commented, Item};
 use crate::literals::wide;
@@ -23,20 +23,6 @@ use std::alloc::Global;
 
 /// The first opcode of a global expression: that of its first form.
 const FIRST_EXPRESSION: u8 = 64;
-
-/// The bits of all parts that can be validated.
-fn all_flags() -> u32
-    ensures { result ≡ all_validation_flags }
-{
-    u32::from(ValidationFlags::all().bits())
-}
-
-/// The bits of all capabilities.
-fn all_capabilities() -> u64
-    ensures { result ≡ all_capabilities }
-{
-    Capabilities::all().bits()
-}
 
 /// The parts of a module that are validated, of their bits.
 fn flags(operands: &[u32]) -> Option<Item>

@@ -2,6 +2,7 @@
 #![tactic(auto)]
 
 mod adding;
+mod bits;
 mod blocks;
 mod draft;
 mod expressions;
@@ -18,5 +19,6 @@ mod statements;
 mod types;
 mod unread;
 
+pub use bits::{all_capabilities, all_flags};
 pub use draft::Contents;
 pub use reader::{WordsError, read_words};

@@ -1,7 +1,7 @@
 use Rattle.std.proofs.Common.{◌∙◌}
 use Rattle.bitflags.specs.Sets.{known_from}
-use Rattle.naga_words.proofs.items.all_flags.Goals as goal
+use Rattle.naga_words.proofs.bits.all_capabilities.Goals as goal
 
 pub returns : goal.returns
 unfolding known_from
-returns c = c.from.ensures ∙ c.bits.ensures tt ∙ c.all.ensures tt
+returns c = c.bits.ensures tt ∙ c.all.ensures tt
