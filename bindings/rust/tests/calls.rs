@@ -453,3 +453,66 @@ fn an_operation_is_told_with_its_operands() {
         ["Expression [2] of function [0] is invalid", operands]
     );
 }
+
+/// The text of the rule that the last of some types breaks.
+fn broken_rule(types: &[TypeInner]) -> String {
+    let mut words = Words::new();
+    for ty in types {
+        words.add_type(ty.clone());
+    }
+    rules_of(words).pop().expect("a rule is broken")
+}
+
+#[test]
+fn rules_of_types_are_told_with_what_they_are_about() {
+    let image = |dim, class| TypeInner::Image {
+        dim,
+        arrayed: true,
+        class,
+    };
+    let sampled = ImageClass::Sampled {
+        kind: ScalarKind::Float,
+        multi: false,
+    };
+    assert_eq!(
+        broken_rule(&[image(ImageDimension::D3, sampled)]),
+        "Arrayed images of dimensionality D3 and class Sampled { kind: Float, multi: false } are not supported"
+    );
+    let depth = ImageClass::Depth { multi: false };
+    assert_eq!(
+        broken_rule(&[image(ImageDimension::D3, depth)]),
+        "Arrayed images of dimensionality D3 and class Depth { multi: false } are not supported"
+    );
+    let number = TypeInner::Scalar(Scalar::U32);
+    let unsized_array = TypeInner::Array {
+        base: Handle::new(0),
+        size: ArraySize::Dynamic,
+        stride: 4,
+    };
+    let pointer = TypeInner::Pointer {
+        base: Handle::new(1),
+        space: AddressSpace::Private,
+    };
+    assert_eq!(
+        broken_rule(&[number.clone(), unsized_array, pointer]),
+        "Unsized types like [1] must be in the `Storage` address space, not `Private`"
+    );
+    let members = vec![
+        StructMember::at(0, Handle::new(0)),
+        StructMember::at(2, Handle::new(0)),
+    ];
+    assert_eq!(
+        broken_rule(&[number, TypeInner::Struct { members, span: 8 }]),
+        "Structure member[1] at 2 overlaps the previous member"
+    );
+    assert_eq!(
+        broken_rule(&[TypeInner::RayQuery {
+            vertex_return: false
+        }]),
+        "Capability Capabilities(RAY_QUERY) is required"
+    );
+    assert_eq!(
+        broken_rule(&[TypeInner::Atomic(Scalar::BOOL)]),
+        "The Bool scalar width 1 is not supported for an atomic"
+    );
+}
