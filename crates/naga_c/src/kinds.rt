@@ -8,22 +8,31 @@ use naga_flags::flags::Capabilities;
 use naga_ir::types::{Scalar, ScalarKind};
 use naga_text::words::chosen;
 
+/// Types.
 pub(crate) const TYPE: u32 = 1;
 
+/// Constants.
 pub(crate) const CONSTANT: u32 = 2;
 
+/// Overrides.
 pub(crate) const OVERRIDE: u32 = 3;
 
+/// Variables of the module.
 pub(crate) const GLOBAL_VARIABLE: u32 = 4;
-/// Of a module or of a function.
+
+/// Expressions, of the module or of a function.
 pub(crate) const EXPRESSION: u32 = 5;
 
+/// Variables of a function.
 pub(crate) const LOCAL_VARIABLE: u32 = 6;
 
+/// Functions.
 pub(crate) const FUNCTION: u32 = 7;
 
+/// Filters of diagnostics.
 pub(crate) const DIAGNOSTIC_FILTER_NODE: u32 = 8;
 
+/// Entry points.
 pub(crate) const ENTRY_POINT: u32 = 9;
 
 /// The number of the kind of items that has this name, or 0.

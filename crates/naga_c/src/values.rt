@@ -1,5 +1,5 @@
-//! The values that errors hold, outermost error first: handles as indices, numbers as they are, capabilities as bits, and
-//! the rest by the numbers that words have. Types and texts are left out.
+//! The values that errors hold, outermost error first: handles as indices, numbers as they are, capabilities as bits,
+//! and the rest by the numbers that words have. Types and texts are left out.
 
 ghost use Rattle.naga_c.specs.Values.{compose_error_values, const_expression_error_values, counted, expression_error_values, handle_error_values, literal_error_values, override_error_values, type_error_values, varying_error_values, width_error_values};
 ghost use Rattle.std.specs.Prelude.{◌≡◌, ◌<◌, ℕ, List, [], ◌∷◌};
