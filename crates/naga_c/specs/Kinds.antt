@@ -17,6 +17,7 @@ item_kinds =
     (codes "LocalVariable", 6) ∷
     (codes "Function", 7) ∷
     (codes "DiagnosticFilterNode", 8) ∷
+    (codes "EntryPoint", 9) ∷
     []
 
 -- the number of the kind of items that has this name, or 0

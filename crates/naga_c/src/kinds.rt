@@ -48,6 +48,7 @@ pub(crate) fn item_kind(name: &str) -> u32
         ("LocalVariable", LOCAL_VARIABLE),
         ("Function", FUNCTION),
         ("DiagnosticFilterNode", DIAGNOSTIC_FILTER_NODE),
+        ("EntryPoint", ENTRY_POINT),
     ];
     chosen(&kinds, name.as_bytes()).unwrap_or(0)
 }
