@@ -79,28 +79,29 @@ class Library:
                            ctypes.byref(length))
         return status, bytes(report[:length.value]).decode()
 
-    def infos_of(self, name, given, options):
+    def infos_of(self, name, kind, given, options):
         outcome, infos = self.header.outcome(), (self.header.info * 4096)()
-        status = self.call(name, given, len(given), ctypes.byref(options), infos, len(infos), ctypes.byref(outcome))
+        status = self.call(name, array(kind, given), len(given), ctypes.byref(options), infos, len(infos),
+                           ctypes.byref(outcome))
         return status, outcome, infos[:outcome.types] if status == OK else []
 
     def text(self, module):
-        return self.infos_of("text", array(ctypes.c_uint8, module.text), module.options(self.header))
+        return self.infos_of("text", ctypes.c_uint8, module.text, module.options(self.header))
 
     def words(self, module, capable=False):
-        return self.infos_of("words", array(ctypes.c_uint32, module.words), module.options(self.header, capable))
+        return self.infos_of("words", ctypes.c_uint32, module.words, module.options(self.header, capable))
 
     def functions(self, module):
         outcome, stages = self.header.outcome(), (ctypes.c_uint32 * 4096)()
         given = array(ctypes.c_uint32, module.words)
-        status = self.call("functions", given, len(given), ctypes.byref(module.options(self.header)), stages,
+        status = self.call("functions", given, len(module.words), ctypes.byref(module.options(self.header)), stages,
                            len(stages), ctypes.byref(outcome))
         return status, outcome, stages[:outcome.written]
 
     def leaves(self, module, ty, length):
         counts, leaves = self.header.counts(), (self.header.leaf * MOST_LEAVES)()
         paths, given = (ctypes.c_uint32 * (64 * MOST_LEAVES))(), array(ctypes.c_uint32, module.words)
-        status = self.call("leaves", given, len(given), ctypes.byref(module.options(self.header, True)),
+        status = self.call("leaves", given, len(module.words), ctypes.byref(module.options(self.header, True)),
                            array(ctypes.c_uint32, [ty]), 1, ctypes.c_uint32(length), leaves, len(leaves), paths,
                            len(paths), ctypes.byref(counts))
         found = [(leaf, paths[leaf.path_at:leaf.path_at + leaf.path_length]) for leaf in leaves[:counts.leaves]]
@@ -108,7 +109,7 @@ class Library:
 
     def slots(self, module, ty, offset):
         slots, given = ctypes.c_uint64(), array(ctypes.c_uint32, module.words)
-        status = self.call("slots", given, len(given), ctypes.byref(module.options(self.header, True)),
+        status = self.call("slots", given, len(module.words), ctypes.byref(module.options(self.header, True)),
                            ctypes.c_uint32(ty), ctypes.c_uint32(offset), ctypes.byref(slots))
         return status, slots.value
 
