@@ -1,5 +1,5 @@
 -- What calls write of a module that can't be read, or that is refused.
-use Rattle.std.specs.Prelude.{ℕ, List, [], ◌∷◌, length}
+use Rattle.std.specs.Prelude.{[], ◌∷◌, length}
 use Rattle.naga_ir.specs.declared.ir.Module.{Module}
 use Rattle.naga_valid.specs.State.{Settings}
 use Rattle.naga_valid.specs.declared.error.ValidationError.{ValidationError}

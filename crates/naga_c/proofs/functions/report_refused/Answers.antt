@@ -1,4 +1,4 @@
-use Rattle.std.proofs.Common.{◌≡◌, ◌+◌, arith, length, refl, rules}
+use Rattle.std.proofs.Common.{◌≡◌, ◌+◌, arith, length, refl}
 use Rattle.naga_c.specs.Functions.{before_short, before_written}
 use Rattle.naga_c.proofs.RowLaws.{with_written}
 use Rattle.naga_c.proofs.functions.report_refused.Goals as goal
