@@ -31,7 +31,7 @@ FLAGS = {"ValidationFlags": "VALIDATE", "Capabilities": "CAPABILITY", "TypeFlags
 SETTINGS = ("VALIDATE", "CAPABILITY")
 RENAMED = {"D1": "1D", "D2": "2D", "D3": "3D"}
 # What no value of the crate stands for.
-UNUSED = {"NAGA_CHECK_ABI_VERSION", "NAGA_CHECK_STAGE_NONE"}
+UNUSED = {"NAGA_CHECK_STAGE_NONE"}
 
 differences = []
 

@@ -18,6 +18,22 @@
 //! ```
 //!
 //! Nothing is kept between calls, and any number of threads may call at once.
+//!
+//! # The library
+//!
+//! The crate links `libnaga_check.a`, which has to have the same version of the C interface. That is compared when the
+//! crate is built, with what the package of the library says, and again by the first call, which panics if another
+//! library was linked. Without the library the crate can be checked and documented, and not linked.
+//!
+//! # What may grow
+//!
+//! A later version may give more of naga's parts words. So what a module is made of is `#[non_exhaustive]`, except
+//! [`Scalar`], [`VectorSize`], [`SwizzleComponent`] and [`CooperativeRole`], to which nothing can be added. A host still
+//! builds all of it: structs by `new` or `default` and the methods that set a field, or by the fields themselves, which
+//! are public; and all variants of enums as before. It loses literals of these structs, also those with `..`, so a field
+//! that it forgets is `None`; a `match` on one of these enums needs an arm for what is not there yet, and the compiler
+//! doesn't name a variant that a converter forgets. A field that is added to a variant is a change that breaks hosts, and
+//! raises the version of the crate accordingly.
 #![deny(missing_docs)]
 #![forbid(unsafe_op_in_unsafe_fn)]
 #![deny(unsafe_code)]
@@ -36,6 +52,7 @@ mod statements;
 #[allow(unsafe_code)]
 pub mod sys;
 mod types;
+mod version;
 mod words;
 
 pub use calls::{

@@ -7,9 +7,11 @@
 use crate::sys::{
     self, NagaCheckCounts, NagaCheckLeaf, NagaCheckOutcome, NagaCheckStatus, NagaCheckTypeInfo,
 };
+use crate::version;
 
 /// Writes the report on a text, and returns its length.
 pub(crate) fn check_text(text: &[u8], report: &mut [u8]) -> (NagaCheckStatus, usize) {
+    version::require();
     let mut length = 0;
     // SAFETY: the buffers are slices, and `length` is a variable of its own.
     let status = unsafe {
@@ -29,6 +31,7 @@ pub(crate) fn check_words(
     words: &[u32],
     infos: &mut [NagaCheckTypeInfo],
 ) -> (NagaCheckStatus, NagaCheckOutcome) {
+    version::require();
     let mut outcome = NagaCheckOutcome::default();
     // SAFETY: the buffers are slices, and `outcome` is a variable of its own.
     let status = unsafe {
@@ -48,6 +51,7 @@ pub(crate) fn check_functions(
     words: &[u32],
     stages: &mut [u32],
 ) -> (NagaCheckStatus, NagaCheckOutcome) {
+    version::require();
     let mut outcome = NagaCheckOutcome::default();
     // SAFETY: the buffers are slices, and `outcome` is a variable of its own.
     let status = unsafe {
@@ -70,6 +74,7 @@ pub(crate) fn leaves(
     leaves: &mut [NagaCheckLeaf],
     paths: &mut [u32],
 ) -> (NagaCheckStatus, NagaCheckCounts) {
+    version::require();
     let mut counts = NagaCheckCounts::default();
     // SAFETY: the buffers are slices, and `counts` is a variable of its own.
     let status = unsafe {
@@ -91,6 +96,7 @@ pub(crate) fn leaves(
 
 /// Returns the slots of immediate data that a value of a type uses from a byte on.
 pub(crate) fn slots(words: &[u32], ty: u32, offset: u32) -> (NagaCheckStatus, u64) {
+    version::require();
     let mut slots = 0;
     // SAFETY: the words are a slice, and `slots` is a variable of its own.
     let status =

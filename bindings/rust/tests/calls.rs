@@ -137,11 +137,7 @@ fn stages_of_functions_and_entry_points() {
     let mut words = Words::new();
     words.add_function(&function);
     words.add_function(&function);
-    let entry_point = EntryPoint {
-        name: "main".into(),
-        function,
-        ..EntryPoint::default()
-    };
+    let entry_point = EntryPoint::new("main", function);
     assert_eq!(words.add_entry_point(&entry_point), 0);
     let stages = check_functions(&words.finish().unwrap()).unwrap();
     assert_eq!((stages.functions.len(), stages.entry_points.len()), (2, 1));

@@ -25,10 +25,8 @@ fn nested(depth: usize) -> Vec<u32> {
         body = vec![Statement::Block(body)];
     }
     let mut words = Words::new();
-    let function = Function {
-        body,
-        ..Function::default()
-    };
+    let mut function = Function::new();
+    function.body = body;
     words.add_function(&function);
     words.finish().unwrap_or_default()
 }
@@ -59,8 +57,7 @@ fn the_example_of_the_page() {
 fn names_are_bytes_four_in_a_word() {
     let named = |name: &str| {
         let inner = TypeInner::Sampler { comparison: true };
-        let name = Some(name.to_owned());
-        operands_of_type(Type { name, inner })
+        operands_of_type(Type::new(inner).named(name))
     };
     assert_eq!(named(""), [0, 1]);
     assert_eq!(named("abcd"), [4, 0x6463_6261, 1]);
@@ -71,10 +68,7 @@ fn names_are_bytes_four_in_a_word() {
 fn equal_types_are_one() {
     let mut words = Words::new();
     let first = words.add_type(TypeInner::Scalar(Scalar::U32));
-    let named = words.add_type(Type {
-        name: Some("u32".into()),
-        inner: TypeInner::Scalar(Scalar::U32),
-    });
+    let named = words.add_type(Type::new(TypeInner::Scalar(Scalar::U32)).named("u32"));
     assert_ne!(first, named);
     assert_eq!(words.add_type(TypeInner::Scalar(Scalar::U32)), first);
     assert_eq!(words.add_type(TypeInner::Scalar(Scalar::I32)).index(), 2);
@@ -108,11 +102,7 @@ fn parts_of_types() {
     let base = Handle::new(9);
     let scalar = Scalar::F32;
     let space = AddressSpace::Storage {
-        access: StorageAccess {
-            load: true,
-            store: false,
-            atomic: true,
-        },
+        access: StorageAccess::LOAD | StorageAccess::ATOMIC,
     };
     assert_eq!(
         operands_of_type(TypeInner::Pointer { base, space }),
@@ -153,10 +143,9 @@ fn bindings() {
         (Some(location(None)), [2, 5, 0]),
         (Some(location(Some(1))), [3, 5, 1]),
     ] {
-        let members = vec![StructMember {
-            binding,
-            ..StructMember::at(4, Handle::new(0))
-        }];
+        let mut member = StructMember::at(4, Handle::new(0));
+        member.binding = binding;
+        let members = vec![member];
         let words = operands_of_type(TypeInner::Struct { members, span: 8 });
         assert_eq!(words[5..], expected);
     }
@@ -208,15 +197,10 @@ fn blocks_end_where_they_end() {
     };
     let chosen = Statement::Switch {
         selector: Handle::new(0),
-        cases: vec![SwitchCase {
-            body: vec![looped],
-            fall_through: true,
-        }],
+        cases: vec![SwitchCase::new(vec![looped]).falling_through()],
     };
-    let function = Function {
-        body: vec![chosen, Statement::Kill],
-        ..Function::default()
-    };
+    let mut function = Function::new();
+    function.body = vec![chosen, Statement::Kill];
     words.add_function(&function);
     let heads = [
         vec![1 << 8 | 196, 0],
