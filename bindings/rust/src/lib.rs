@@ -28,12 +28,13 @@
 //! # What may grow
 //!
 //! A later version may give more of naga's parts words. So what a module is made of is `#[non_exhaustive]`, except
-//! [`Scalar`], [`VectorSize`], [`SwizzleComponent`] and [`CooperativeRole`], to which nothing can be added. A host still
-//! builds all of it: structs by `new` or `default` and the methods that set a field, or by the fields themselves, which
-//! are public; and all variants of enums as before. It loses literals of these structs, also those with `..`, so a field
-//! that it forgets is `None`; a `match` on one of these enums needs an arm for what is not there yet, and the compiler
-//! doesn't name a variant that a converter forgets. A field that is added to a variant is a change that breaks hosts, and
-//! raises the version of the crate accordingly.
+//! [`Scalar`], [`VectorSize`], [`SwizzleComponent`] and [`CooperativeRole`], to which nothing can be added. A host
+//! still builds all of it: structs by `new`, `at` or `default`, by the methods that set a field, and by the fields,
+//! which are public; and all variants of enums as they are.
+//!
+//! What a host loses: it can't write such a struct as a literal, so the compiler doesn't name a field that it forgets,
+//! and a `match` on such an enum needs an arm for variants that aren't there yet. A field that is added to a variant
+//! breaks hosts that build the variant, and comes only with a version of the crate that may break hosts.
 #![deny(missing_docs)]
 #![forbid(unsafe_op_in_unsafe_fn)]
 #![deny(unsafe_code)]
