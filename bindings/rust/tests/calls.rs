@@ -37,6 +37,11 @@ fn the_empty_module_is_accepted() {
 #[test]
 fn words_that_can_t_be_read() {
     assert_eq!(check_words(&[3, 3]), Err(Error::Unreadable { at: 1 }));
+    // The head of an item of more operands than it may have, as the header makes it.
+    assert_eq!(
+        check_words(&[u32::MAX, 3]),
+        Err(Error::Unreadable { at: 0 })
+    );
     assert_eq!(
         check_words(&[1 << 8 | 35, u32::MAX, 193]),
         Err(Error::Unreadable { at: 3 })
