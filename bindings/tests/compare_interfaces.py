@@ -33,7 +33,7 @@ FLAGS = {"ValidationFlags": "VALIDATE", "Capabilities": "CAPABILITY", "TypeFlags
 SETTINGS = ("VALIDATE", "CAPABILITY")
 RENAMED = {"D1": "1D", "D2": "2D", "D3": "3D"}
 # What no value of the crate stands for.
-UNUSED = {"NAGA_CHECK_ABI_VERSION", "NAGA_CHECK_STAGE_NONE"}
+UNUSED = {"NAGA_CHECK_STAGE_NONE"}
 
 differences = []
 
@@ -170,7 +170,7 @@ def compare_flags(constants, crate, source):
         values = re.findall(r"const (\w+) = (\w+);", in_rattle.get(name, ""))
         values = {flag: int(value.replace("_", ""), 0) for flag, value in values}
         named = {flag: f"NAGA_CHECK_{prefix}_{flag}" for flag in values}
-        same(f"{name} of the crate", dict(re.findall(r"(\w+) = sys::(\w+),", in_crate.get(name, ""))), named)
+        same(f"{name} of the crate", dict(re.findall(r"(\w+)\s+= sys::(\w+),", in_crate.get(name, ""))), named)
         if prefix in SETTINGS:
             values["ALL"] = sum({value for value in values.values() if value.bit_count() == 1})
         default = re.search(rf"impl Default for {name} \{{.*?{name}\((\w+)\)\n", source, re.DOTALL)

@@ -1,5 +1,6 @@
 /* What the header promises of its structs and macros, checked where it is compiled: as C and as C++, in any version.
- * COUNT is how many operands an item has; a number that no item may have can't be compiled. */
+ * CONSTANT_COUNT and LOCAL_COUNT are how many operands an item of a constant and one of a function have: with a number
+ * that no item may have this can't be compiled. */
 #include <naga_check.h>
 
 #define HOLDS(name, condition) typedef char name[(condition) ? 1 : -1]
@@ -52,14 +53,17 @@ HOLDS(size_of_counts, sizeof(naga_check_counts) == 16);
 IS_AT(naga_check_counts, leaves, 0);
 IS_AT(naga_check_counts, paths, 8);
 
-#ifndef COUNT
-#define COUNT NAGA_CHECK_MOST_OPERANDS
+#ifndef CONSTANT_COUNT
+#define CONSTANT_COUNT NAGA_CHECK_MOST_OPERANDS
+#endif
+#ifndef LOCAL_COUNT
+#define LOCAL_COUNT NAGA_CHECK_MOST_OPERANDS
 #endif
 #define LOAD NAGA_CHECK_EXPRESSION(NAGA_CHECK_FORM_LOAD)
 #define LITERAL NAGA_CHECK_GLOBAL_EXPRESSION(NAGA_CHECK_FORM_LITERAL)
 
 HOLDS(head_of_a_struct, NAGA_CHECK_ITEM(NAGA_CHECK_OP_STRUCT, 14) == 0xE18u);
-HOLDS(longest_item, NAGA_CHECK_ITEM(255, COUNT) == 0xFFFFFFFFu);
+HOLDS(longest_item, NAGA_CHECK_ITEM(255, NAGA_CHECK_MOST_OPERANDS) == 0xFFFFFFFFu);
 HOLDS(same_head, NAGA_CHECK_ITEM_OF(NAGA_CHECK_OP_STRUCT, 14) == 0xE18u);
 HOLDS(no_head, NAGA_CHECK_ITEM_OF(NAGA_CHECK_OP_STRUCT, NAGA_CHECK_MOST_OPERANDS + 1) == NAGA_CHECK_NONE);
 HOLDS(load, LOAD == 128 + 12);
@@ -72,7 +76,7 @@ static const uint32_t words[] = {
     NAGA_CHECK_ITEM(NAGA_CHECK_OP_FLAGS, 1), NAGA_CHECK_VALIDATE_ALL & ~NAGA_CHECK_VALIDATE_CONSTANTS,
     NAGA_CHECK_ITEM(NAGA_CHECK_OP_CAPABILITIES, 2), NAGA_CHECK_LOW(NAGA_CHECK_CAPABILITY_DEFAULT),
     NAGA_CHECK_HIGH(NAGA_CHECK_CAPABILITY_DEFAULT), NAGA_CHECK_ITEM(LITERAL, 3), NAGA_CHECK_LITERAL_U32, 7, 0,
-    NAGA_CHECK_ITEM(LOAD, 1), 0,
+    NAGA_CHECK_ITEM(LOAD, 1), 0, NAGA_CHECK_ITEM(NAGA_CHECK_STATEMENT_CALL, CONSTANT_COUNT),
 };
 
 #ifdef __cplusplus
@@ -82,7 +86,7 @@ static_assert(constants[0] == 0x18Cu && constants[1] == 0x28Cu, "macros are cons
 
 /* Each kind of number of operands that is known at run time only. */
 static uint32_t heads(size_t components, int arguments, unsigned char members, uint32_t flags) {
-  const uint32_t head = NAGA_CHECK_ITEM(LOAD, COUNT);
+  const uint32_t head = NAGA_CHECK_ITEM(LOAD, LOCAL_COUNT);
   uint32_t all = NAGA_CHECK_ITEM_OF(NAGA_CHECK_EXPRESSION(NAGA_CHECK_FORM_COMPOSE), components);
   all ^= NAGA_CHECK_ITEM_OF(NAGA_CHECK_STATEMENT_CALL, arguments);
   all ^= NAGA_CHECK_ITEM_OF(NAGA_CHECK_OP_STRUCT, members);
@@ -92,6 +96,6 @@ static uint32_t heads(size_t components, int arguments, unsigned char members, u
 int main(void) {
   const uint32_t expected = (0x284u ^ 0x3D5u ^ 0x418u) | 1;
   if (heads(2, 3, 4, 0x10) != expected || heads(2, 3, 4, 0) != 0xFFFFFF8Cu) return 1;
-  if (sizeof words != 11 * 4 || NAGA_CHECK_ITEM_OF(LOAD, words[1] << 24) != NAGA_CHECK_NONE) return 1;
+  if (sizeof words != 12 * 4 || NAGA_CHECK_ITEM_OF(LOAD, words[1] << 24) != NAGA_CHECK_NONE) return 1;
   return naga_check_abi_version() == NAGA_CHECK_ABI_VERSION ? 0 : 1;
 }

@@ -4,11 +4,7 @@
 use naga_check::*;
 use std::num::NonZeroU32;
 
-const LOADED: StorageAccess = StorageAccess {
-    load: true,
-    store: true,
-    atomic: false,
-};
+const LOADED: StorageAccess = StorageAccess::LOAD.union(StorageAccess::STORE);
 
 /// The types that the other items name.
 struct Types {
@@ -61,23 +57,9 @@ fn add_first_values(words: &mut Words) -> (Handle<Type>, Values) {
     let u32 = words.add_type(TypeInner::Scalar(Scalar::U32));
     let zero = words.add_global_expression(&Expression::ZeroValue(u32));
     let four = words.add_global_expression(&Expression::Literal(Literal::U32(4)));
-    let four_constant = words.add_constant(&Constant {
-        name: None,
-        ty: u32,
-        init: four,
-    });
-    let one = words.add_override(&Override {
-        name: None,
-        id: Some(7),
-        ty: u32,
-        init: None,
-    });
-    let count = words.add_override(&Override {
-        name: None,
-        id: None,
-        ty: u32,
-        init: Some(four),
-    });
+    let four_constant = words.add_constant(&Constant::new(u32, four));
+    let one = words.add_override(&Override::new(u32).with_id(7));
+    let count = words.add_override(&Override::new(u32).with_init(four));
     let values = Values {
         zero,
         four,
@@ -102,11 +84,7 @@ fn add_numbers(words: &mut Words, scalar: Scalar) {
 
 fn add_images(words: &mut Words) -> [Handle<Type>; 5] {
     let kind = ScalarKind::Float;
-    let access = StorageAccess {
-        load: true,
-        store: true,
-        atomic: true,
-    };
+    let access = LOADED | StorageAccess::ATOMIC;
     [
         (false, ImageClass::Sampled { kind, multi: false }),
         (true, ImageClass::Sampled { kind, multi: false }),
@@ -146,10 +124,7 @@ fn add_pointers(words: &mut Words, f32: Handle<Type>) {
 
 fn add_structs(words: &mut Words, u32: Handle<Type>, dynamic: Handle<Type>) -> [Handle<Type>; 2] {
     let members = vec![StructMember::at(0, u32), StructMember::at(4, u32)];
-    let pair = words.add_type(Type {
-        name: Some("Pair".into()),
-        inner: TypeInner::Struct { members, span: 8 },
-    });
+    let pair = words.add_type(Type::new(TypeInner::Struct { members, span: 8 }).named("Pair"));
     let members = vec![StructMember::at(0, u32), StructMember::at(4, dynamic)];
     [pair, words.add_type(TypeInner::Struct { members, span: 8 })]
 }
@@ -208,17 +183,8 @@ fn add_values(words: &mut Words, types: &Types, first: &Values) -> Handle<Expres
     add_parts(words, wide, size);
     add_operations(words, size, zero, four);
     words.add_global_expression(&Expression::ArrayLength(wide));
-    words.add_constant(&Constant {
-        name: None,
-        ty: types.pair,
-        init: pair,
-    });
-    let late = words.add_override(&Override {
-        name: None,
-        id: None,
-        ty: types.u32,
-        init: Some(size),
-    });
+    words.add_constant(&Constant::new(types.pair, pair));
+    let late = words.add_override(&Override::new(types.u32).with_init(size));
     words.add_global_expression(&Expression::Override(late));
     size
 }
@@ -277,13 +243,9 @@ fn add_operations(
 
 fn add_variables(words: &mut Words, types: &Types, four: Handle<Expression>) -> Variables {
     let mut add = |space, ty, init| {
-        let name = None;
-        words.add_global_variable(&GlobalVariable {
-            name,
-            space,
-            ty,
-            init,
-        })
+        let mut variable = GlobalVariable::new(space, ty);
+        variable.init = init;
+        words.add_global_variable(&variable)
     };
     let access = LOADED;
     Variables {
@@ -297,24 +259,20 @@ fn add_variables(words: &mut Words, types: &Types, four: Handle<Expression>) -> 
     }
 }
 
-fn argument(ty: Handle<Type>) -> FunctionArgument {
-    FunctionArgument {
-        name: None,
-        ty,
-        binding: None,
-    }
-}
-
-fn result(ty: Handle<Type>) -> Option<FunctionResult> {
-    Some(FunctionResult { ty, binding: None })
+/// A function of these arguments that returns a value.
+fn function(arguments: &[Handle<Type>], result: Handle<Type>) -> Function {
+    let mut function = Function::new();
+    function.arguments = arguments
+        .iter()
+        .copied()
+        .map(FunctionArgument::new)
+        .collect();
+    function.result = Some(FunctionResult::new(result));
+    function
 }
 
 fn add_callee(words: &mut Words, u32: Handle<Type>) -> Handle<Function> {
-    let mut callee = Function {
-        arguments: vec![argument(u32), argument(u32)],
-        result: result(u32),
-        ..Function::default()
-    };
+    let mut callee = function(&[u32, u32], u32);
     let handed = callee.add_expression(Expression::FunctionArgument(0));
     callee.body = vec![Statement::Return {
         value: Some(handed),
@@ -541,10 +499,7 @@ fn blocks() -> Statement {
     };
     let chosen = Statement::Switch {
         selector: NUMBER,
-        cases: vec![SwitchCase {
-            body: vec![looped],
-            fall_through: false,
-        }],
+        cases: vec![SwitchCase::new(vec![looped])],
     };
     Statement::Block(vec![Statement::If {
         condition: HOLDS,
@@ -672,14 +627,6 @@ fn statements(callee: Handle<Function>) -> Vec<Statement> {
     statements
 }
 
-fn local(ty: Handle<Type>, init: Option<Handle<Expression>>) -> LocalVariable {
-    LocalVariable {
-        name: None,
-        ty,
-        init,
-    }
-}
-
 fn caller(
     types: &Types,
     first: &Values,
@@ -695,22 +642,20 @@ fn caller(
         operations(),
         results(types, callee),
     ];
-    Function {
-        name: None,
-        arguments: [left, right, sum, types.pair].map(argument).into(),
-        result: result(types.u32),
-        local_variables: vec![local(types.u32, Some(NUMBER)), local(types.ray, None)],
-        expressions: parts.concat(),
-        named_expressions: vec![(NUMBER, String::new())],
-        body: statements(callee),
-        diagnostic_filter_leaf: Some(Handle::new(1)),
-    }
+    let mut caller = function(&[left, right, sum, types.pair], types.u32);
+    caller.add_local_variable(LocalVariable::new(types.u32).with_init(NUMBER));
+    caller.add_local_variable(LocalVariable::new(types.ray));
+    caller.expressions = parts.concat();
+    caller.named_expressions = vec![(NUMBER, String::new())];
+    caller.body = statements(callee);
+    caller.diagnostic_filter_leaf = Some(Handle::new(1));
+    caller
 }
 
 /// A function that loads a cooperative matrix.
 fn loader(f32: Handle<Type>) -> Function {
     let mut loader = Function::default();
-    let into = loader.add_local_variable(local(f32, None));
+    let into = loader.add_local_variable(LocalVariable::new(f32));
     let pointer = loader.add_expression(Expression::LocalVariable(into));
     let stride = loader.add_expression(Expression::Literal(Literal::U32(8)));
     loader.add_expression(Expression::CooperativeLoad { pointer, stride });
@@ -718,13 +663,9 @@ fn loader(f32: Handle<Type>) -> Function {
 }
 
 fn main_function(types: &Types, callee: Handle<Function>) -> Function {
-    let mut main = Function {
-        arguments: vec![argument(types.u32)],
-        result: result(types.u32),
-        diagnostic_filter_leaf: Some(Handle::new(0)),
-        ..Function::default()
-    };
-    let held = main.add_local_variable(local(types.u32, None));
+    let mut main = function(&[types.u32], types.u32);
+    main.diagnostic_filter_leaf = Some(Handle::new(0));
+    let held = main.add_local_variable(LocalVariable::new(types.u32));
     let own = main.add_expression(Expression::FunctionArgument(0));
     let taken = main.add_expression(Expression::CallResult(callee));
     main.add_expression(Expression::LocalVariable(held));
@@ -742,17 +683,15 @@ fn main_function(types: &Types, callee: Handle<Function>) -> Function {
 
 fn add_settings(words: &mut Words, types: &Types) {
     words.set_capabilities(Capabilities::ALL);
-    words.set_special_types(SpecialTypes {
-        ray_desc: Some(types.pair),
-        ray_intersection: Some(types.pair),
-        ray_vertex_return: Some(types.array),
-    });
+    let special = SpecialTypes::new()
+        .with_ray_desc(types.pair)
+        .with_ray_intersection(types.pair)
+        .with_ray_vertex_return(types.array);
+    words.set_special_types(special);
     words.add_predeclared_type(types.pair);
     words.add_predeclared_type(types.array);
-    let parent = words.add_diagnostic_filter(DiagnosticFilterNode { parent: None });
-    let child = words.add_diagnostic_filter(DiagnosticFilterNode {
-        parent: Some(parent),
-    });
+    let parent = words.add_diagnostic_filter(DiagnosticFilterNode::new());
+    let child = words.add_diagnostic_filter(DiagnosticFilterNode::new().with_parent(parent));
     words.set_diagnostic_filter_leaf(child);
 }
 
@@ -767,19 +706,14 @@ fn main() -> Result<(), Box<dyn std::error::Error>> {
     let caller = words.add_function(&caller(&types, &first, &variables, callee));
     words.add_function(&loader(types.f32));
     let ty = types.pair;
-    let main = words.add_entry_point(&EntryPoint {
-        name: "main".into(),
-        workgroup_size_overrides: Some([Some(size), Some(first.four), Some(first.four)]),
-        function: main_function(&types, callee),
-        task_payload: Some(variables.payload),
-        mesh_info: Some(MeshStageInfo {
-            output_variable: variables.private,
-            vertex_output_type: ty,
-            primitive_output_type: ty,
-            max_vertices_override: Some(size),
-            max_primitives_override: Some(first.four),
-        }),
-    });
+    let mesh_info = MeshStageInfo::new(variables.private, ty, ty)
+        .with_max_vertices_override(size)
+        .with_max_primitives_override(first.four);
+    let main = EntryPoint::new("main", main_function(&types, callee))
+        .with_workgroup_size_overrides([size, first.four, first.four].map(Some))
+        .with_task_payload(variables.payload)
+        .with_mesh_info(mesh_info);
+    let main = words.add_entry_point(&main);
     for on in [
         Documented::StructMember { ty, index: 1 },
         Documented::Type(ty),

@@ -8,6 +8,7 @@ use crate::types::{ScalarKind, Type, VectorSize};
 
 /// A literal. Floating-point numbers are given as their bits, as by `f32::to_bits`.
 #[derive(Clone, Copy, Debug, PartialEq, Eq, Hash)]
+#[non_exhaustive]
 pub enum Literal {
     /// The bits of an `f64`.
     F64(u64),
@@ -89,6 +90,7 @@ words_of_values!(SwizzleComponent);
 
 /// Which mipmap level of an image is sampled.
 #[derive(Clone, Copy, Debug, PartialEq, Eq, Hash)]
+#[non_exhaustive]
 pub enum SampleLevel {
     /// By the derivatives of the coordinates.
     Auto,
@@ -123,6 +125,7 @@ impl Operand for SampleLevel {
 
 /// A query of an image.
 #[derive(Clone, Copy, Debug, PartialEq, Eq, Hash)]
+#[non_exhaustive]
 pub enum ImageQuery {
     /// Its size in texels.
     Size {
@@ -154,6 +157,7 @@ impl Operand for ImageQuery {
 items! {
     /// A value that is computed from the values of preceding expressions.
     #[derive(Clone, Debug, PartialEq, Eq, Hash)]
+    #[non_exhaustive]
     pub enum Expression {
         /// A literal.
         Literal(literal: Literal) = sys::NAGA_CHECK_FORM_LITERAL [literal],

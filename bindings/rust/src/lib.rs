@@ -24,6 +24,23 @@
 //! ```
 //!
 //! Nothing is kept between calls, and any number of threads may call at once.
+//!
+//! # The library
+//!
+//! The crate links `libnaga_check.a`, which has to have the same version of the C interface. That is compared when the
+//! crate is built, with what the package of the library says, and again by the first call, which panics if another
+//! library was linked. Without the library the crate can be checked and documented, and not linked.
+//!
+//! # What may grow
+//!
+//! A later version may give more of naga's parts words. So what a module is made of is `#[non_exhaustive]`, except
+//! [`Scalar`], [`VectorSize`], [`SwizzleComponent`] and [`CooperativeRole`], to which nothing can be added. A host
+//! still builds all of it: structs by `new`, `at` or `default`, by the methods that set a field, and by the fields,
+//! which are public; and all variants of enums as they are.
+//!
+//! What a host loses: it can't write such a struct as a literal, so the compiler doesn't name a field that it forgets,
+//! and a `match` on such an enum needs an arm for variants that aren't there yet. A field that is added to a variant
+//! breaks hosts that build the variant, and comes only with a version of the crate that may break hosts.
 #![deny(missing_docs)]
 #![forbid(unsafe_op_in_unsafe_fn)]
 #![deny(unsafe_code)]
@@ -44,6 +61,7 @@ mod statements;
 pub mod sys;
 mod told;
 mod types;
+mod version;
 mod words;
 
 pub use calls::{

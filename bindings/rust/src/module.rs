@@ -1,12 +1,13 @@
 //! What a module holds besides types, expressions and statements, as in naga.
 
 use crate::expressions::Expression;
-use crate::operands::Handle;
+use crate::operands::{builders, Handle};
 use crate::statements::Block;
 use crate::types::{AddressSpace, Binding, Type};
 
 /// A value with a name, known when the shader is compiled.
 #[derive(Clone, Debug, PartialEq, Eq)]
+#[non_exhaustive]
 pub struct Constant {
     /// The name, if the constant has one.
     pub name: Option<String>,
@@ -16,8 +17,28 @@ pub struct Constant {
     pub init: Handle<Expression>,
 }
 
+impl Constant {
+    /// A constant without a name.
+    #[must_use]
+    pub const fn new(ty: Handle<Type>, init: Handle<Expression>) -> Constant {
+        Constant {
+            name: None,
+            ty,
+            init,
+        }
+    }
+}
+
+builders! {
+    Constant {
+        /// Sets the name.
+        named(name: impl Into<String>),
+    }
+}
+
 /// A value that is given when a pipeline is made, by its name or its number.
 #[derive(Clone, Debug, PartialEq, Eq)]
+#[non_exhaustive]
 pub struct Override {
     /// The name, if the override has one.
     pub name: Option<String>,
@@ -29,8 +50,33 @@ pub struct Override {
     pub init: Option<Handle<Expression>>,
 }
 
+impl Override {
+    /// An override without a name, a number and a value of its own.
+    #[must_use]
+    pub const fn new(ty: Handle<Type>) -> Override {
+        Override {
+            name: None,
+            id: None,
+            ty,
+            init: None,
+        }
+    }
+}
+
+builders! {
+    Override {
+        /// Sets the name.
+        named(name: impl Into<String>),
+        /// Sets the number by which a pipeline may give the value.
+        with_id(id: u16),
+        /// Sets the value if the pipeline gives none: a global expression.
+        with_init(init: Handle<Expression>),
+    }
+}
+
 /// A variable of the module.
 #[derive(Clone, Debug, PartialEq, Eq)]
+#[non_exhaustive]
 pub struct GlobalVariable {
     /// The name, if the variable has one.
     pub name: Option<String>,
@@ -42,8 +88,31 @@ pub struct GlobalVariable {
     pub init: Option<Handle<Expression>>,
 }
 
+impl GlobalVariable {
+    /// A variable without a name and a first value.
+    #[must_use]
+    pub const fn new(space: AddressSpace, ty: Handle<Type>) -> GlobalVariable {
+        GlobalVariable {
+            name: None,
+            space,
+            ty,
+            init: None,
+        }
+    }
+}
+
+builders! {
+    GlobalVariable {
+        /// Sets the name.
+        named(name: impl Into<String>),
+        /// Sets the first value: a global expression.
+        with_init(init: Handle<Expression>),
+    }
+}
+
 /// A variable of a function.
 #[derive(Clone, Debug, PartialEq, Eq)]
+#[non_exhaustive]
 pub struct LocalVariable {
     /// The name, if the variable has one.
     pub name: Option<String>,
@@ -53,8 +122,30 @@ pub struct LocalVariable {
     pub init: Option<Handle<Expression>>,
 }
 
+impl LocalVariable {
+    /// A variable without a name and a first value.
+    #[must_use]
+    pub const fn new(ty: Handle<Type>) -> LocalVariable {
+        LocalVariable {
+            name: None,
+            ty,
+            init: None,
+        }
+    }
+}
+
+builders! {
+    LocalVariable {
+        /// Sets the name.
+        named(name: impl Into<String>),
+        /// Sets the first value: an expression of the function.
+        with_init(init: Handle<Expression>),
+    }
+}
+
 /// An argument of a function.
 #[derive(Clone, Debug, PartialEq, Eq)]
+#[non_exhaustive]
 pub struct FunctionArgument {
     /// The name, if the argument has one.
     pub name: Option<String>,
@@ -64,8 +155,30 @@ pub struct FunctionArgument {
     pub binding: Option<Binding>,
 }
 
+impl FunctionArgument {
+    /// An argument without a name and a binding.
+    #[must_use]
+    pub const fn new(ty: Handle<Type>) -> FunctionArgument {
+        FunctionArgument {
+            name: None,
+            ty,
+            binding: None,
+        }
+    }
+}
+
+builders! {
+    FunctionArgument {
+        /// Sets the name.
+        named(name: impl Into<String>),
+        /// Sets where the value comes from, of an entry point.
+        with_binding(binding: Binding),
+    }
+}
+
 /// What a function returns.
 #[derive(Clone, Debug, PartialEq, Eq)]
+#[non_exhaustive]
 pub struct FunctionResult {
     /// The type.
     pub ty: Handle<Type>,
@@ -73,8 +186,24 @@ pub struct FunctionResult {
     pub binding: Option<Binding>,
 }
 
+impl FunctionResult {
+    /// A result without a binding.
+    #[must_use]
+    pub const fn new(ty: Handle<Type>) -> FunctionResult {
+        FunctionResult { ty, binding: None }
+    }
+}
+
+builders! {
+    FunctionResult {
+        /// Sets where the value goes to, of an entry point.
+        with_binding(binding: Binding),
+    }
+}
+
 /// A function: its arguments, its result, and its body.
 #[derive(Clone, Debug, Default, PartialEq, Eq)]
+#[non_exhaustive]
 pub struct Function {
     /// The name, if the function has one. The function of an entry point needs none.
     pub name: Option<String>,
@@ -95,6 +224,12 @@ pub struct Function {
 }
 
 impl Function {
+    /// A function without parts. They are its fields.
+    #[must_use]
+    pub fn new() -> Function {
+        Function::default()
+    }
+
     /// Adds a variable, and returns its handle.
     ///
     /// # Panics
@@ -114,6 +249,13 @@ impl Function {
     }
 }
 
+builders! {
+    Function {
+        /// Sets the name.
+        named(name: impl Into<String>),
+    }
+}
+
 /// Adds an item to a list, and returns its handle.
 fn append<T>(items: &mut Vec<T>, item: T) -> Handle<T> {
     let index = u32::try_from(items.len()).expect("a function has fewer items than `u32::MAX`");
@@ -123,6 +265,7 @@ fn append<T>(items: &mut Vec<T>, item: T) -> Handle<T> {
 
 /// The output of a mesh shader.
 #[derive(Clone, Copy, Debug, PartialEq, Eq)]
+#[non_exhaustive]
 pub struct MeshStageInfo {
     /// The variable that it writes its output to.
     pub output_variable: Handle<GlobalVariable>,
@@ -136,8 +279,36 @@ pub struct MeshStageInfo {
     pub max_primitives_override: Option<Handle<Expression>>,
 }
 
+impl MeshStageInfo {
+    /// An output whose numbers of vertices and primitives no override decides.
+    #[must_use]
+    pub const fn new(
+        output_variable: Handle<GlobalVariable>,
+        vertex_output_type: Handle<Type>,
+        primitive_output_type: Handle<Type>,
+    ) -> MeshStageInfo {
+        MeshStageInfo {
+            output_variable,
+            vertex_output_type,
+            primitive_output_type,
+            max_vertices_override: None,
+            max_primitives_override: None,
+        }
+    }
+}
+
+builders! {
+    MeshStageInfo {
+        /// Sets the greatest number of vertices: a global expression.
+        with_max_vertices_override(max_vertices_override: Handle<Expression>),
+        /// Sets the greatest number of primitives: a global expression.
+        with_max_primitives_override(max_primitives_override: Handle<Expression>),
+    }
+}
+
 /// A function that a pipeline calls first in one of its stages.
 #[derive(Clone, Debug, Default, PartialEq, Eq)]
+#[non_exhaustive]
 pub struct EntryPoint {
     /// The name by which a pipeline calls it.
     pub name: String,
@@ -151,16 +322,56 @@ pub struct EntryPoint {
     pub mesh_info: Option<MeshStageInfo>,
 }
 
+impl EntryPoint {
+    /// An entry point of a name and a function.
+    #[must_use]
+    pub fn new(name: impl Into<String>, function: Function) -> EntryPoint {
+        EntryPoint {
+            name: name.into(),
+            function,
+            ..EntryPoint::default()
+        }
+    }
+}
+
+builders! {
+    EntryPoint {
+        /// Sets the sizes of a workgroup that overrides decide: global expressions.
+        with_workgroup_size_overrides(workgroup_size_overrides: [Option<Handle<Expression>>; 3]),
+        /// Sets the variable that a task shader hands to its mesh shaders.
+        with_task_payload(task_payload: Handle<GlobalVariable>),
+        /// Sets the output of a mesh shader.
+        with_mesh_info(mesh_info: MeshStageInfo),
+    }
+}
+
 /// A filter of diagnostics (WGSL, "Filtering Diagnostics"), which applies together with its parents.
 #[derive(Clone, Copy, Debug, Default, PartialEq, Eq)]
+#[non_exhaustive]
 pub struct DiagnosticFilterNode {
     /// The filter of the enclosing scope.
     pub parent: Option<Handle<DiagnosticFilterNode>>,
 }
 
+impl DiagnosticFilterNode {
+    /// A filter without a parent.
+    #[must_use]
+    pub const fn new() -> DiagnosticFilterNode {
+        DiagnosticFilterNode { parent: None }
+    }
+}
+
+builders! {
+    DiagnosticFilterNode {
+        /// Sets the filter of the enclosing scope.
+        with_parent(parent: Handle<DiagnosticFilterNode>),
+    }
+}
+
 /// Types that some built-in functions take or return. Those of `predeclared_types` are added one by one, by
 /// [`Words::add_predeclared_type`](crate::Words::add_predeclared_type).
 #[derive(Clone, Copy, Debug, Default, PartialEq, Eq)]
+#[non_exhaustive]
 pub struct SpecialTypes {
     /// The descriptor that begins a ray query.
     pub ray_desc: Option<Handle<Type>>,
@@ -170,8 +381,28 @@ pub struct SpecialTypes {
     pub ray_vertex_return: Option<Handle<Type>>,
 }
 
+impl SpecialTypes {
+    /// No types.
+    #[must_use]
+    pub fn new() -> SpecialTypes {
+        SpecialTypes::default()
+    }
+}
+
+builders! {
+    SpecialTypes {
+        /// Sets the descriptor that begins a ray query.
+        with_ray_desc(ray_desc: Handle<Type>),
+        /// Sets what a ray query says of an intersection.
+        with_ray_intersection(ray_intersection: Handle<Type>),
+        /// Sets the corners of a triangle that a ray has hit.
+        with_ray_vertex_return(ray_vertex_return: Handle<Type>),
+    }
+}
+
 /// What a comment of the source documents. Its text has no words.
 #[derive(Clone, Copy, Debug, PartialEq, Eq)]
+#[non_exhaustive]
 pub enum Documented {
     /// A type.
     Type(Handle<Type>),

@@ -202,4 +202,20 @@ macro_rules! items {
     };
 }
 
-pub(crate) use {items, words_of_values};
+/// Declares methods that each set a field that may be left out, and return the item.
+macro_rules! builders {
+    ($name:ident { $( $(#[$doc:meta])* $builder:ident($field:ident: $field_type:ty), )+ }) => {
+        impl $name {
+            $(
+                $(#[$doc])*
+                #[must_use]
+                pub fn $builder(mut self, $field: $field_type) -> $name {
+                    self.$field = Some($field.into());
+                    self
+                }
+            )+
+        }
+    };
+}
+
+pub(crate) use {builders, items, words_of_values};

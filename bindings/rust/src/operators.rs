@@ -5,6 +5,7 @@ use crate::sys;
 
 /// An operator on one value.
 #[derive(Clone, Copy, Debug, PartialEq, Eq, Hash)]
+#[non_exhaustive]
 #[repr(u32)]
 pub enum UnaryOperator {
     /// `-`.
@@ -17,6 +18,7 @@ pub enum UnaryOperator {
 
 /// An operator on two values.
 #[derive(Clone, Copy, Debug, PartialEq, Eq, Hash)]
+#[non_exhaustive]
 #[repr(u32)]
 pub enum BinaryOperator {
     /// `+`.
@@ -59,6 +61,7 @@ pub enum BinaryOperator {
 
 /// A query of a bool or number.
 #[derive(Clone, Copy, Debug, PartialEq, Eq, Hash)]
+#[non_exhaustive]
 #[repr(u32)]
 pub enum RelationalFunction {
     /// Whether all components are true.
@@ -73,6 +76,7 @@ pub enum RelationalFunction {
 
 /// A mathematical function, with its name in WGSL.
 #[derive(Clone, Copy, Debug, PartialEq, Eq, Hash)]
+#[non_exhaustive]
 #[repr(u32)]
 pub enum MathFunction {
     /// `abs`.

@@ -8,6 +8,7 @@ use crate::options::Options;
 use crate::sys::{
     self, NagaCheckCounts, NagaCheckLeaf, NagaCheckOutcome, NagaCheckStatus, NagaCheckTypeInfo,
 };
+use crate::version;
 
 /// A module, and how it is validated.
 #[derive(Clone, Copy)]
@@ -18,6 +19,7 @@ pub(crate) struct Subject<'a> {
 
 /// Writes the report on a text, and returns its length.
 pub(crate) fn report(text: &[u8], report: &mut [u8]) -> (NagaCheckStatus, usize) {
+    version::require();
     let mut length = 0;
     // SAFETY: the buffers are slices, and `length` is a variable of its own.
     let status = unsafe {
@@ -38,6 +40,7 @@ pub(crate) fn check_text(
     options: &Options,
     infos: &mut [NagaCheckTypeInfo],
 ) -> (NagaCheckStatus, NagaCheckOutcome) {
+    version::require();
     let mut outcome = NagaCheckOutcome::default();
     // SAFETY: the buffers are slices, the options are a reference, and `outcome` is a variable of its own.
     let status = unsafe {
@@ -58,6 +61,7 @@ pub(crate) fn check_words(
     subject: Subject<'_>,
     infos: &mut [NagaCheckTypeInfo],
 ) -> (NagaCheckStatus, NagaCheckOutcome) {
+    version::require();
     let mut outcome = NagaCheckOutcome::default();
     // SAFETY: the buffers are slices, the options are a reference, and `outcome` is a variable of its own.
     let status = unsafe {
@@ -78,6 +82,7 @@ pub(crate) fn check_functions(
     subject: Subject<'_>,
     stages: &mut [u32],
 ) -> (NagaCheckStatus, NagaCheckOutcome) {
+    version::require();
     let mut outcome = NagaCheckOutcome::default();
     // SAFETY: the buffers are slices, the options are a reference, and `outcome` is a variable of its own.
     let status = unsafe {
@@ -101,6 +106,7 @@ pub(crate) fn leaves(
     leaves: &mut [NagaCheckLeaf],
     paths: &mut [u32],
 ) -> (NagaCheckStatus, NagaCheckCounts) {
+    version::require();
     let mut counts = NagaCheckCounts::default();
     // SAFETY: the buffers are slices, the options are a reference, and `counts` is a variable of its own.
     let status = unsafe {
@@ -123,6 +129,7 @@ pub(crate) fn leaves(
 
 /// Returns the slots of immediate data that a value of a type uses from a byte on.
 pub(crate) fn slots(subject: Subject<'_>, ty: u32, offset: u32) -> (NagaCheckStatus, u64) {
+    version::require();
     let mut slots = 0;
     // SAFETY: the words are a slice, the options are a reference, and `slots` is a variable of its own.
     let status = unsafe {

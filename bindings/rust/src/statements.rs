@@ -11,6 +11,7 @@ pub type Block = Vec<Statement>;
 
 /// A case of a `switch`.
 #[derive(Clone, Debug, Default, PartialEq, Eq)]
+#[non_exhaustive]
 pub struct SwitchCase {
     /// What is executed.
     pub body: Block,
@@ -18,8 +19,27 @@ pub struct SwitchCase {
     pub fall_through: bool,
 }
 
+impl SwitchCase {
+    /// A case after which the next one is not executed.
+    #[must_use]
+    pub const fn new(body: Block) -> SwitchCase {
+        SwitchCase {
+            body,
+            fall_through: false,
+        }
+    }
+
+    /// The same case, after which the next one is executed.
+    #[must_use]
+    pub fn falling_through(mut self) -> SwitchCase {
+        self.fall_through = true;
+        self
+    }
+}
+
 /// What an atomic operation does.
 #[derive(Clone, Copy, Debug, PartialEq, Eq, Hash)]
+#[non_exhaustive]
 pub enum AtomicFunction {
     /// Adds the value.
     Add,
@@ -64,6 +84,7 @@ impl Operand for AtomicFunction {
 
 /// A step of a ray query.
 #[derive(Clone, Copy, Debug, PartialEq, Eq, Hash)]
+#[non_exhaustive]
 pub enum RayQueryFunction {
     /// Begins it.
     Initialize {
@@ -117,6 +138,7 @@ impl Operand for RayQueryFunction {
 
 /// From which invocation of a subgroup a value is taken.
 #[derive(Clone, Copy, Debug, PartialEq, Eq, Hash)]
+#[non_exhaustive]
 pub enum GatherMode {
     /// The first.
     BroadcastFirst,
@@ -153,6 +175,7 @@ impl Operand for GatherMode {
 
 /// What a subgroup makes of the values of its invocations.
 #[derive(Clone, Copy, Debug, PartialEq, Eq, Hash)]
+#[non_exhaustive]
 #[repr(u32)]
 pub enum SubgroupOperation {
     /// Whether all are true.
@@ -186,6 +209,7 @@ impl Operand for Range<u32> {
 items! {
     /// A statement.
     #[derive(Clone, Debug, PartialEq, Eq)]
+    #[non_exhaustive]
     pub enum Statement {
         /// Evaluates the expressions from the first index on, up to but not the second.
         Emit(range: Range<u32>) = sys::NAGA_CHECK_STATEMENT_EMIT [range],

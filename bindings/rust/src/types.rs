@@ -1,12 +1,14 @@
 //! Types of a module, as in naga.
 
 use crate::module::Override;
-use crate::operands::{items, words_of_values, Handle, Operand};
+use crate::operands::{builders, items, words_of_values, Handle, Operand};
 use crate::sys;
 use std::num::NonZeroU32;
+use std::ops::{BitOr, BitOrAssign};
 
 /// What the bits of a scalar mean.
 #[derive(Clone, Copy, Debug, PartialEq, Eq, Hash)]
+#[non_exhaustive]
 #[repr(u32)]
 pub enum ScalarKind {
     /// Signed integers.
@@ -95,6 +97,7 @@ impl Operand for PointedSize {
 
 /// How many columns or rows a cooperative matrix has.
 #[derive(Clone, Copy, Debug, PartialEq, Eq, Hash)]
+#[non_exhaustive]
 #[repr(u32)]
 pub enum CooperativeSize {
     /// Eight.
@@ -117,6 +120,7 @@ pub enum CooperativeRole {
 
 /// How many elements an array has.
 #[derive(Clone, Copy, Debug, PartialEq, Eq, Hash)]
+#[non_exhaustive]
 pub enum ArraySize {
     /// That many.
     Constant(NonZeroU32),
@@ -138,6 +142,7 @@ impl Operand for ArraySize {
 
 /// Where a value comes from or goes to outside of the shader.
 #[derive(Clone, Copy, Debug, PartialEq, Eq, Hash)]
+#[non_exhaustive]
 pub enum Binding {
     /// A value that the pipeline itself gives or takes, by number.
     BuiltIn(u32),
@@ -172,6 +177,7 @@ impl Operand for OptionalBinding {
 
 /// A member of a struct.
 #[derive(Clone, Debug, PartialEq, Eq, Hash)]
+#[non_exhaustive]
 pub struct StructMember {
     /// The name, if the member has one.
     pub name: Option<String>,
@@ -196,6 +202,15 @@ impl StructMember {
     }
 }
 
+builders! {
+    StructMember {
+        /// Sets the name.
+        named(name: impl Into<String>),
+        /// Sets where an input or output of the shader comes from or goes to.
+        with_binding(binding: Binding),
+    }
+}
+
 impl Operand for StructMember {
     fn write(&self, words: &mut Vec<u32>) {
         self.name.write(words);
@@ -207,6 +222,7 @@ impl Operand for StructMember {
 
 /// How many coordinates an image has.
 #[derive(Clone, Copy, Debug, PartialEq, Eq, Hash)]
+#[non_exhaustive]
 #[repr(u32)]
 pub enum ImageDimension {
     /// One.
@@ -227,8 +243,16 @@ words_of_values!(
     ImageDimension
 );
 
-/// What storage may be used for.
+/// What storage may be used for: naga's `StorageAccess`.
+///
+/// ```
+/// use naga_check::StorageAccess;
+///
+/// let access = StorageAccess::LOAD | StorageAccess::STORE;
+/// assert!(access.load && access.store && !access.atomic);
+/// ```
 #[derive(Clone, Copy, Debug, Default, PartialEq, Eq, Hash)]
+#[non_exhaustive]
 pub struct StorageAccess {
     /// Values may be read.
     pub load: bool,
@@ -239,6 +263,38 @@ pub struct StorageAccess {
 }
 
 impl StorageAccess {
+    /// Nothing.
+    const EMPTY: StorageAccess = StorageAccess {
+        load: false,
+        store: false,
+        atomic: false,
+    };
+    /// Values may be read.
+    pub const LOAD: StorageAccess = StorageAccess {
+        load: true,
+        ..StorageAccess::EMPTY
+    };
+    /// Values may be written.
+    pub const STORE: StorageAccess = StorageAccess {
+        store: true,
+        ..StorageAccess::EMPTY
+    };
+    /// Atomic operations may change values.
+    pub const ATOMIC: StorageAccess = StorageAccess {
+        atomic: true,
+        ..StorageAccess::EMPTY
+    };
+
+    /// What one or the other may be used for, as `|` in constants.
+    #[must_use]
+    pub const fn union(self, other: StorageAccess) -> StorageAccess {
+        StorageAccess {
+            load: self.load | other.load,
+            store: self.store | other.store,
+            atomic: self.atomic | other.atomic,
+        }
+    }
+
     /// The sum of the accesses.
     pub(crate) fn word(self) -> u32 {
         let load = u32::from(self.load) * sys::NAGA_CHECK_ACCESS_LOAD;
@@ -248,8 +304,23 @@ impl StorageAccess {
     }
 }
 
+impl BitOr for StorageAccess {
+    type Output = StorageAccess;
+
+    fn bitor(self, other: StorageAccess) -> StorageAccess {
+        self.union(other)
+    }
+}
+
+impl BitOrAssign for StorageAccess {
+    fn bitor_assign(&mut self, other: StorageAccess) {
+        *self = *self | other;
+    }
+}
+
 /// What an image holds.
 #[derive(Clone, Copy, Debug, PartialEq, Eq, Hash)]
+#[non_exhaustive]
 pub enum ImageClass {
     /// Values that a sampler reads.
     Sampled {
@@ -291,6 +362,7 @@ impl Operand for ImageClass {
 
 /// Where a variable is kept (WGSL, "Address Spaces").
 #[derive(Clone, Copy, Debug, PartialEq, Eq, Hash)]
+#[non_exhaustive]
 pub enum AddressSpace {
     /// In a function.
     Function,
@@ -336,6 +408,7 @@ impl Operand for AddressSpace {
 
 /// A type of a module.
 #[derive(Clone, Debug, PartialEq, Eq, Hash)]
+#[non_exhaustive]
 pub struct Type {
     /// The name, if the type has one.
     pub name: Option<String>,
@@ -350,6 +423,21 @@ impl From<TypeInner> for Type {
     }
 }
 
+impl Type {
+    /// A type without a name.
+    #[must_use]
+    pub const fn new(inner: TypeInner) -> Type {
+        Type { name: None, inner }
+    }
+}
+
+builders! {
+    Type {
+        /// Sets the name.
+        named(name: impl Into<String>),
+    }
+}
+
 impl Operand for Type {
     fn write(&self, words: &mut Vec<u32>) {
         self.name.write(words);
@@ -360,6 +448,7 @@ impl Operand for Type {
 items! {
     /// What a type is made of.
     #[derive(Clone, Debug, PartialEq, Eq, Hash)]
+    #[non_exhaustive]
     pub enum TypeInner {
         /// A number or a bool.
         Scalar(scalar: Scalar) = sys::NAGA_CHECK_OP_SCALAR [scalar],

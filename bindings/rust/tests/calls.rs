@@ -48,6 +48,11 @@ fn the_empty_module_is_accepted() {
 
 #[test]
 fn words_that_can_t_be_read() {
+    // The head of an item of more operands than it may have, as the header makes it.
+    assert_eq!(
+        check_words(&[u32::MAX, 3], &DEFAULT),
+        Err(Error::Unreadable { at: 0 })
+    );
     assert_eq!(
         check_words(&[3, 3], &DEFAULT),
         Err(Error::Unreadable { at: 1 })
@@ -155,11 +160,7 @@ fn stages_of_functions_and_entry_points() {
     let mut words = Words::new();
     words.add_function(&function);
     words.add_function(&function);
-    let entry_point = EntryPoint {
-        name: "main".into(),
-        function,
-        ..EntryPoint::default()
-    };
+    let entry_point = EntryPoint::new("main", function);
     assert_eq!(words.add_entry_point(&entry_point), 0);
     let stages = check_functions(&words.finish().unwrap(), &DEFAULT).unwrap();
     assert_eq!((stages.functions.len(), stages.entry_points.len()), (2, 1));
@@ -271,11 +272,7 @@ fn settings_that_come_with_a_module_validate_no_less() {
         }
         let ty = words.add_type(TypeInner::Scalar(Scalar::F32));
         let init = words.add_global_expression(&Expression::Literal(Literal::U32(7)));
-        words.add_constant(&Constant {
-            name: None,
-            ty,
-            init,
-        });
+        words.add_constant(&Constant::new(ty, init));
         words.finish().unwrap()
     };
     let narrow = DEFAULT.settings(Settings::Narrow);
@@ -304,12 +301,7 @@ fn overrides_have_to_have_values_if_either_says_so() {
             words.require_resolved_overrides();
         }
         let ty = words.add_type(TypeInner::Scalar(Scalar::U32));
-        words.add_override(&Override {
-            name: None,
-            id: None,
-            ty,
-            init: None,
-        });
+        words.add_override(&Override::new(ty));
         words.finish().unwrap()
     };
     let narrow = DEFAULT.settings(Settings::Narrow);

@@ -25,16 +25,44 @@ fn nested(depth: usize) -> Vec<u32> {
         body = vec![Statement::Block(body)];
     }
     let mut words = Words::new();
-    let function = Function {
-        body,
-        ..Function::default()
-    };
+    let mut function = Function::new();
+    function.body = body;
     words.add_function(&function);
     words.finish().unwrap_or_default()
 }
 
+/// The part of docs/WORDS.md under a heading, up to the next one.
+fn section_of_the_page(heading: &str) -> &'static str {
+    let page = include_str!("../../../docs/WORDS.md");
+    let (_, section) = page.split_once(heading).expect("the page has the heading");
+    section.split("\n#").next().unwrap_or_default()
+}
+
+/// A word as the page has it: a number, `NONE`, or the head of an item.
+fn word_of_the_page(word: &str) -> u32 {
+    if let Some((count, opcode)) = word.split_once(" << 8 \\| ") {
+        return word_of_the_page(count) << 8 | word_of_the_page(opcode);
+    }
+    let word = word.trim();
+    match word.strip_prefix("0x") {
+        _ if word == "NONE" => NONE,
+        Some(digits) => u32::from_str_radix(digits, 16).expect("digits follow"),
+        None => word.parse().expect("a word is a number"),
+    }
+}
+
+/// The words in the table under a heading.
+fn words_of_the_page(heading: &str) -> Vec<u32> {
+    let rows = section_of_the_page(heading).lines();
+    let codes = rows.filter_map(|row| row.strip_prefix("| `")?.split('`').next());
+    codes
+        .flat_map(|code| code.split(','))
+        .map(word_of_the_page)
+        .collect()
+}
+
 #[test]
-fn the_example_of_the_page() {
+fn the_struct_of_the_page() {
     let mut words = Words::new();
     let number = words.add_type(TypeInner::Scalar(Scalar::U32));
     let vector = words.add_type(TypeInner::Vector {
@@ -44,23 +72,61 @@ fn the_example_of_the_page() {
     let members = vec![StructMember::at(0, number), StructMember::at(16, vector)];
     words.add_type(TypeInner::Struct { members, span: 32 });
     words.require_resolved_overrides();
-    let expected = [
-        vec![3 << 8 | 16, NONE, 1, 4],
-        vec![4 << 8 | 17, NONE, 4, 2, 4],
-        vec![14 << 8 | 24, NONE, 32],
-        vec![NONE, 0, 0, 0, 0, 0],
-        vec![NONE, 1, 16, 0, 0, 0],
-        vec![3],
+    let words = words.finish().expect("a struct has words");
+    assert_eq!(words, words_of_the_page("### A struct\n"));
+    assert_eq!(words.len(), 25);
+    let bytes = words[..4].iter().flat_map(|word| word.to_le_bytes());
+    let bytes: Vec<String> = bytes.map(|byte| format!("{byte:02x}")).collect();
+    assert!(section_of_the_page("### A struct\n").contains(&format!("`{}`", bytes.join(" "))));
+}
+
+/// `fn limit(count: u32) -> u32 { if count > 4u { return 4u; } return count; }`
+fn limit() -> Vec<u32> {
+    let mut words = Words::new();
+    let number = words.add_type(TypeInner::Scalar(Scalar::U32));
+    let mut limit = Function::new().named("limit");
+    limit.arguments = vec![FunctionArgument::new(number).named("count")];
+    limit.result = Some(FunctionResult::new(number));
+    let count = limit.add_expression(Expression::FunctionArgument(0));
+    let four = limit.add_expression(Expression::Literal(Literal::U32(4)));
+    let is_greater = limit.add_expression(Expression::Binary {
+        op: BinaryOperator::Greater,
+        left: count,
+        right: four,
+    });
+    let value = Some(four);
+    limit.body = vec![
+        Statement::Emit(is_greater.index()..is_greater.index() + 1),
+        Statement::If {
+            condition: is_greater,
+            accept: vec![Statement::Return { value }],
+            reject: vec![],
+        },
+        Statement::Return { value: Some(count) },
     ];
-    assert_eq!(words.finish(), Ok(expected.concat()));
+    words.add_function(&limit);
+    words.finish().expect("a function has words")
+}
+
+#[test]
+fn the_function_of_the_page() {
+    assert_eq!(limit(), words_of_the_page("### A function\n"));
+    assert_eq!(limit().len(), 42);
+}
+
+#[test]
+fn the_function_of_the_page_is_accepted() {
+    let words = words_of_the_page("### A function\n");
+    let stages =
+        check_functions(&words, &Options::new()).expect("the page has a module that is accepted");
+    assert_eq!(stages.functions.len(), 1);
 }
 
 #[test]
 fn names_are_bytes_four_in_a_word() {
     let named = |name: &str| {
         let inner = TypeInner::Sampler { comparison: true };
-        let name = Some(name.to_owned());
-        operands_of_type(Type { name, inner })
+        operands_of_type(Type::new(inner).named(name))
     };
     assert_eq!(named(""), [0, 1]);
     assert_eq!(named("abcd"), [4, 0x6463_6261, 1]);
@@ -71,10 +137,7 @@ fn names_are_bytes_four_in_a_word() {
 fn equal_types_are_one() {
     let mut words = Words::new();
     let first = words.add_type(TypeInner::Scalar(Scalar::U32));
-    let named = words.add_type(Type {
-        name: Some("u32".into()),
-        inner: TypeInner::Scalar(Scalar::U32),
-    });
+    let named = words.add_type(Type::new(TypeInner::Scalar(Scalar::U32)).named("u32"));
     assert_ne!(first, named);
     assert_eq!(words.add_type(TypeInner::Scalar(Scalar::U32)), first);
     assert_eq!(words.add_type(TypeInner::Scalar(Scalar::I32)).index(), 2);
@@ -83,6 +146,12 @@ fn equal_types_are_one() {
             .unwrap()
             .len(),
         3
+    );
+    // What a host writes that doesn't merge them.
+    let twice = [[3 << 8 | 16, NONE, 1, 4]; 2].concat();
+    assert_eq!(
+        check_words(&twice, &Options::new()),
+        Err(Error::Unreadable { at: 4 })
     );
 }
 
@@ -113,11 +182,7 @@ fn parts_of_types() {
     let base = Handle::new(9);
     let scalar = Scalar::F32;
     let space = AddressSpace::Storage {
-        access: StorageAccess {
-            load: true,
-            store: false,
-            atomic: true,
-        },
+        access: StorageAccess::LOAD | StorageAccess::ATOMIC,
     };
     assert_eq!(
         operands_of_type(TypeInner::Pointer { base, space }),
@@ -158,13 +223,47 @@ fn bindings() {
         (Some(location(None)), [2, 5, 0]),
         (Some(location(Some(1))), [3, 5, 1]),
     ] {
-        let members = vec![StructMember {
-            binding,
-            ..StructMember::at(4, Handle::new(0))
-        }];
+        let mut member = StructMember::at(4, Handle::new(0));
+        member.binding = binding;
+        let members = vec![member];
         let words = operands_of_type(TypeInner::Struct { members, span: 8 });
         assert_eq!(words[5..], expected);
     }
+}
+
+#[test]
+fn what_may_be_left_out_can_be_set() {
+    let (ty, init) = (Handle::new(5), Handle::new(6));
+    let location = Binding::Location {
+        location: 3,
+        blend_src: None,
+    };
+    let mut words = Words::new();
+    words.add_constant(&Constant::new(ty, init).named("c"));
+    words.add_override(&Override::new(ty).named("o").with_id(9).with_init(init));
+    let variable = GlobalVariable::new(AddressSpace::Private, ty);
+    words.add_global_variable(&variable.named("g").with_init(init));
+    let mut function = Function::new().named("f");
+    function.arguments = vec![FunctionArgument::new(ty).named("a").with_binding(location)];
+    function.result = Some(FunctionResult::new(ty).with_binding(Binding::BuiltIn(4)));
+    function.add_local_variable(LocalVariable::new(ty).named("l").with_init(init));
+    words.add_function(&function);
+    let member = StructMember::at(8, ty).named("m").with_binding(location);
+    words.add_type(Type::new(TypeInner::Struct {
+        members: vec![member],
+        span: 12,
+    }));
+    let expected = [
+        vec![4 << 8 | 32, 1, 0x63, 5, 6],
+        vec![5 << 8 | 33, 1, 0x6F, 5, 6, 9],
+        vec![6 << 8 | 34, 1, 0x67, 1, 0, 5, 6],
+        vec![2 << 8 | 35, 1, 0x66],
+        vec![6 << 8 | 40, 1, 0x61, 5, 2, 3, 0],
+        vec![4 << 8 | 41, 1, 0x6C, 5, 6],
+        vec![4 << 8 | 42, 5, 1, 4, 0],
+        vec![9 << 8 | 24, NONE, 12, 1, 0x6D, 5, 8, 2, 3, 0],
+    ];
+    assert_eq!(words.finish(), Ok(expected.concat()));
 }
 
 #[test]
@@ -213,15 +312,10 @@ fn blocks_end_where_they_end() {
     };
     let chosen = Statement::Switch {
         selector: Handle::new(0),
-        cases: vec![SwitchCase {
-            body: vec![looped],
-            fall_through: true,
-        }],
+        cases: vec![SwitchCase::new(vec![looped]).falling_through()],
     };
-    let function = Function {
-        body: vec![chosen, Statement::Kill],
-        ..Function::default()
-    };
+    let mut function = Function::new();
+    function.body = vec![chosen, Statement::Kill];
     words.add_function(&function);
     let heads = [
         vec![1 << 8 | 196, 0],

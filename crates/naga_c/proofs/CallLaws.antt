@@ -1,5 +1,5 @@
 -- How calls end that find no accepted module.
-use Rattle.std.proofs.Common.{◌≡◌, ◌⊎◌, ℕ, Result, ap, inl, inr, refl, subst, sym, ◌∙◌}
+use Rattle.std.proofs.Common.{◌≡◌, ◌⊎◌, ℕ, List, Result, ap, inl, inr, refl, subst, sym, ◌∙◌}
 use Rattle.naga_exprs.specs.Math.{math_typing}
 use Rattle.naga_flags.specs.declared.flags.Capabilities.{Capabilities}
 use Rattle.naga_flags.specs.declared.flags.ShaderStages.{ShaderStages}

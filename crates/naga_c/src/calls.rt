@@ -113,8 +113,8 @@ struct SlotCall<'a> {
 
 /// Writes the slots of a type of words.
 fn words_slots(alloc: Global, call: SlotCall<'_>, slots: &mut u64) -> Status
-    ensures { OfWords call.options.now call.words.now
-        (λ subject. ChecksSlots subject call.ty call.offset slots.new) (λ _. slots.new ≡ 0) result }
+    ensures { OfWords call.entry.options.now call.entry.words.now
+        (λ subject. ChecksSlots subject call.entry.ty call.entry.offset slots.new) (λ _. slots.new ≡ 0) result }
 {
     *slots = 0;
     match subject_of_words(alloc, call.words, call.options) {

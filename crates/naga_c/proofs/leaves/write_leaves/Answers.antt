@@ -11,12 +11,12 @@ pub returns-then-not-push : goal.returns-then-not-push
 returns-then-not-push c =
     let next = rw c.in-Ok-Some.field-0-is at c.in-Ok-Some.ensures.ok in
     writing_full _ _ _ _ _ _ c.leaves.cursor c.next.new.self (buffers c.leaves.leaves c.leaves.paths c.leaves.counts) _ c.path.result.now (bytes_of c.in-Ok-Some.leaf)
-    c.leaves.invariant next c.path.ensures (omega (arith, c.if-leaves-most.false)) (c.push.ensures.full c.if-not-push.true) (c.push.ensures.same c.if-not-push.true)
+    c.leaves.invariant next c.path.ensures (omega (arith, c.if-counts-query.false)) (c.push.ensures.full c.if-not-push.true) (c.push.ensures.same c.if-not-push.true)
 
-pub returns-then-leaves-most : goal.returns-then-leaves-most
-returns-then-leaves-most c =
+pub returns-then-counts-query : goal.returns-then-counts-query
+returns-then-counts-query c =
     let next = rw c.in-Ok-Some.field-0-is at c.in-Ok-Some.ensures.ok in
-    writing_over _ _ _ _ _ _ c.leaves.cursor c.next.new.self (buffers c.leaves.leaves c.leaves.paths c.leaves.counts) (bytes_of c.in-Ok-Some.leaf) c.leaves.invariant next (omega (arith, c.if-leaves-most.true))
+    writing_over _ _ _ _ _ _ c.leaves.cursor c.next.new.self (buffers c.leaves.leaves c.leaves.paths c.leaves.counts) (bytes_of c.in-Ok-Some.leaf) c.leaves.invariant next (omega (arith, c.if-counts-query.true))
 
 pub leaves-preserved : goal.leaves-preserved
 leaves-preserved c =

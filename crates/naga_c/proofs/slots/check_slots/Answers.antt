@@ -3,17 +3,17 @@ use Rattle.naga_c.specs.Slots.{AreSlotsOf, none, not_accepted, written}
 use Rattle.naga_c.proofs.CallLaws.{accepted_as, ends_refused, settings_as}
 use Rattle.naga_c.proofs.slots.check_slots.Goals as goal
 
-pub returns-in-Ok-Ok : goal.returns-in-Ok-Ok
-returns-in-Ok-Ok c =
+pub returns-in-Ok-slots_of : goal.returns-in-Ok-slots_of
+returns-in-Ok-slots_of c =
     let same = settings_as c.args.subject.now c.args.subject.now.flags c.validator_for-validator.result c.validator_for-validator.ensures in
     let m = c.args.subject.now.«module» in
-    let slots = subst (λ (n : ℕ). AreSlotsOf m c.args.ty c.args.offset (record { 0 = n })) (sym c.to_raw.ensures) c.in-Ok-Ok.ensures.found.1 in
-    written c.validate.new.validator.infos _ (accepted_as m _ _ _ _ same c.in-Ok.ensures.result) c.in-Ok-Ok.ensures.found.0 slots refl
+    let slots = subst (λ (n : ℕ). AreSlotsOf m c.args.ty c.args.offset (record { 0 = n })) (sym c.to_raw.ensures) c.in-Ok-slots_of.ensures.found.1 in
+    written c.validate.new.validator.infos _ (accepted_as m _ _ _ _ same c.in-Ok.ensures.result) c.in-Ok-slots_of.ensures.found.0 slots refl
 
-pub returns-in-Ok-Err : goal.returns-in-Ok-Err
-returns-in-Ok-Err c =
+pub returns-in-Ok : goal.returns-in-Ok
+returns-in-Ok c =
     let same = settings_as c.args.subject.now c.args.subject.now.flags c.validator_for-validator.result c.validator_for-validator.ensures in
-    none c.validate.new.validator.infos _ (accepted_as c.args.subject.now.«module» _ _ _ _ same c.in-Ok.ensures.result) c.in-Ok-Err.ensures.none c.requires
+    none c.validate.new.validator.infos _ (accepted_as c.args.subject.now.«module» _ _ _ _ same c.in-Ok.ensures.result) c.in-Err-slots_of.ensures.none c.requires
 
 pub returns : goal.returns
 returns c =
