@@ -748,9 +748,9 @@ naga_check_status naga_check_functions_with(const uint32_t *words, size_t word_c
 naga_check_status naga_check_leaves_with(const uint32_t *words, size_t word_count, const naga_check_options *options,
                                          const uint32_t *types, size_t type_count, uint32_t length,
                                          naga_check_leaf *leaves, size_t leaf_count, uint32_t *paths,
-                                         size_t path_count, naga_check_counts *counts);
+                                         size_t path_count, naga_check_counts *counts, naga_check_outcome *outcome);
 naga_check_status naga_check_slots_with(const uint32_t *words, size_t word_count, const naga_check_options *options,
-                                        uint32_t type, uint32_t offset, uint64_t *slots);
+                                        uint32_t type, uint32_t offset, uint64_t *slots, naga_check_outcome *outcome);
 naga_check_status naga_check_text_with(const uint8_t *text, size_t text_count, const naga_check_options *options,
                                        naga_check_type_info *infos, size_t info_count, naga_check_outcome *outcome);
 naga_check_status naga_check_report_with(const uint8_t *text, size_t text_count, uint8_t *report, size_t report_count,
@@ -797,34 +797,39 @@ static inline naga_check_status naga_check_functions(const uint32_t *words, size
  * at which bytes hosts put values. A runtime-sized array counts as `length` elements. Leaves come in the
  * order of their paths. counts says how many were written: with NAGA_CHECK_OK all of them, with
  * NAGA_CHECK_ROOM the first ones, as many as there was room for, with NAGA_CHECK_LIMIT as many as the options allow,
- * with NAGA_CHECK_MEMORY maybe some, else none. */
+ * with NAGA_CHECK_MEMORY maybe some, else none. outcome is as of naga_check_words, except that nothing was written;
+ * if the module was accepted before memory was refused or the limit came, it has how many types, functions and
+ * entry points there are. */
 static inline naga_check_status naga_check_leaves(const uint32_t *words, size_t word_count,
                                                   const naga_check_options *options, const uint32_t *types,
                                                   size_t type_count, uint32_t length, naga_check_leaf *leaves,
                                                   size_t leaf_count, uint32_t *paths, size_t path_count,
-                                                  naga_check_counts *counts) {
+                                                  naga_check_counts *counts, naga_check_outcome *outcome) {
   const naga_check_options chosen = naga_check_options_or_default(options);
   const uint32_t no_words = 0;
   naga_check_leaf no_leaf;
   uint32_t no_path;
-  naga_check_counts unwanted;
+  naga_check_counts unwanted_counts;
+  naga_check_outcome unwanted;
   return naga_check_leaves_with(words ? words : &no_words, word_count, &chosen, types ? types : &no_words, type_count,
                                 length, leaves ? leaves : &no_leaf, leaf_count, paths ? paths : &no_path, path_count,
-                                counts ? counts : &unwanted);
+                                counts ? counts : &unwanted_counts, outcome ? outcome : &unwanted);
 }
 
 /* Validates a module as naga_check_words does, and writes the slots of immediate data that a value of a type
  * uses from a byte on: bit k is 1 if the value has one of the bytes 4 * k to 4 * k + 3. Hosts have to be allowed to
  * share values of the type: the flags of its info have NAGA_CHECK_TYPE_HOST_SHAREABLE; else the call returns
- * NAGA_CHECK_NOT_SHAREABLE. Without NAGA_CHECK_OK it writes 0. */
+ * NAGA_CHECK_NOT_SHAREABLE. Without NAGA_CHECK_OK it writes 0. outcome is as of naga_check_words, except that nothing
+ * was written. */
 static inline naga_check_status naga_check_slots(const uint32_t *words, size_t word_count,
                                                  const naga_check_options *options, uint32_t type, uint32_t offset,
-                                                 uint64_t *slots) {
+                                                 uint64_t *slots, naga_check_outcome *outcome) {
   const naga_check_options chosen = naga_check_options_or_default(options);
   const uint32_t no_words = 0;
-  uint64_t unwanted;
+  uint64_t no_slots;
+  naga_check_outcome unwanted;
   return naga_check_slots_with(words ? words : &no_words, word_count, &chosen, type, offset,
-                               slots ? slots : &unwanted);
+                               slots ? slots : &no_slots, outcome ? outcome : &unwanted);
 }
 
 /* Validates a module in the text of docs/TEXT.md, and writes what naga_check_words writes of the module in words. */

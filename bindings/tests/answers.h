@@ -75,10 +75,10 @@ static inline void ask(const question *asked, int call, answer *given) {
     break;
   case ABOUT_LEAVES:
     given->status = naga_check_leaves(words, count, &by_words, &asked->type, 1, 3, given->leaves, MOST_LEAVES,
-                                      given->paths, MOST_INDEXES, &given->counts);
+                                      given->paths, MOST_INDEXES, &given->counts, &given->outcome);
     break;
   default:
-    given->status = naga_check_slots(words, count, &by_words, asked->type, 4, &given->slots);
+    given->status = naga_check_slots(words, count, &by_words, asked->type, 4, &given->slots, &given->outcome);
   }
 }
 

@@ -56,9 +56,12 @@ static void try_words(const uint32_t *module, size_t count) {
   require(first != NAGA_CHECK_REFUSED || second == NAGA_CHECK_REFUSED, "functions of a refused module");
   require((first == NAGA_CHECK_UNREADABLE) == (second == NAGA_CHECK_UNREADABLE), "two ways to read");
   for (*type = 0; *type < 20; *type += 5) {
-    note(naga_check_leaves(words, count, &by_words, type, 1, 2, leaves, FEW_LEAVES, paths, FEW_INDEXES, counts));
+    note(naga_check_leaves(words, count, &by_words, type, 1, 2, leaves, FEW_LEAVES, paths, FEW_INDEXES, counts,
+                           outcome));
+    require(first != NAGA_CHECK_REFUSED || outcome->stage != 0, "leaves of a refused module");
     require(counts->leaves <= FEW_LEAVES && counts->paths <= FEW_INDEXES, "more leaves than there is room for");
-    note(naga_check_slots(words, count, &by_words, *type, *type, slots));
+    note(naga_check_slots(words, count, &by_words, *type, *type, slots, outcome));
+    require(first != NAGA_CHECK_REFUSED || outcome->stage != 0, "slots of a refused module");
   }
 }
 

@@ -99,18 +99,18 @@ class Library:
         return status, outcome, stages[:outcome.written]
 
     def leaves(self, module, ty, length):
-        counts, leaves = self.header.counts(), (self.header.leaf * MOST_LEAVES)()
+        counts, leaves, outcome = self.header.counts(), (self.header.leaf * MOST_LEAVES)(), self.header.outcome()
         paths, given = (ctypes.c_uint32 * (64 * MOST_LEAVES))(), array(ctypes.c_uint32, module.words)
         status = self.call("leaves", given, len(module.words), ctypes.byref(module.options(self.header, True)),
                            array(ctypes.c_uint32, [ty]), 1, ctypes.c_uint32(length), leaves, len(leaves), paths,
-                           len(paths), ctypes.byref(counts))
+                           len(paths), ctypes.byref(counts), ctypes.byref(outcome))
         found = [(leaf, paths[leaf.path_at:leaf.path_at + leaf.path_length]) for leaf in leaves[:counts.leaves]]
         return status, found
 
     def slots(self, module, ty, offset):
-        slots, given = ctypes.c_uint64(), array(ctypes.c_uint32, module.words)
+        slots, given, outcome = ctypes.c_uint64(), array(ctypes.c_uint32, module.words), self.header.outcome()
         status = self.call("slots", given, len(module.words), ctypes.byref(module.options(self.header, True)),
-                           ctypes.c_uint32(ty), ctypes.c_uint32(offset), ctypes.byref(slots))
+                           ctypes.c_uint32(ty), ctypes.c_uint32(offset), ctypes.byref(slots), ctypes.byref(outcome))
         return status, slots.value
 
 

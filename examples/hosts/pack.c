@@ -32,7 +32,9 @@ int main(void) {
     return 1;
   }
   if (infos[pair].size > sizeof buffer) return 1;
-  if (naga_check_leaves(words, word_count, NULL, &pair, 1, 0, leaves, 2, paths, 2, &counts) != NAGA_CHECK_OK) return 1;
+  if (naga_check_leaves(words, word_count, NULL, &pair, 1, 0, leaves, 2, paths, 2, &counts, NULL) != NAGA_CHECK_OK) {
+    return 1;
+  }
   for (i = 0; i < counts.leaves; i++) {
     const uint32_t member = paths[leaves[i].path_at];
     memcpy(buffer + leaves[i].first, member == 0 ? (const void *)&number : vector, leaves[i].size);

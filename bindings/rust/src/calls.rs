@@ -215,17 +215,6 @@ fn error_of(status: NagaCheckStatus, outcome: &NagaCheckOutcome) -> Error {
     }
 }
 
-/// The error of a call that returns its status only. What is wrong with the module is looked up.
-fn error_of_status(status: NagaCheckStatus, subject: Subject<'_>) -> Error {
-    match status {
-        sys::NAGA_CHECK_REFUSED | sys::NAGA_CHECK_UNREADABLE => {
-            let (status, outcome) = raw::check_words(subject, &mut []);
-            error_of(status, &outcome)
-        }
-        _ => error_of(status, &NagaCheckOutcome::default()),
-    }
-}
-
 /// Reports on a module in the text that the program `naga_check` reads, as the program does: the text's own settings are
 /// in force, so this is for texts that a host wrote itself. [`check_text`] takes options.
 ///
@@ -426,7 +415,8 @@ pub fn leaves_up_to(
     let mut found: Vec<NagaCheckLeaf> = buffer(FIRST_ROOM.min(most))?;
     let mut paths: Vec<u32> = buffer(FIRST_ROOM)?;
     loop {
-        let (status, counts) = raw::leaves(subject, &types, length, &mut found, &mut paths);
+        let (status, counts, outcome) =
+            raw::leaves(subject, &types, length, &mut found, &mut paths);
         let count = counts.leaves as usize;
         match status {
             sys::NAGA_CHECK_ROOM if count < most => {
@@ -445,7 +435,7 @@ pub fn leaves_up_to(
                     are_all: status == sys::NAGA_CHECK_OK,
                 });
             }
-            _ => return Err(error_of_status(status, subject)),
+            _ => return Err(error_of(status, &outcome)),
         }
     }
 }
@@ -477,7 +467,7 @@ pub fn slots(
     const STACK_OF_STRUCT: usize = 1024;
     let subject = Subject { words, options };
     let structs = count_items(words, |opcode| opcode == sys::NAGA_CHECK_OP_STRUCT);
-    let (status, slots) = if structs <= MOST_STRUCTS {
+    let (status, slots, outcome) = if structs <= MOST_STRUCTS {
         raw::slots(subject, ty.index(), offset)
     } else {
         // All structs may be nested, and the library calls itself for each.
@@ -491,6 +481,6 @@ pub fn slots(
     };
     match status {
         sys::NAGA_CHECK_OK => Ok(slots),
-        _ => Err(error_of_status(status, subject)),
+        _ => Err(error_of(status, &outcome)),
     }
 }

@@ -105,10 +105,11 @@ pub(crate) fn leaves(
     length: u32,
     leaves: &mut [NagaCheckLeaf],
     paths: &mut [u32],
-) -> (NagaCheckStatus, NagaCheckCounts) {
+) -> (NagaCheckStatus, NagaCheckCounts, NagaCheckOutcome) {
     version::require();
     let mut counts = NagaCheckCounts::default();
-    // SAFETY: the buffers are slices, the options are a reference, and `counts` is a variable of its own.
+    let mut outcome = NagaCheckOutcome::default();
+    // SAFETY: the buffers are slices, the options are a reference, and the rest are variables of their own.
     let status = unsafe {
         sys::naga_check_leaves_with(
             subject.words.as_ptr(),
@@ -122,16 +123,22 @@ pub(crate) fn leaves(
             paths.as_mut_ptr(),
             paths.len(),
             &raw mut counts,
+            &raw mut outcome,
         )
     };
-    (status, counts)
+    (status, counts, outcome)
 }
 
 /// Returns the slots of immediate data that a value of a type uses from a byte on.
-pub(crate) fn slots(subject: Subject<'_>, ty: u32, offset: u32) -> (NagaCheckStatus, u64) {
+pub(crate) fn slots(
+    subject: Subject<'_>,
+    ty: u32,
+    offset: u32,
+) -> (NagaCheckStatus, u64, NagaCheckOutcome) {
     version::require();
     let mut slots = 0;
-    // SAFETY: the words are a slice, the options are a reference, and `slots` is a variable of its own.
+    let mut outcome = NagaCheckOutcome::default();
+    // SAFETY: the words are a slice, the options are a reference, and the rest are variables of their own.
     let status = unsafe {
         sys::naga_check_slots_with(
             subject.words.as_ptr(),
@@ -140,7 +147,8 @@ pub(crate) fn slots(subject: Subject<'_>, ty: u32, offset: u32) -> (NagaCheckSta
             ty,
             offset,
             &raw mut slots,
+            &raw mut outcome,
         )
     };
-    (status, slots)
+    (status, slots, outcome)
 }

@@ -556,6 +556,7 @@ unsafe extern "C" {
         paths: *mut u32,
         path_count: usize,
         counts: *mut NagaCheckCounts,
+        outcome: *mut NagaCheckOutcome,
     ) -> NagaCheckStatus;
 
     /// Validates a module in words, and writes the slots of immediate data that a value uses.
@@ -566,6 +567,7 @@ unsafe extern "C" {
         r#type: u32,
         offset: u32,
         slots: *mut u64,
+        outcome: *mut NagaCheckOutcome,
     ) -> NagaCheckStatus;
 
     /// Validates a module in a text.

@@ -14,9 +14,10 @@ use Rattle.naga_valid.specs.Accepted.{Accepts}
 use Rattle.naga_c.specs.declared.subject.Subject.{Subject}
 use Rattle.naga_c.specs.Buffers.{BeginsWith}
 use Rattle.naga_c.specs.Calls.{IsNotAccepted}
-use Rattle.naga_c.specs.Verdicts.{settings_in}
+use Rattle.naga_c.specs.Verdicts.{counts_of, settings_in}
 use Rattle.naga_c.specs.declared.results.Counts.{Counts}
 use Rattle.naga_c.specs.declared.results.LeafRow.{LeafRow}
+use Rattle.naga_c.specs.declared.results.Outcome.{Outcome}
 use Rattle.naga_c.specs.declared.status.Status.{Status}
 use Rattle.naga_c.specs.declared.status.Status.TheVariants.{Done, OutOfMemory, NoType, Room, Limit}
 
@@ -154,8 +155,9 @@ abbrev pub LeavesBuffers : (old new : Buffers) → Type 0
 LeavesBuffers old new = new ≡ record old { counts = no_counts }
 
 -- a call on a module found the buffers `old` and left `new`, which begin with what it found of the leaves of
--- `types`, if the module is accepted, and else are as they were
-pub data ChecksLeaves (subject : Subject) (types : List ℕ) (n most : ℕ) (old new : Buffers) (status : Status) : Type 0 where
+-- `types`, if the module is accepted, and else are as they were; and it left an outcome and a status
+pub data ChecksLeaves (subject : Subject) (types : List ℕ) (n most : ℕ) (old new : Buffers) (outcome : Outcome) (status : Status) : Type 0 where
   accepted : (infos : List TypeInfo) (lists : ModuleInfoLists) → Accepts full_resolves subject.«module» (settings_in subject) infos lists
-      → (answers : List Answer) → AreWritten answers old new → ReportsLeaves subject.«module» types n most answers new status → ChecksLeaves subject types n most old new status
-  not_accepted : IsNotAccepted subject.«module» (settings_in subject) (λ _. LeavesBuffers old new) status → ChecksLeaves subject types n most old new status
+      → (answers : List Answer) → AreWritten answers old new → ReportsLeaves subject.«module» types n most answers new status → outcome ≡ counts_of subject.«module»
+      → ChecksLeaves subject types n most old new outcome status
+  not_accepted : IsNotAccepted subject.«module» (settings_in subject) (λ refused. LeavesBuffers old new × (outcome ≡ refused)) status → ChecksLeaves subject types n most old new outcome status

@@ -13,7 +13,8 @@ use Rattle.naga_typing.specs.FullTyping.{full_resolves}
 use Rattle.naga_valid.specs.Accepted.{Accepts}
 use Rattle.naga_c.specs.declared.subject.Subject.{Subject}
 use Rattle.naga_c.specs.Calls.{IsNotAccepted}
-use Rattle.naga_c.specs.Verdicts.{settings_in}
+use Rattle.naga_c.specs.Verdicts.{counts_of, settings_in}
+use Rattle.naga_c.specs.declared.results.Outcome.{Outcome}
 use Rattle.naga_c.specs.declared.status.Status.{Status}
 use Rattle.naga_c.specs.declared.status.Status.TheVariants.{Done, NoType, NotShareable}
 
@@ -33,11 +34,11 @@ pub data HasNoSlots (infos : List TypeInfo) (ty : ℕ) (status : Status) : Type 
   no_type : length infos ≤ ty → status ≡ NoType → HasNoSlots infos ty status
   not_shareable : ty < length infos → ¬ (IsShareable infos ty) → status ≡ NotShareable → HasNoSlots infos ty status
 
--- a call on a module wrote `slots` and ended with `status`: the slots that a value of the type of index `ty` uses
--- from the byte `offset` on, if the module is accepted and hosts may share such values, else 0
-pub data ChecksSlots (subject : Subject) (ty offset slots : ℕ) (status : Status) : Type 0 where
+-- a call on a module wrote `slots` and `outcome` and ended with `status`: the slots that a value of the type of index
+-- `ty` uses from the byte `offset` on, if the module is accepted and hosts may share such values, else 0
+pub data ChecksSlots (subject : Subject) (ty offset slots : ℕ) (outcome : Outcome) (status : Status) : Type 0 where
   written : (infos : List TypeInfo) (lists : ModuleInfoLists) → Accepts full_resolves subject.«module» (settings_in subject) infos lists → IsShareable infos ty
-      → AreSlotsOf subject.«module» ty offset (record { 0 = slots }) → status ≡ Done → ChecksSlots subject ty offset slots status
+      → AreSlotsOf subject.«module» ty offset (record { 0 = slots }) → outcome ≡ counts_of subject.«module» → status ≡ Done → ChecksSlots subject ty offset slots outcome status
   none : (infos : List TypeInfo) (lists : ModuleInfoLists) → Accepts full_resolves subject.«module» (settings_in subject) infos lists → HasNoSlots infos ty status
-      → slots ≡ 0 → ChecksSlots subject ty offset slots status
-  not_accepted : IsNotAccepted subject.«module» (settings_in subject) (λ _. slots ≡ 0) status → ChecksSlots subject ty offset slots status
+      → slots ≡ 0 → outcome ≡ counts_of subject.«module» → ChecksSlots subject ty offset slots outcome status
+  not_accepted : IsNotAccepted subject.«module» (settings_in subject) (λ refused. (slots ≡ 0) × (outcome ≡ refused)) status → ChecksSlots subject ty offset slots outcome status

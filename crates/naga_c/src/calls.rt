@@ -69,19 +69,19 @@ struct LeafCall<'a> {
     length: u32,
 }
 
-/// Writes the leaves of types of words.
+/// Writes the leaves of types of words. Returns also what was found out about the module.
 fn words_leaves(
     alloc: Global,
     call: LeafCall<'_>,
     leaves: &mut [LeafRow],
     paths: &mut [u32],
     counts: &mut Counts,
-) -> Status
+) -> (Outcome, Status)
     ensures { let old = buffers leaves.old paths.old no_counts in let new = buffers leaves.new paths.new counts.new in
         OfWords call.entry.options.now call.entry.words.now
         (λ subject. ChecksLeaves subject call.entry.types.now call.entry.length call.entry.options.now.most_leaves
-        old new)
-        (λ _. LeavesBuffers old new) result }
+        old new result.0)
+        (λ outcome. LeavesBuffers old new × (result.0 ≡ outcome)) result.1 }
 {
     *counts = Counts {
         leaves: 0,
@@ -97,7 +97,7 @@ fn words_leaves(
             };
             check_leaves(alloc, queries, leaves, paths, counts)
         }
-        Err(why) => status_without(why),
+        Err(why) => (outcome_without(why), status_without(why)),
     }
 }
 
@@ -111,15 +111,16 @@ struct SlotCall<'a> {
     offset: u32,
 }
 
-/// Writes the slots of a type of words.
-fn words_slots(alloc: Global, call: SlotCall<'_>, slots: &mut u64) -> Status
+/// Writes the slots of a type of words. Returns also what was found out about the module.
+fn words_slots(alloc: Global, call: SlotCall<'_>, slots: &mut u64) -> (Outcome, Status)
     ensures { OfWords call.entry.options.now call.entry.words.now
-        (λ subject. ChecksSlots subject call.entry.ty call.entry.offset slots.new) (λ _. slots.new ≡ 0) result }
+        (λ subject. ChecksSlots subject call.entry.ty call.entry.offset slots.new result.0)
+        (λ outcome. (slots.new ≡ 0) × (result.0 ≡ outcome)) result.1 }
 {
     *slots = 0;
     match subject_of_words(alloc, call.words, call.options) {
         Ok(subject) => check_slots(alloc, &subject, call.ty, call.offset, slots),
-        Err(why) => status_without(why),
+        Err(why) => (outcome_without(why), status_without(why)),
     }
 }
 
@@ -167,11 +168,12 @@ pub extern "C" fn naga_check_leaves_with(
     leaves: &mut [LeafRow],
     paths: &mut [u32],
     counts: &mut Counts,
+    outcome: &mut Outcome,
 ) -> u32
     ensures { let old = buffers leaves.old paths.old no_counts in let new = buffers leaves.new paths.new counts.new in
         Returns result (OfWords options.now words.now
-        (λ subject. ChecksLeaves subject types.now length options.now.most_leaves old new)
-        (λ _. LeavesBuffers old new)) }
+        (λ subject. ChecksLeaves subject types.now length options.now.most_leaves old new outcome.new)
+        (λ found. LeavesBuffers old new × (outcome.new ≡ found))) }
 {
     let call = LeafCall {
         words,
@@ -179,7 +181,9 @@ pub extern "C" fn naga_check_leaves_with(
         types,
         length,
     };
-    words_leaves(alloc, call, leaves, paths, counts).code()
+    let (found, status) = words_leaves(alloc, call, leaves, paths, counts);
+    *outcome = found;
+    status.code()
 }
 
 /// Validates a module in words, and writes the slots of immediate data that a value of a type uses from a byte on, if
@@ -192,9 +196,11 @@ pub extern "C" fn naga_check_slots_with(
     ty: u32,
     offset: u32,
     slots: &mut u64,
+    outcome: &mut Outcome,
 ) -> u32
-    ensures { Returns result (OfWords options.now words.now (λ subject. ChecksSlots subject ty offset slots.new)
-        (λ _. slots.new ≡ 0)) }
+    ensures { Returns result (OfWords options.now words.now
+        (λ subject. ChecksSlots subject ty offset slots.new outcome.new)
+        (λ found. (slots.new ≡ 0) × (outcome.new ≡ found))) }
 {
     let call = SlotCall {
         words,
@@ -202,5 +208,7 @@ pub extern "C" fn naga_check_slots_with(
         ty,
         offset,
     };
-    words_slots(alloc, call, slots).code()
+    let (found, status) = words_slots(alloc, call, slots);
+    *outcome = found;
+    status.code()
 }

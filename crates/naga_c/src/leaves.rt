@@ -7,9 +7,9 @@ ghost use Rattle.naga_ir.specs.ItemReferences.{global_lists};
 ghost use Rattle.naga_leaves.specs.Leaf.{bytes_of};
 ghost use Rattle.std.specs.Prelude.{◌≡◌, ◌<◌, ◌≤◌, ◌↔◌, [], ◌∷◌, IsFalse, IsTrue, length};
 
-use crate::results::{Counts, LeafRow};
+use crate::results::{Counts, LeafRow, Outcome};
 use crate::status::Status;
-use crate::verdict::{refused_status, validate, validator_for};
+use crate::verdict::{counts_of, refused_outcome, refused_status, validate, validator_for};
 use naga_valid::{Handle, Leaf, Module, TypeTag, leaves_of};
 use crate::subject::Subject;
 use std::alloc::Global;
@@ -165,21 +165,28 @@ fn write_all(
     Status::Done
 }
 
-/// Writes the leaves of types of a module.
+/// Writes the leaves of types of a module. Returns also what was found out about it.
 pub(crate) fn check_leaves(
     alloc: Global,
     queries: Queries<'_>,
     leaves: &mut [LeafRow],
     paths: &mut [u32],
     counts: &mut Counts,
-) -> Status
+) -> (Outcome, Status)
     requires { counts.old ≡ no_counts }
     ensures { ChecksLeaves queries.entry.subject.now queries.entry.types.now queries.entry.length queries.entry.most
-        (buffers leaves.old paths.old counts.old) (buffers leaves.new paths.new counts.new) result }
+        (buffers leaves.old paths.old counts.old) (buffers leaves.new paths.new counts.new) result.0 result.1 }
 {
+    let module = &queries.subject.module;
     let mut validator = validator_for(alloc, queries.subject);
     match validate(&mut validator, queries.subject) {
-        Ok(_) => write_all(alloc, queries, leaves, paths, counts),
-        Err(error) => refused_status(error.as_inner()),
+        Ok(_) => {
+            let status = write_all(alloc, queries, leaves, paths, counts);
+            (counts_of(module), status)
+        }
+        Err(error) => {
+            let inner = error.as_inner();
+            (refused_outcome(module, inner), refused_status(inner))
+        }
     }
 }

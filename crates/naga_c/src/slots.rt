@@ -5,8 +5,9 @@ ghost use Rattle.naga_ir.specs.Handles.{GlobalReferencesOk};
 ghost use Rattle.naga_ir.specs.ItemReferences.{global_lists};
 ghost use Rattle.std.specs.Prelude.{◌≡◌, IfErr, IfOk, length};
 
+use crate::results::Outcome;
 use crate::status::Status;
-use crate::verdict::{refused_status, validate, validator_for};
+use crate::verdict::{counts_of, refused_outcome, refused_status, validate, validator_for};
 use naga_typing::context::to_ctx;
 use naga_valid::{Flags, FullTyping, Handle, ImmediateSlots, Module, TypeFlags, Validator};
 use crate::subject::Subject;
@@ -42,26 +43,30 @@ fn slots_of(
     Ok(ImmediateSlots::from_type(inner, offset, &module.types, to_ctx(module)))
 }
 
-/// Writes the slots of a type.
+/// Writes the slots of a type. Returns also what was found out about its module.
 pub(crate) fn check_slots(
     alloc: Global,
     subject: &Subject,
     ty: u32,
     offset: u32,
     slots: &mut u64,
-) -> Status
+) -> (Outcome, Status)
     requires { slots.old ≡ 0 }
-    ensures { ChecksSlots subject.now ty offset slots.new result }
+    ensures { ChecksSlots subject.now ty offset slots.new result.0 result.1 }
 {
+    let module = &subject.module;
     let mut validator = validator_for(alloc, subject);
     match validate(&mut validator, subject) {
-        Ok(_) => match slots_of(&subject.module, &validator, ty, offset) {
+        Ok(_) => match slots_of(module, &validator, ty, offset) {
             Ok(used) => {
                 *slots = used.to_raw();
-                Status::Done
+                (counts_of(module), Status::Done)
             }
-            Err(status) => status,
+            Err(status) => (counts_of(module), status),
         },
-        Err(error) => refused_status(error.as_inner()),
+        Err(error) => {
+            let inner = error.as_inner();
+            (refused_outcome(module, inner), refused_status(inner))
+        }
     }
 }

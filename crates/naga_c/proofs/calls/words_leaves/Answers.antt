@@ -5,4 +5,4 @@ pub returns-in-Ok : goal.returns-in-Ok
 returns-in-Ok c = (Ok c.in-Ok.subject, c.in-Ok.ensures, c.check_leaves.ensures)
 
 pub returns-in-Err : goal.returns-in-Err
-returns-in-Err c = (Err c.in-Err.why, c.in-Err.ensures, (refl, c.status_without.ensures))
+returns-in-Err c = (Err c.in-Err.why, c.in-Err.ensures, ((refl, c.outcome_without.ensures), c.status_without.ensures))
