@@ -386,11 +386,7 @@ fn a_stride_is_told_with_what_was_expected() {
 fn a_handle_is_told_with_its_kind() {
     let mut words = Words::new();
     let init = words.add_global_expression(&Expression::Literal(Literal::U32(1)));
-    words.add_constant(&Constant {
-        name: None,
-        ty: Handle::new(7),
-        init,
-    });
+    words.add_constant(&Constant::new(Handle::new(7), init));
     let handle = "Handle 7 of Type is either not present, or inaccessible yet";
     assert_eq!(
         rules_of(words),

@@ -6,14 +6,14 @@ ghost use Rattle.naga_text.specs.Words.{lines_of};
 ghost use Rattle.naga_text.specs.declared.text.Contents.{Contents};
 ghost use Rattle.naga_text.specs.declared.text.TextError.TheVariants as error;
 ghost use Rattle.naga_text.specs.LineWords.{first_line, lines_after, words_left};
-ghost use Rattle.naga_text.specs.steps.SoFar.{AreAdded, AreRead, IsAdded, IsNewItem, IsNewType, IsReadNext, IsSetOnce, ReadSoFar, finished};
+ghost use Rattle.naga_text.specs.steps.SoFar.{AreAdded, AreRead, IsAdded, IsNewItem, IsNewType, IsReadNext, IsSetOnce, IsTypeAdded, ReadSoFar, finished};
 ghost use Rattle.std.specs.Prelude.{◌≡◌, ◌<◌, ◌∷◌, ◌++◌, IfErr, IfNone, IfOk, IfSome, None, Ok, [], length, map};
 ghost use Rattle.naga_text.specs.ErrorNames.{text_error_name};
 
 use crate::expressions::expression;
 use crate::line::{Line, short_line};
 use crate::line_words::LineWords;
-use crate::types::type_inner;
+use crate::types::{short_type, struct_type};
 use crate::words::equals;
 use naga_flags::flags::{Capabilities, ValidationFlags};
 use naga_ir::OutOfMemory;
@@ -140,6 +140,30 @@ fn add_type(types: &mut UniqueArena, inner: TypeInner) -> Result<bool, OutOfMemo
     Ok(handle.index() == count)
 }
 
+/// Adds the type that the words after `type` describe, and returns whether they do, and it is new and had room. A type
+/// without members is handed on as it was read, since it is wide, and most lines of a text are such types.
+fn add_type_of(
+    alloc: Global,
+    types: &mut UniqueArena,
+    words: &mut LineWords,
+) -> Result<bool, OutOfMemory>
+    ensures added { IfOk result (IsTypeAdded types.old (words_left words.old) types.new) }
+    ensures lines { lines_after words.new ≡ lines_after words.old }
+{
+    let Some(form) = words.next() else {
+        return Ok(false);
+    };
+    let inner = if equals(form, b"struct") {
+        struct_type(alloc, words)?
+    } else {
+        short_type(form, words)
+    };
+    match inner {
+        Some(inner) => add_type(types, inner),
+        None => Ok(false),
+    }
+}
+
 /// Adds an item, and returns whether the arena had room for it.
 fn add_item<T: Drop, K>(items: &mut Arena<T, K>, item: T) -> Result<bool, OutOfMemory>
     ensures { IfOk result (IsNewItem items.old item items.new) }
@@ -204,10 +228,7 @@ fn add_words(
         return Ok(false);
     };
     if equals(keyword, b"type") {
-        return match type_inner(alloc, words)? {
-            Some(inner) => add_type(&mut so_far.module.types, inner),
-            None => Ok(false),
-        };
+        return add_type_of(alloc, &mut so_far.module.types, words);
     }
     if equals(keyword, b"expr") {
         return match expression(alloc, words)? {

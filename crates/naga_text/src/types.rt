@@ -169,7 +169,11 @@ fn ray_query_type(words: &[&[u8]]) -> Option<TypeInner>
     })
 }
 
-fn struct_type(alloc: Global, words: &mut LineWords) -> Result<Option<TypeInner>, OutOfMemory>
+/// The type of the words after `struct`.
+pub(crate) fn struct_type(
+    alloc: Global,
+    words: &mut LineWords,
+) -> Result<Option<TypeInner>, OutOfMemory>
     ensures read { IfOk result (λ read. read ≡ struct_of (words_left words.old)) }
     ensures lines { lines_after words.new ≡ lines_after words.old }
 {
@@ -209,7 +213,7 @@ fn memberless_type(form: &[u8], words: &[&[u8]]) -> Option<TypeInner>
 
 /// The type of a form other than `struct`, and of the words after it, of which only so many are read as such a form
 /// has.
-fn short_type(form: &[u8], words: &mut LineWords) -> Option<TypeInner>
+pub(crate) fn short_type(form: &[u8], words: &mut LineWords) -> Option<TypeInner>
     ensures read { result ≡ read_by memberless_readers form.now (words_left words.old) }
     ensures lines { lines_after words.new ≡ lines_after words.old }
 {

@@ -14,7 +14,7 @@ use Rattle.naga_ir.specs.declared.types.«Type».{«Type»}
 use Rattle.naga_ir.specs.declared.types.ArraySize.{ArraySize}
 use Rattle.naga_ir.specs.declared.types.TypeInner.{TypeInner}
 use Rattle.naga_ir.specs.declared.types.TypeInner.TheVariants as form
-use Rattle.naga_types.proofs.CheckedTypes.{CheckedTypes, accepted_types, size_laid_out, stride_fits}
+use Rattle.naga_types.proofs.CheckedTypes.{accepted_types, size_laid_out, stride_fits}
 use Rattle.naga_types.proofs.LeafPlaces.{map_some}
 use Rattle.naga_types.proofs.WeakerConditions.{all-too, passed-too, same}
 use Rattle.naga_types.specs.AcceptedTypes.{AreTypesAccepted, AreTypesAcceptedBy, IsLaidOut, surroundings_by, types_by, types_rule}
@@ -23,7 +23,7 @@ use Rattle.naga_types.specs.Surroundings.{Surroundings, size_at}
 use Rattle.naga_types.specs.TypeRule.{array_checks, type_rule, type_rule_with}
 use Rattle.naga_types.specs.declared.error.TypeError.TheVariants.{InvalidArrayStride}
 use Rattle.naga_types.specs.declared.info.TypeInfo.{TypeInfo}
-use Rattle.naga_typing.specs.Leaves.{HasNoShortStride, inner_at, itself, size_at_index}
+use Rattle.naga_typing.specs.Leaves.{HasNoShortStride, itself}
 use Rattle.naga_typing.specs.declared.layouter.TypeLayout.{TypeLayout}
 
 any_stride : (s : Surroundings) (t : ℕ) (inner : TypeInner) (i : TypeInfo) → type_rule s t inner ≡ Ok i → type_rule_with true s t inner ≡ Ok i

@@ -5,7 +5,7 @@ use Rattle.naga_ir.specs.declared.types.«Type».{«Type»}
 use Rattle.naga_ir.specs.declared.types.TypeInner.{TypeInner}
 use Rattle.naga_text.specs.Text.{AreConsistent, AreForms, IsFirstUnreadable, IsReadable, IsText, capabilities_in, first_in, flags_in, module_of, resolved_in}
 use Rattle.naga_text.specs.declared.line.Line.{Line as Line_}
-use Rattle.naga_text.specs.steps.LineForms.{line_of}
+use Rattle.naga_text.specs.steps.LineForms.{line_of, type_of}
 use Rattle.naga_text.specs.declared.text.Contents.{Contents}
 use Rattle.naga_text.specs.declared.text.ContentsSoFar.{ContentsSoFar}
 use Rattle.naga_text.specs.declared.text.TextError.{TextError}
@@ -24,6 +24,10 @@ abbrev pub IsNewType : List «Type» → TypeInner → List «Type» → Bool �
 IsNewType old inner new added =
     let t : «Type» = record { name = None; inner = inner } in
     MatchBool added ((new ≡ old ++ t ∷ []) × CanAdd old t) (¬ (CanAdd old t))
+
+-- the type that the words after `type` describe was added, which could be added, or it can't be, or there is none
+abbrev pub IsTypeAdded : List «Type» → List (List ℕ) → List «Type» → Bool → Type 0
+IsTypeAdded old words new added = MatchOption (type_of words) (added ≡ false) (λ inner. IsNewType old inner new added)
 
 -- an item was added to an arena that had room, or the arena has none
 abbrev pub IsNewItem : {A : Type 0} → List A → A → List A → Bool → Type 0
