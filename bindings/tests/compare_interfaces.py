@@ -140,9 +140,9 @@ def compare_words(constants, text):
     same("form", {value for name, value in constants.items() if name.startswith("NAGA_CHECK_FORM_")}, forms)
     for enum in ("BINARY", "MATH"):
         same(f"{enum} of the page", numbers_of_prefix(constants, enum), numbers_of_page(text, enum))
-    limits = re.search(r"bits up to (\d+).*?\n.*? up to (\d+); without it (\d+)", text)
+    limits = re.search(r"bits up to (\d+).*?\n.*? up to (\d+); naga's default is (\d+)", text)
     ours = [constants["NAGA_CHECK_" + name] for name in ("VALIDATE_ALL", "CAPABILITY_ALL", "CAPABILITY_DEFAULT")]
-    same("limit of the page", dict(enumerate(ours)), dict(enumerate(map(int, limits.groups()))))
+    same("limit of the page", dict(enumerate(ours)), dict(enumerate(map(int, limits.groups() if limits else ()))))
 
 
 def numbers_of_prefix(constants, prefix):

@@ -1,7 +1,9 @@
-/* Puts 0, 1, 2^31 and 2^32 - 1 in the place of each word of a module, and cuts it after each word. Each call has to
- * return one of its statuses, and to keep to its buffers: behind each is a page that can't be read or written.
+/* Puts 0, 1, 2^31 and 2^32 - 1 in the place of each word of a module, and cuts it after each word; and then ROUNDS times
+ * changes a few words that are chosen by a seed, cuts it, or has an item say that it has more operands. Each call has to
+ * return one of its statuses, and to keep to its buffers: behind each is a page that can't be read or written. What is
+ * accepted with settings within the words, by options that let them narrow, is accepted without them.
  *
- *   hostile_words WORDS
+ *   hostile_words WORDS TYPE [ROUNDS]
  */
 #define _DEFAULT_SOURCE
 #include "answers.h"
@@ -30,6 +32,15 @@ static naga_check_counts *counts;
 static uint32_t *stages, *paths, *type;
 static uint64_t *slots;
 static unsigned long seen[NAGA_CHECK_NOT_SHAREABLE + 1];
+
+/* A number that the one before decides, so that each run does the same. */
+static uint64_t next_random(void) {
+  static uint64_t state = 0x9E3779B97F4A7C15u;
+  state ^= state << 13;
+  state ^= state >> 7;
+  state ^= state << 17;
+  return state >> 16;
+}
 
 static void require(int holds, const char *what) {
   if (holds) return;
@@ -65,11 +76,77 @@ static void try_words(const uint32_t *module, size_t count) {
   }
 }
 
+/* Leaves the settings out of words that can be read, and returns how many are left. */
+static size_t leave_out_settings(uint32_t *words, size_t count) {
+  size_t from = 0, to = 0;
+  while (from < count) {
+    const size_t length = 1 + (words[from] >> 8);
+    const uint32_t opcode = words[from] & 0xFFu;
+    if (opcode < NAGA_CHECK_OP_FLAGS || opcode > NAGA_CHECK_OP_RESOLVED) {
+      memmove(words + to, words + from, length * sizeof *words);
+      to += length;
+    }
+    from += length;
+  }
+  return to;
+}
+
+/* Whether settings within the words let nothing through that the options refuse. */
+static void try_settings(const uint32_t *module, size_t count) {
+  static uint32_t alone[MOST_WORDS];
+  naga_check_options options = by_words;
+  size_t left;
+  options.capabilities = next_random() % 2 ? NAGA_CHECK_CAPABILITY_DEFAULT : NAGA_CHECK_CAPABILITY_ALL;
+  options.flags = next_random() % 2 ? 0 : NAGA_CHECK_VALIDATE_ALL;
+  if (naga_check_words(module, count, &options, infos, FEW_TYPES, outcome) != NAGA_CHECK_OK) return;
+  memcpy(alone, module, count * sizeof *alone);
+  left = leave_out_settings(alone, count);
+  options.settings = NAGA_CHECK_SETTINGS_REFUSED;
+  require(naga_check_words(alone, left, &options, infos, FEW_TYPES, outcome) == NAGA_CHECK_OK, "settings loosen");
+  options.most_words = left;
+  require(naga_check_words(alone, left, &options, infos, FEW_TYPES, outcome) == NAGA_CHECK_OK, "a limit too soon");
+  options.most_words = left - (left != 0);
+  require(left == 0 || naga_check_words(alone, left, &options, infos, FEW_TYPES, outcome) == NAGA_CHECK_LIMIT,
+          "a limit too late");
+}
+
+/* One change that a seed chooses. Returns how many words are left. */
+static size_t change_words(uint32_t *words, size_t count) {
+  static const uint32_t likely[] = {0, 1, 2, 4, 0x101, 0x102, 0x203, 0x7FFFFFFFu, 0x80000000u, 0xFFFFFFFFu};
+  const size_t at = count == 0 ? 0 : next_random() % count;
+  if (count == 0) return 0;
+  switch (next_random() % 4) {
+  case 0:
+    words[at] = likely[next_random() % (sizeof likely / sizeof *likely)];
+    break;
+  case 1:
+    words[at] += (uint32_t)(next_random() % 5) << 8;
+    break;
+  case 2:
+    words[at] = (uint32_t)next_random();
+    break;
+  default:
+    if (next_random() % 8 == 0) return at;
+  }
+  return count;
+}
+
+static void try_many(const question *asked, unsigned long rounds) {
+  static uint32_t words[MOST_WORDS];
+  unsigned long round;
+  for (round = 0; round < rounds; round++) {
+    size_t count = asked->word_count, changes = 1 + next_random() % 4;
+    memcpy(words, asked->words, count * sizeof *words);
+    while (changes-- > 0) count = change_words(words, count);
+    try_words(words, count);
+    try_settings(words, count);
+  }
+}
+
 int main(int argc, char **argv) {
   static const uint32_t hostile[] = {0, 1, 0x80000000u, 0xFFFFFFFFu};
   static question asked;
   size_t at, value, cut;
-  (void)argc;
   read_words(argv[1], &asked);
   words_end = (uint32_t *)allocate_at_edge(sizeof asked.words) + MOST_WORDS;
   infos = allocate_at_edge(FEW_TYPES * sizeof *infos);
@@ -89,6 +166,7 @@ int main(int argc, char **argv) {
     asked.words[at] = right;
   }
   for (cut = 0; cut <= asked.word_count; cut++) try_words(asked.words, cut);
+  try_many(&asked, argc > 3 ? strtoul(argv[3], NULL, 10) : 0);
   printf("hostile_words: statuses");
   for (at = 0; at <= NAGA_CHECK_NOT_SHAREABLE; at++) printf(" %lu", seen[at]);
   printf(" from 0 to %d\n", NAGA_CHECK_NOT_SHAREABLE);
