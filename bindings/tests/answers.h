@@ -41,7 +41,7 @@ typedef struct {
 } question;
 
 /* The words of a file, a line each. */
-static void read_words(const char *path, question *asked) {
+static inline void read_words(const char *path, question *asked) {
   unsigned long word;
   FILE *file = fopen(path, "r");
   if (!file) {
