@@ -688,7 +688,7 @@ enum {
 };
 
 /* What was found out about a module. With NAGA_CHECK_MEMORY, NAGA_CHECK_LIMIT, NAGA_CHECK_OPTIONS and
- * NAGA_CHECK_SETTINGS all fields are 0. */
+ * NAGA_CHECK_SETTINGS all fields are 0, except those that naga_check_leaves names. */
 typedef struct naga_check_outcome {
   /* With NAGA_CHECK_UNREADABLE the index of the first word of the first item that can't be read, or the
    * number of words; of a text the number of the first line that can't be read, from 1. With NAGA_CHECK_REFUSED the
