@@ -105,13 +105,13 @@ class Library:
                            array(ctypes.c_uint32, [ty]), 1, ctypes.c_uint32(length), leaves, len(leaves), paths,
                            len(paths), ctypes.byref(counts), ctypes.byref(outcome))
         found = [(leaf, paths[leaf.path_at:leaf.path_at + leaf.path_length]) for leaf in leaves[:counts.leaves]]
-        return status, found
+        return status, outcome, found
 
     def slots(self, module, ty, offset):
         slots, given, outcome = ctypes.c_uint64(), array(ctypes.c_uint32, module.words), self.header.outcome()
         status = self.call("slots", given, len(module.words), ctypes.byref(module.options(self.header, True)),
                            ctypes.c_uint32(ty), ctypes.c_uint32(offset), ctypes.byref(slots), ctypes.byref(outcome))
-        return status, slots.value
+        return status, outcome, slots.value
 
 
 class Module:
@@ -235,8 +235,17 @@ def is_type(library, module, result, ty):
             (int(size), int(alignment), int(immediates == "Ok")) and report_line(library.header, ty, info) == expected)
 
 
+def is_outcome(library, module, outcome):
+    """Whether an outcome is the one of the call on types, except that no info was written."""
+    _, of_words, _ = library.words(module, True)
+    of_words.written = 0
+    return plain(outcome) == plain(of_words)
+
+
 def is_leaves(library, module, result, ty, length=1):
-    status, found = library.leaves(module, ty, length)
+    status, outcome, found = library.leaves(module, ty, length)
+    if not is_outcome(library, module, outcome):
+        return False
     if status == REFUSED:
         return UNKNOWN if not found else False
     more = ["and so on"] if status == ROOM else []
@@ -246,7 +255,9 @@ def is_leaves(library, module, result, ty, length=1):
 
 
 def is_slots(library, module, result, ty, offset):
-    status, slots = library.slots(module, ty, offset)
+    status, outcome, slots = library.slots(module, ty, offset)
+    if not is_outcome(library, module, outcome):
+        return False
     if status == REFUSED:
         return UNKNOWN if slots == 0 else False
     if status in (NO_TYPE, NOT_SHAREABLE):
