@@ -2,6 +2,7 @@ pub mod CallLaws
 pub mod CountLaws
 pub mod CursorLaws
 pub mod Fronts
+pub mod LeafCountLaws
 pub mod LeafLaws
 pub mod RowLaws
 pub mod SlotLaws

@@ -12,6 +12,7 @@ pub mod Calls
 pub mod Codes
 pub mod Functions
 pub mod Kinds
+pub mod LeafCounts
 pub mod Leaves
 pub mod Numbers
 pub mod Options

@@ -21,21 +21,21 @@ pub struct Queries<'a> {
     pub types: &'a [u32],
     /// How many elements a runtime-sized array has.
     pub length: u32,
-    /// The most leaves that may be written.
+    /// The most leaves that a call may come to.
     pub most: u64,
 }
 
 /// One type whose leaves are asked for.
 #[derive(Clone, Copy)]
-struct Query<'a> {
-    module: &'a Module,
-    ty: Handle<TypeTag>,
+pub(crate) struct Query<'a> {
+    pub(crate) module: &'a Module,
+    pub(crate) ty: Handle<TypeTag>,
     /// How many elements a runtime-sized array has.
-    length: u32,
+    pub(crate) length: u32,
     /// Its place among the types that are asked about.
-    place: u32,
-    /// The most leaves that may be written.
-    most: u64,
+    pub(crate) place: u32,
+    /// The most leaves that a call may come to.
+    pub(crate) most: u64,
 }
 
 /// A leaf that a cursor came to.
@@ -117,7 +117,7 @@ fn write_leaves(
 }
 
 /// Whether a module has a type of each index. So nothing is written if one is missing.
-fn has_types(module: &Module, types: &[u32]) -> bool
+pub(crate) fn has_types(module: &Module, types: &[u32]) -> bool
     ensures all { IsTrue result ↔ HasTypes «module».now types.now }
     ensures bound { length «module».now.types ≤ largest_u32 }
 {

@@ -7,6 +7,7 @@ mod calls;
 mod codes;
 mod functions;
 mod kinds;
+mod leaf_counts;
 mod leaves;
 mod numbers;
 mod options;
