@@ -1,5 +1,5 @@
-/* naga_check: the numbers of errors, which naga_check.h includes. In each enum they count from 1, in the order of naga's
- * variants, and a number never changes its meaning. */
+/* naga_check: the numbers of errors, which naga_check.h includes. In each enum they count from 1, in the order of
+ * naga's variants, and a number never changes its meaning. */
 #ifndef NAGA_CHECK_ERRORS_H
 #define NAGA_CHECK_ERRORS_H
 
