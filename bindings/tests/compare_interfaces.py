@@ -253,8 +253,8 @@ def compare_crates(constants, functions, structs, crates):
 
 def main():
     header_path, sys_path, words_path, crates = sys.argv[1:]
-    flags_path = header_path.removesuffix(".h") + "_flags.h"
-    header = without_comments(read(header_path) + read(flags_path))
+    parts = [header_path.removesuffix(".h") + part for part in (".h", "_errors.h", "_flags.h")]
+    header = without_comments("".join(read(part) for part in parts))
     sys_paths = [sys_path, *sorted(glob.glob(sys_path.removesuffix(".rs") + "/*.rs"))]
     rust = without_comments("".join(map(read, sys_paths)))
     constants = header_constants(header)

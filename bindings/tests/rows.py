@@ -38,7 +38,8 @@ class Header:
     """The structs and numbers of the header."""
 
     def __init__(self, path):
-        text = re.sub(r"/\*.*?\*/", "", open(path, encoding="utf-8").read(), flags=re.DOTALL)
+        parts = (open(path.removesuffix(".h") + part, encoding="utf-8").read() for part in (".h", "_errors.h"))
+        text = re.sub(r"/\*.*?\*/", "", "".join(parts), flags=re.DOTALL)
         found = re.findall(r"typedef struct naga_check_(\w+) \{(.*?)\}", text, re.DOTALL)
         structs = {name: struct(name, re.findall(r"(\w+) (\w+)(?:\[(\d+)\])?;", body)) for name, body in found}
         self.options, self.outcome, self.info, self.leaf, self.counts = (

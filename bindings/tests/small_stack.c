@@ -12,11 +12,6 @@
 #define GLOBAL(form, count) NAGA_CHECK_ITEM(NAGA_CHECK_GLOBAL_EXPRESSION(NAGA_CHECK_FORM_##form), count)
 #define ADD(...) add((const uint32_t[]){__VA_ARGS__}, sizeof((const uint32_t[]){__VA_ARGS__}) / sizeof(uint32_t))
 
-/* Options that leave what may be used to the words. */
-static const naga_check_options by_words = {
-    sizeof(naga_check_options), NAGA_CHECK_VALIDATE_ALL, NAGA_CHECK_CAPABILITY_ALL, 0, NAGA_CHECK_SETTINGS_NARROW,
-    UINT64_MAX, UINT64_MAX, UINT64_MAX};
-
 enum { DEEP = 20000, MOST_DEEP_WORDS = 1000000, STACK = 256 << 10 };
 
 static uint32_t words[MOST_DEEP_WORDS];
@@ -87,11 +82,6 @@ static void add_compositions(void) {
 
 static void compositions(void) { add_compositions(); }
 
-static void unchecked_compositions(void) {
-  ADD(NAGA_CHECK_ITEM(NAGA_CHECK_OP_FLAGS, 1), NAGA_CHECK_VALIDATE_ALL & ~NAGA_CHECK_VALIDATE_CONSTANTS);
-  add_compositions();
-}
-
 static void expressions(void) {
   uint32_t at;
   ADD(NAGA_CHECK_ITEM(NAGA_CHECK_OP_FUNCTION, 1), NONE);
@@ -138,7 +128,7 @@ static const struct {
     {"functions", functions, NAGA_CHECK_OK, NAGA_CHECK_OK, 1},
     {"filters", filters, NAGA_CHECK_OK, NAGA_CHECK_OK, 1},
     {"compositions", compositions, NAGA_CHECK_REFUSED, NAGA_CHECK_REFUSED, 1},
-    {"unchecked compositions", unchecked_compositions, NAGA_CHECK_OK, NONE, 1},
+    {"unchecked compositions", compositions, NAGA_CHECK_OK, NONE, 1},
 };
 
 /* Makes the calls on a module. Returns null if all return what they have to. */
@@ -151,11 +141,16 @@ static void *ask_about(void *at) {
   naga_check_counts counts;
   uint64_t slots;
   naga_check_status of_functions;
-  if (naga_check_words(words, count, &by_words, infos, 0, &outcome) != modules[which].of_words) return at;
-  of_functions = naga_check_functions(words, count, &by_words, paths, 0, &outcome);
+  naga_check_options options = NAGA_CHECK_OPTIONS_DEFAULT;
+  options.capabilities = NAGA_CHECK_CAPABILITY_ALL;
+  /* Compositions of which each has too many components are accepted only if constants are not validated. */
+  if (modules[which].write == compositions && modules[which].of_words == NAGA_CHECK_OK)
+    options.flags = NAGA_CHECK_VALIDATE_ALL & ~NAGA_CHECK_VALIDATE_CONSTANTS;
+  if (naga_check_words(words, count, &options, infos, 0, &outcome) != modules[which].of_words) return at;
+  of_functions = naga_check_functions(words, count, &options, paths, 0, &outcome);
   if (modules[which].of_functions != NONE && of_functions != modules[which].of_functions) return at;
-  naga_check_leaves(words, count, &by_words, &last_type, 1, 1, leaves, 4, paths, 2 * DEEP, &counts, &outcome);
-  if (modules[which].has_slots) naga_check_slots(words, count, &by_words, last_type, 0, &slots, &outcome);
+  naga_check_leaves(words, count, &options, &last_type, 1, 1, leaves, 4, paths, 2 * DEEP, &counts, &outcome);
+  if (modules[which].has_slots) naga_check_slots(words, count, &options, last_type, 0, &slots, &outcome);
   return NULL;
 }
 

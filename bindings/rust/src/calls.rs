@@ -215,8 +215,8 @@ fn error_of(status: NagaCheckStatus, outcome: &NagaCheckOutcome) -> Error {
     }
 }
 
-/// Reports on a module in the text that the program `naga_check` reads, as the program does: the text's own settings are
-/// in force, so this is for texts that a host wrote itself. [`check_text`] takes options.
+/// Reports on a module in the text that the program `naga_check` reads, as the program does: the text's own settings
+/// are in force, so this is for texts that a host wrote itself. [`check_text`] takes options.
 ///
 /// ```
 /// let report = naga_check::report(b"type scalar float 4\n")?;

@@ -9,9 +9,9 @@ ghost use Rattle.std.specs.Prelude.{◌≡◌, ◌<◌, ◌≤◌, ◌↔◌, []
 
 use crate::results::{Counts, LeafRow, Outcome};
 use crate::status::Status;
+use crate::subject::Subject;
 use crate::verdict::{counts_of, refused_outcome, refused_status, validate, validator_for};
 use naga_valid::{Handle, Leaf, Module, TypeTag, leaves_of};
-use crate::subject::Subject;
 use std::alloc::Global;
 
 /// The types of a module whose leaves are asked for.

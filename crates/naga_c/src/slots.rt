@@ -7,10 +7,10 @@ ghost use Rattle.std.specs.Prelude.{◌≡◌, IfErr, IfOk, length};
 
 use crate::results::Outcome;
 use crate::status::Status;
+use crate::subject::Subject;
 use crate::verdict::{counts_of, refused_outcome, refused_status, validate, validator_for};
 use naga_typing::context::to_ctx;
 use naga_valid::{Flags, FullTyping, Handle, ImmediateSlots, Module, TypeFlags, Validator};
-use crate::subject::Subject;
 use std::alloc::Global;
 
 /// The slots that a value of a type of an accepted module uses from a byte on, if the module has the type and hosts may

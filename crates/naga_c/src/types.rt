@@ -10,13 +10,13 @@ ghost use Rattle.std.specs.Prelude.{◌≡◌, ◌≤◌, length};
 use crate::codes::disalignment_code;
 use crate::results::{Outcome, TypeRow};
 use crate::status::Status;
+use crate::subject::Subject;
 use crate::verdict::{
     counts_of, no_outcome, refused_outcome, refused_status, validate, validator_for,
 };
 use naga_typing::context::to_ctx;
 use naga_typing::layouter::{Layouter, TypeLayout};
 use naga_valid::{Flags, FullTyping, Handle, LayoutCompatibility, Module, TypeInfo, Validator};
-use crate::subject::Subject;
 use std::alloc::Global;
 
 /// The alignment of a layout, or 0 if there is none.

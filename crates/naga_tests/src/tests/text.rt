@@ -295,7 +295,9 @@ fn items_are_as_written(rt: HostRuntime) -> Result<(), Fail> {
 fn settings(rt: &(impl AllocGlobal + Abort), text: &str) -> (Option<u8>, Option<u64>, bool) {
     let contents = read_text(rt.alloc(), text.as_bytes()).expect(rt, "readable");
     let flags = contents.flags.map(|flags| flags.bits());
-    let capabilities = contents.capabilities.map(|capabilities| capabilities.bits());
+    let capabilities = contents
+        .capabilities
+        .map(|capabilities| capabilities.bits());
     (flags, capabilities, contents.resolved)
 }
 

@@ -27,10 +27,10 @@ returns c =
     let error = inner_of c.in-Err.error in
     let text_is : string_bytes c.in_ok-report_refused-in-Err.field-0 ≡ refused_text error = c.in_ok-report_refused-in-Err.ensures ∙ ap refused_text c.as_inner.ensures in
     let same : settings_of c.new-validator.result contents.resolved ≡ settings_in contents =
-        ap (λ (s : State PlainTyping). settings_of s contents.resolved) c.new-validator.ensures
-        ∙ ap (λ (f : ValidationFlags). given f c.unwrap_or_default.result contents.resolved) (unwrapped contents.flags (record { 0 = all_validation_flags }) c.unwrap_or_default-flags.result c.unwrap_or_default-flags.ensures)
-        ∙ ap (λ (k : Capabilities). given (unwrap_or contents.flags (record { 0 = all_validation_flags })) k contents.resolved)
-        (unwrapped contents.capabilities (record { 0 = default_capabilities }) c.unwrap_or_default.result c.unwrap_or_default.ensures) in
+    ap (λ (s : State PlainTyping). settings_of s contents.resolved) c.new-validator.ensures
+    ∙ ap (λ (f : ValidationFlags). given f c.unwrap_or_default.result contents.resolved) (unwrapped contents.flags (record { 0 = all_validation_flags }) c.unwrap_or_default-flags.result c.unwrap_or_default-flags.ensures)
+    ∙ ap (λ (k : Capabilities). given (unwrap_or contents.flags (record { 0 = all_validation_flags })) k contents.resolved)
+    (unwrapped contents.capabilities (record { 0 = default_capabilities }) c.unwrap_or_default.result c.unwrap_or_default.ensures) in
     ⊎_elim
     (λ (o : inner_of c.in-Err.error ≡ OutOfMemory). inl (text_is ∙ ap refused_text o))
     (λ (r : Refuses plain_resolves contents.«module» (settings_of c.new-validator.result contents.resolved) (inner_of c.in-Err.error)).
