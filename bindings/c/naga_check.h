@@ -102,11 +102,14 @@ typedef struct naga_check_options {
   uint64_t most_leaves;  /* the most leaves that a call may come to */
 } naga_check_options;
 
-/* All is validated, as naga does by default, settings are refused, and nothing is limited. Options that are all zero
- * but for their size let nothing be read. */
+/* The most leaves that a call comes to by default: a stranger's type may have more than a machine can count. */
+#define NAGA_CHECK_MOST_LEAVES 0x1000000u
+
+/* All is validated, as naga does by default, settings are refused, and nothing is limited but leaves. Options that are
+ * all zero but for their size let nothing be read. */
 #define NAGA_CHECK_OPTIONS_DEFAULT \
   { (uint32_t)sizeof(naga_check_options), NAGA_CHECK_VALIDATE_ALL, NAGA_CHECK_CAPABILITY_DEFAULT, 0, \
-    NAGA_CHECK_SETTINGS_REFUSED, UINT64_MAX, UINT64_MAX, UINT64_MAX }
+    NAGA_CHECK_SETTINGS_REFUSED, UINT64_MAX, UINT64_MAX, NAGA_CHECK_MOST_LEAVES }
 
 /* Opcodes. Those of expressions are NAGA_CHECK_EXPRESSION and NAGA_CHECK_GLOBAL_EXPRESSION of a form. */
 enum {
@@ -561,6 +564,10 @@ naga_check_status naga_check_leaves_with(const uint32_t *words, size_t word_coun
                                          const uint32_t *types, size_t type_count, uint32_t length,
                                          naga_check_leaf *leaves, size_t leaf_count, uint32_t *paths,
                                          size_t path_count, naga_check_counts *counts, naga_check_outcome *outcome);
+naga_check_status naga_check_count_leaves_with(const uint32_t *words, size_t word_count,
+                                               const naga_check_options *options, const uint32_t *types,
+                                               size_t type_count, uint32_t length, naga_check_counts *counts,
+                                               naga_check_outcome *outcome);
 naga_check_status naga_check_slots_with(const uint32_t *words, size_t word_count, const naga_check_options *options,
                                         uint32_t type, uint32_t offset, uint64_t *slots, naga_check_outcome *outcome);
 naga_check_status naga_check_text_with(const uint8_t *text, size_t text_count, const naga_check_options *options,
@@ -626,6 +633,21 @@ static inline naga_check_status naga_check_leaves(const uint32_t *words, size_t 
   return naga_check_leaves_with(words ? words : &no_words, word_count, &chosen, types ? types : &no_words, type_count,
                                 length, leaves ? leaves : &no_leaf, leaf_count, paths ? paths : &no_path, path_count,
                                 counts ? counts : &unwanted_counts, outcome ? outcome : &unwanted);
+}
+
+/* Validates a module as naga_check_words does, and counts the leaves that naga_check_leaves writes, and the indexes of
+ * their paths: so long have its buffers to be. Without NAGA_CHECK_OK both counts are 0. */
+static inline naga_check_status naga_check_count_leaves(const uint32_t *words, size_t word_count,
+                                                        const naga_check_options *options, const uint32_t *types,
+                                                        size_t type_count, uint32_t length,
+                                                        naga_check_counts *counts, naga_check_outcome *outcome) {
+  const naga_check_options chosen = naga_check_options_or_default(options);
+  const uint32_t no_words = 0;
+  naga_check_counts unwanted_counts;
+  naga_check_outcome unwanted;
+  return naga_check_count_leaves_with(words ? words : &no_words, word_count, &chosen, types ? types : &no_words,
+                                      type_count, length, counts ? counts : &unwanted_counts,
+                                      outcome ? outcome : &unwanted);
 }
 
 /* Validates a module as naga_check_words does, and writes the slots of immediate data that a value of a type

@@ -62,7 +62,7 @@ def header_constants(text):
 
 
 def sys_constants(text):
-    named = re.findall(r"\b(NAGA_CHECK_\w+)(?:: u32)? = (\w+)[,;]", text)
+    named = re.findall(r"\b(NAGA_CHECK_\w+)(?:: u(?:32|64))? = (\w+)[,;]", text)
     return {name: int(value.replace("_", ""), 0) for name, value in named}
 
 

@@ -24,6 +24,7 @@ static void try_nulls(void) {
   require(naga_check_words(NULL, 0, NULL, NULL, 0, NULL) == NAGA_CHECK_OK, "words");
   require(naga_check_functions(NULL, 0, NULL, NULL, 0, NULL) == NAGA_CHECK_OK, "functions");
   require(naga_check_leaves(NULL, 0, NULL, NULL, 0, 0, NULL, 0, NULL, 0, NULL, NULL) == NAGA_CHECK_OK, "leaves");
+  require(naga_check_count_leaves(NULL, 0, NULL, NULL, 0, 0, NULL, NULL) == NAGA_CHECK_OK, "counts");
   require(naga_check_slots(NULL, 0, NULL, 0, 0, NULL, NULL) == NAGA_CHECK_NO_TYPE, "slots");
   require(naga_check_text(NULL, 0, NULL, NULL, 0, NULL) == NAGA_CHECK_OK, "text");
   require(naga_check_report(NULL, 0, NULL, 0, NULL) == NAGA_CHECK_ROOM, "report");

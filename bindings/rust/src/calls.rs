@@ -369,8 +369,8 @@ pub fn check_functions(words: &[u32], options: &Options) -> Result<FunctionStage
 /// The leaves of types of a module: at which bytes of a buffer hosts put values. A runtime-sized array counts as
 /// `length` elements.
 ///
-/// A type may have more leaves than memory has room for, as an array of a billion elements: [`leaves_up_to`] returns
-/// the first ones only.
+/// They are counted first, so that memory is requested once. A type may have more leaves than the options allow, as an
+/// array of a billion elements: [`leaves_up_to`] returns the first ones only.
 ///
 /// ```
 /// use naga_check::{leaves, Options, Scalar, StructMember, TypeInner, Words};
@@ -387,21 +387,36 @@ pub fn check_functions(words: &[u32], options: &Options) -> Result<FunctionStage
 ///
 /// # Errors
 ///
-/// As of [`check_words`], and `NoType`.
+/// As of [`check_words`], `NoType`, and `Limit` if there are more leaves than the options allow.
 pub fn leaves(
     words: &[u32],
     options: &Options,
     types: &[Handle<Type>],
     length: u32,
 ) -> Result<Leaves, Error> {
-    leaves_up_to(words, options, types, length, usize::MAX)
+    let subject = Subject { words, options };
+    let types: Vec<u32> = types.iter().map(|ty| ty.index()).collect();
+    let (status, counts, outcome) = raw::count_leaves(subject, &types, length);
+    if status != sys::NAGA_CHECK_OK {
+        return Err(error_of(status, &outcome));
+    }
+    let mut leaves = buffer_of(counts.leaves)?;
+    let mut paths = buffer_of(counts.paths)?;
+    match raw::leaves(subject, &types, length, &mut leaves, &mut paths) {
+        (sys::NAGA_CHECK_OK, ..) => Ok(Leaves {
+            leaves,
+            paths,
+            are_all: true,
+        }),
+        (status, _, outcome) => Err(error_of(status, &outcome)),
+    }
 }
 
 /// The first leaves of types of a module, as [`leaves`] returns them all: at most `most` of them.
 ///
 /// # Errors
 ///
-/// As of [`leaves`].
+/// As of [`check_words`], and `NoType`.
 pub fn leaves_up_to(
     words: &[u32],
     options: &Options,

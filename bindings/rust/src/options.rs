@@ -32,7 +32,8 @@ pub enum Settings {
 pub struct Options(NagaCheckOptions);
 
 impl Options {
-    /// All is validated, as naga does by default, settings are refused, and nothing is limited.
+    /// All is validated, as naga does by default, settings are refused, and nothing is limited but the leaves of a call,
+    /// to 16,777,216.
     #[must_use]
     pub const fn new() -> Options {
         Options(NagaCheckOptions {
@@ -43,7 +44,7 @@ impl Options {
             settings: sys::NAGA_CHECK_SETTINGS_REFUSED,
             most_words: u64::MAX,
             most_items: u64::MAX,
-            most_leaves: u64::MAX,
+            most_leaves: sys::NAGA_CHECK_MOST_LEAVES,
         })
     }
 

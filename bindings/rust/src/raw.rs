@@ -98,6 +98,31 @@ pub(crate) fn check_functions(
     (status, outcome)
 }
 
+/// Counts the leaves of types, and the indexes of their paths.
+pub(crate) fn count_leaves(
+    subject: Subject<'_>,
+    types: &[u32],
+    length: u32,
+) -> (NagaCheckStatus, NagaCheckCounts, NagaCheckOutcome) {
+    version::require();
+    let mut counts = NagaCheckCounts::default();
+    let mut outcome = NagaCheckOutcome::default();
+    // SAFETY: the buffers are slices, the options are a reference, and the rest are variables of their own.
+    let status = unsafe {
+        sys::naga_check_count_leaves_with(
+            subject.words.as_ptr(),
+            subject.words.len(),
+            subject.options.as_raw(),
+            types.as_ptr(),
+            types.len(),
+            length,
+            &raw mut counts,
+            &raw mut outcome,
+        )
+    };
+    (status, counts, outcome)
+}
+
 /// Writes the leaves of types, and their paths.
 pub(crate) fn leaves(
     subject: Subject<'_>,

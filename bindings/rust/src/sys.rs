@@ -46,6 +46,9 @@ constants! {
     NAGA_CHECK_NOT_SHAREABLE = 9,
 }
 
+/// The most leaves that a call comes to by default.
+pub const NAGA_CHECK_MOST_LEAVES: u64 = 0x100_0000;
+
 constants! {
     "What settings that come with a module are worth."
     NAGA_CHECK_SETTINGS_REFUSED = 0,
@@ -555,6 +558,18 @@ unsafe extern "C" {
         leaf_count: usize,
         paths: *mut u32,
         path_count: usize,
+        counts: *mut NagaCheckCounts,
+        outcome: *mut NagaCheckOutcome,
+    ) -> NagaCheckStatus;
+
+    /// Validates a module in words, and counts the leaves of types of it, and the indexes of their paths.
+    pub fn naga_check_count_leaves_with(
+        words: *const u32,
+        word_count: usize,
+        options: *const NagaCheckOptions,
+        types: *const u32,
+        type_count: usize,
+        length: u32,
         counts: *mut NagaCheckCounts,
         outcome: *mut NagaCheckOutcome,
     ) -> NagaCheckStatus;

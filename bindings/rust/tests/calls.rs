@@ -138,6 +138,11 @@ fn more_leaves_than_are_asked_for() {
         stride: 4,
     });
     let words = words.finish().unwrap();
+    // All of them are more than a call comes to by default.
+    assert_eq!(
+        leaves(&words, &DEFAULT, &[list], 0).unwrap_err(),
+        Error::Limit
+    );
     for most in [0, 1, 64, 100] {
         let found = leaves_up_to(&words, &DEFAULT, &[list], 0, most).unwrap();
         assert_eq!((found.len(), found.are_all()), (most, false));
@@ -329,7 +334,8 @@ fn limits_are_kept() {
         limit
     );
     assert_eq!(slots(&words, &DEFAULT.most_words(0), ty, 0), Err(limit));
-    assert!(leaves(&words, &DEFAULT.most_leaves(2), &[ty; 2], 0).is_ok());
+    let found = leaves(&words, &DEFAULT.most_leaves(2), &[ty; 2], 0).unwrap();
+    assert_eq!((found.len(), found.are_all()), (2, true));
     assert_eq!(
         leaves(&words, &DEFAULT.most_leaves(2), &[ty; 3], 0).unwrap_err(),
         limit

@@ -2,6 +2,7 @@
 
 ghost use Rattle.naga_c.specs.Calls.{LeavesBuffer, OfWords};
 ghost use Rattle.naga_c.specs.Functions.{ChecksFunctions};
+ghost use Rattle.naga_c.specs.LeafCounts.{ChecksCounts};
 ghost use Rattle.naga_c.specs.Leaves.{ChecksLeaves, LeavesBuffers, buffers, no_counts};
 ghost use Rattle.naga_c.specs.Slots.{ChecksSlots};
 ghost use Rattle.naga_c.specs.Statuses.{Returns};
@@ -9,6 +10,7 @@ ghost use Rattle.naga_c.specs.Types.{ChecksTypes};
 ghost use Rattle.std.specs.Prelude.{◌≡◌};
 
 use crate::functions::check_functions;
+use crate::leaf_counts::check_counts;
 use crate::leaves::{Queries, check_leaves};
 use crate::options::Options;
 use crate::results::{Counts, LeafRow, Outcome, TypeRow};
@@ -101,6 +103,31 @@ fn words_leaves(
     }
 }
 
+/// Counts the leaves of types of words. Returns also what was found out about the module.
+fn words_counts(alloc: Global, call: LeafCall<'_>, counts: &mut Counts) -> (Outcome, Status)
+    ensures { OfWords call.entry.options.now call.entry.words.now
+        (λ subject. ChecksCounts subject call.entry.types.now call.entry.length call.entry.options.now.most_leaves
+        counts.new result.0)
+        (λ outcome. (counts.new ≡ no_counts) × (result.0 ≡ outcome)) result.1 }
+{
+    *counts = Counts {
+        leaves: 0,
+        paths: 0,
+    };
+    match subject_of_words(alloc, call.words, call.options) {
+        Ok(subject) => {
+            let queries = Queries {
+                subject: &subject,
+                types: call.types,
+                length: call.length,
+                most: call.options.most_leaves,
+            };
+            check_counts(alloc, queries, counts)
+        }
+        Err(why) => (outcome_without(why), status_without(why)),
+    }
+}
+
 /// What is asked about the slots of a type of words.
 #[derive(Clone, Copy)]
 struct SlotCall<'a> {
@@ -182,6 +209,33 @@ pub extern "C" fn naga_check_leaves_with(
         length,
     };
     let (found, status) = words_leaves(alloc, call, leaves, paths, counts);
+    *outcome = found;
+    status.code()
+}
+
+/// Validates a module in words, and counts the leaves of types of it, and the indexes of their paths. A runtime-sized
+/// array has `length` elements.
+#[unsafe(no_mangle)]
+pub extern "C" fn naga_check_count_leaves_with(
+    alloc: Global,
+    words: &[u32],
+    options: &Options,
+    types: &[u32],
+    length: u32,
+    counts: &mut Counts,
+    outcome: &mut Outcome,
+) -> u32
+    ensures { Returns result (OfWords options.now words.now
+        (λ subject. ChecksCounts subject types.now length options.now.most_leaves counts.new outcome.new)
+        (λ found. (counts.new ≡ no_counts) × (outcome.new ≡ found))) }
+{
+    let call = LeafCall {
+        words,
+        options,
+        types,
+        length,
+    };
+    let (found, status) = words_counts(alloc, call, counts);
     *outcome = found;
     status.code()
 }

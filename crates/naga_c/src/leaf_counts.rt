@@ -1,9 +1,7 @@
 //! The call that counts the leaves of types.
 
-ghost use Rattle.naga_arena.specs.Numbers.{largest_u32};
 ghost use Rattle.naga_c.specs.LeafCounts.{ChecksCounts, CountsAll, CountsType, IsTooMuch};
 ghost use Rattle.naga_c.specs.Leaves.{no_counts};
-ghost use Rattle.naga_c.specs.declared.results.Counts.{Counts as CountsValue};
 ghost use Rattle.naga_ir.specs.Handles.{GlobalReferencesOk};
 ghost use Rattle.naga_ir.specs.ItemReferences.{global_lists};
 ghost use Rattle.std.specs.Prelude.{◌≡◌, ◌+◌, ◌<◌, length, MatchOption};
@@ -74,7 +72,10 @@ fn count_all(alloc: Global, queries: Queries<'_>) -> Result<Counts, Status>
             place: 0,
             most: queries.most,
         };
-        counts = count_type(alloc, query, counts)?;
+        match count_type(alloc, query, counts) {
+            Ok(counted) => counts = counted,
+            Err(why) => return Err(why),
+        }
     }
     Ok(counts)
 }
