@@ -8,10 +8,10 @@
  * Options say how a module is validated and how much a call may take; they are the host's, and what comes in the words
  * or the text of a stranger can't loosen them. A null pointer in their place is NAGA_CHECK_OPTIONS_DEFAULT.
  *
- * Every function is a call of its own. Nothing is kept between calls, there is no initialisation, and no
- * global state: calls may run on any number of threads at once, as long as they share no buffer that one of
- * them writes. Nothing is handed out that has to be freed. The library never ends the process and never
- * prints; if memory is refused a call returns NAGA_CHECK_MEMORY.
+ * There is no initialisation and no global state: calls may run on any number of threads at once, as long as they share
+ * no buffer and no open module that one of them writes. Nothing is kept between calls, and nothing is handed out that
+ * has to be freed, except a module that naga_check_open opened. The library never ends the process and never prints; if
+ * memory is refused a call returns NAGA_CHECK_MEMORY.
  *
  * The library calls malloc, realloc, free, memmove, memcpy and memset of the C library, and nothing else of
  * the system. It is for x86-64 Linux.
@@ -81,7 +81,8 @@ enum {
   NAGA_CHECK_LIMIT = 6,        /* there are more words, items or leaves than the options allow */
   NAGA_CHECK_OPTIONS = 7,      /* a field of the options has a value that means nothing to this version */
   NAGA_CHECK_SETTINGS = 8,     /* settings come with the module, and the options don't allow that */
-  NAGA_CHECK_NOT_SHAREABLE = 9 /* the module was accepted, and hosts may not share values of the type */
+  NAGA_CHECK_NOT_SHAREABLE = 9, /* the module was accepted, and hosts may not share values of the type */
+  NAGA_CHECK_NOT_OPEN = 10      /* nothing was done: the module is not open */
 };
 
 /* What settings that come with a module, in its words or its text, are worth. */
@@ -551,6 +552,16 @@ typedef struct naga_check_counts {
   uint64_t paths;
 } naga_check_counts;
 
+/* A module that was read and validated once, by naga_check_open, so that calls on it need not do so again. It is open or
+ * closed; one that is open has memory of its own, which naga_check_close gives back. A host may copy and move it, and uses
+ * one copy only. It stays on the thread that opened it, every call on it writes it, and nothing but calls may. */
+typedef struct naga_check_module {
+  void *at;
+} naga_check_module;
+
+/* A module that is closed. */
+#define NAGA_CHECK_MODULE_CLOSED {NULL}
+
 /* The version of this interface, NAGA_CHECK_ABI_VERSION. */
 uint32_t naga_check_abi_version(void);
 
@@ -570,6 +581,22 @@ naga_check_status naga_check_count_leaves_with(const uint32_t *words, size_t wor
                                                naga_check_outcome *outcome);
 naga_check_status naga_check_slots_with(const uint32_t *words, size_t word_count, const naga_check_options *options,
                                         uint32_t type, uint32_t offset, uint64_t *slots, naga_check_outcome *outcome);
+naga_check_status naga_check_open_with(const uint32_t *words, size_t word_count, const naga_check_options *options,
+                                       naga_check_module *module, naga_check_outcome *outcome);
+naga_check_status naga_check_module_types_with(naga_check_module *module, naga_check_type_info *infos,
+                                               size_t info_count, naga_check_outcome *outcome);
+naga_check_status naga_check_module_functions_with(naga_check_module *module, uint32_t *stages, size_t stage_count,
+                                                   naga_check_outcome *outcome);
+naga_check_status naga_check_module_leaves_with(naga_check_module *module, const uint32_t *types, size_t type_count,
+                                                uint32_t length, naga_check_leaf *leaves, size_t leaf_count,
+                                                uint32_t *paths, size_t path_count, naga_check_counts *counts,
+                                                naga_check_outcome *outcome);
+naga_check_status naga_check_module_count_leaves_with(naga_check_module *module, const uint32_t *types,
+                                                      size_t type_count, uint32_t length, naga_check_counts *counts,
+                                                      naga_check_outcome *outcome);
+naga_check_status naga_check_module_slots_with(naga_check_module *module, uint32_t type, uint32_t offset,
+                                               uint64_t *slots, naga_check_outcome *outcome);
+void naga_check_close_with(naga_check_module *module);
 naga_check_status naga_check_text_with(const uint8_t *text, size_t text_count, const naga_check_options *options,
                                        naga_check_type_info *infos, size_t info_count, naga_check_outcome *outcome);
 naga_check_status naga_check_report_with(const uint8_t *text, size_t text_count, uint8_t *report, size_t report_count,
@@ -664,6 +691,94 @@ static inline naga_check_status naga_check_slots(const uint32_t *words, size_t w
   naga_check_outcome unwanted;
   return naga_check_slots_with(words ? words : &no_words, word_count, &chosen, type, offset,
                                slots ? slots : &no_slots, outcome ? outcome : &unwanted);
+}
+
+/* Validates a module as naga_check_words does, and opens it if it is accepted: with NAGA_CHECK_OK module is open, and else
+ * closed, also with NAGA_CHECK_MEMORY. What it was before is not looked at, so one that is open is closed first. The
+ * words are needed no more then. outcome is as of naga_check_words, except that nothing was written. */
+static inline naga_check_status naga_check_open(const uint32_t *words, size_t word_count,
+                                                const naga_check_options *options, naga_check_module *module,
+                                                naga_check_outcome *outcome) {
+  const naga_check_options chosen = naga_check_options_or_default(options);
+  const uint32_t no_words = 0;
+  naga_check_module opened = NAGA_CHECK_MODULE_CLOSED;
+  naga_check_outcome unwanted;
+  const naga_check_status status = naga_check_open_with(words ? words : &no_words, word_count, &chosen, &opened,
+                                                        outcome ? outcome : &unwanted);
+  if (module) {
+    *module = opened;
+  } else {
+    naga_check_close_with(&opened);
+  }
+  return status;
+}
+
+/* Closes a module, and gives back its memory. One that is closed, or a null pointer, is left as it is. */
+static inline void naga_check_close(naga_check_module *module) {
+  if (module) naga_check_close_with(module);
+}
+
+/* Writes what naga_check_words writes of the words that the module was opened with. This call and those that follow
+ * return NAGA_CHECK_NOT_OPEN for a module that is closed, or a null pointer; outcome is 0 then, and so are counts. */
+static inline naga_check_status naga_check_module_types(naga_check_module *module, naga_check_type_info *infos,
+                                                        size_t info_count, naga_check_outcome *outcome) {
+  naga_check_module closed = NAGA_CHECK_MODULE_CLOSED;
+  naga_check_type_info no_info;
+  naga_check_outcome unwanted;
+  return naga_check_module_types_with(module ? module : &closed, infos ? infos : &no_info, info_count,
+                                      outcome ? outcome : &unwanted);
+}
+
+/* Writes what naga_check_functions writes of the words that the module was opened with. Each call validates the
+ * functions, and what they stand on, anew. */
+static inline naga_check_status naga_check_module_functions(naga_check_module *module, uint32_t *stages,
+                                                            size_t stage_count, naga_check_outcome *outcome) {
+  naga_check_module closed = NAGA_CHECK_MODULE_CLOSED;
+  uint32_t no_stage;
+  naga_check_outcome unwanted;
+  return naga_check_module_functions_with(module ? module : &closed, stages ? stages : &no_stage, stage_count,
+                                          outcome ? outcome : &unwanted);
+}
+
+/* Writes what naga_check_leaves writes of the words that the module was opened with, with the options of
+ * naga_check_open. */
+static inline naga_check_status naga_check_module_leaves(naga_check_module *module, const uint32_t *types,
+                                                         size_t type_count, uint32_t length, naga_check_leaf *leaves,
+                                                         size_t leaf_count, uint32_t *paths, size_t path_count,
+                                                         naga_check_counts *counts, naga_check_outcome *outcome) {
+  naga_check_module closed = NAGA_CHECK_MODULE_CLOSED;
+  const uint32_t no_types = 0;
+  naga_check_leaf no_leaf;
+  uint32_t no_path;
+  naga_check_counts unwanted_counts;
+  naga_check_outcome unwanted;
+  return naga_check_module_leaves_with(module ? module : &closed, types ? types : &no_types, type_count, length,
+                                       leaves ? leaves : &no_leaf, leaf_count, paths ? paths : &no_path, path_count,
+                                       counts ? counts : &unwanted_counts, outcome ? outcome : &unwanted);
+}
+
+/* Writes what naga_check_count_leaves writes of the words that the module was opened with, with the options of
+ * naga_check_open. */
+static inline naga_check_status naga_check_module_count_leaves(naga_check_module *module, const uint32_t *types,
+                                                               size_t type_count, uint32_t length,
+                                                               naga_check_counts *counts,
+                                                               naga_check_outcome *outcome) {
+  naga_check_module closed = NAGA_CHECK_MODULE_CLOSED;
+  const uint32_t no_types = 0;
+  naga_check_counts unwanted_counts;
+  naga_check_outcome unwanted;
+  return naga_check_module_count_leaves_with(module ? module : &closed, types ? types : &no_types, type_count, length,
+                                             counts ? counts : &unwanted_counts, outcome ? outcome : &unwanted);
+}
+
+/* Writes what naga_check_slots writes of the words that the module was opened with. */
+static inline naga_check_status naga_check_module_slots(naga_check_module *module, uint32_t type, uint32_t offset,
+                                                        uint64_t *slots, naga_check_outcome *outcome) {
+  naga_check_module closed = NAGA_CHECK_MODULE_CLOSED;
+  uint64_t no_slots;
+  naga_check_outcome unwanted;
+  return naga_check_module_slots_with(module ? module : &closed, type, offset, slots ? slots : &no_slots,
+                                      outcome ? outcome : &unwanted);
 }
 
 /* Validates a module in the text of docs/TEXT.md, and writes what naga_check_words writes of the module in words. */

@@ -9,9 +9,13 @@
 
 enum { MOST_WORDS = 4096, MOST_TYPES = 64, MOST_CALLABLES = 16, MOST_LEAVES = 64, MOST_INDEXES = 256 };
 enum { MOST_BYTES = 256 };
-enum { ABOUT_REPORT, ABOUT_TEXT, ABOUT_WORDS, ABOUT_FUNCTIONS, ABOUT_LEAVES, ABOUT_SLOTS, CALLS };
+enum { ABOUT_REPORT, ABOUT_TEXT, ABOUT_WORDS, ABOUT_FUNCTIONS, ABOUT_LEAVES, ABOUT_SLOTS, DIRECT_CALLS };
+/* The same on a module that is opened before and closed after the call. */
+enum { OPEN_WORDS = DIRECT_CALLS, OPEN_FUNCTIONS, OPEN_LEAVES, OPEN_SLOTS, CALLS };
 
-static const char *const call_names[CALLS] = {"report", "text", "words", "functions", "leaves", "slots"};
+static const char *const call_names[CALLS] = {"report", "text", "words", "functions", "leaves", "slots",
+                                              "words of an open module", "functions of an open module",
+                                              "leaves of an open module", "slots of an open module"};
 
 /* Options that leave what may be used to the words. */
 static const naga_check_options by_words = {
@@ -54,10 +58,42 @@ static inline void read_words(const char *path, question *asked) {
   fclose(file);
 }
 
+/* Opens a module, makes a call on it if it is open, and closes it. */
+static inline void ask_open(const question *asked, int call, answer *given) {
+  naga_check_module module;
+  naga_check_counts counts;
+  given->status = naga_check_open(asked->words, asked->word_count, &by_words, &module, &given->outcome);
+  if (given->status == NAGA_CHECK_OK) {
+    switch (call) {
+    case OPEN_WORDS:
+      given->status = naga_check_module_types(&module, given->infos, MOST_TYPES, &given->outcome);
+      break;
+    case OPEN_FUNCTIONS:
+      given->status = naga_check_module_functions(&module, given->stages, MOST_CALLABLES, &given->outcome);
+      break;
+    case OPEN_LEAVES:
+      given->status = naga_check_module_leaves(&module, &asked->type, 1, 3, given->leaves, MOST_LEAVES, given->paths,
+                                               MOST_INDEXES, &given->counts, &given->outcome);
+      if (given->status == NAGA_CHECK_OK &&
+          naga_check_module_count_leaves(&module, &asked->type, 1, 3, &counts, NULL) == NAGA_CHECK_OK &&
+          memcmp(&counts, &given->counts, sizeof counts) != 0)
+        given->counts = counts;
+      break;
+    default:
+      given->status = naga_check_module_slots(&module, asked->type, 4, &given->slots, &given->outcome);
+    }
+  }
+  naga_check_close(&module);
+}
+
 static inline void ask(const question *asked, int call, answer *given) {
   const uint32_t *words = asked->words;
   const size_t count = asked->word_count;
   memset(given, 0, sizeof *given);
+  if (call >= DIRECT_CALLS) {
+    ask_open(asked, call, given);
+    return;
+  }
   switch (call) {
   case ABOUT_REPORT:
     given->status = naga_check_report((const uint8_t *)asked->text, strlen(asked->text), given->report, MOST_BYTES,

@@ -10,11 +10,11 @@ import os
 import re
 import sys
 
-RUST_TYPES = {"u8": "uint8_t", "u32": "uint32_t", "u64": "uint64_t", "usize": "size_t",
+RUST_TYPES = {"": "void", "u8": "uint8_t", "u32": "uint32_t", "u64": "uint64_t", "usize": "size_t",
               "NagaCheckStatus": "naga_check_status", "NagaCheckOutcome": "naga_check_outcome",
               "NagaCheckOptions": "naga_check_options",
               "NagaCheckTypeInfo": "naga_check_type_info", "NagaCheckLeaf": "naga_check_leaf",
-              "NagaCheckCounts": "naga_check_counts"}
+              "NagaCheckCounts": "naga_check_counts", "NagaCheckModule": "naga_check_module"}
 
 # How the header calls the enums of the sources in Rattle: of errors, and of what tables list by number.
 ERRORS = {"InvalidHandleError": "HANDLE_ERROR", "LayoutErrorInner": "LAYOUT_ERROR", "TypeError": "TYPE_ERROR",
@@ -33,7 +33,7 @@ FLAGS = {"ValidationFlags": "VALIDATE", "Capabilities": "CAPABILITY", "TypeFlags
 SETTINGS = ("VALIDATE", "CAPABILITY")
 RENAMED = {"D1": "1D", "D2": "2D", "D3": "3D"}
 # What no value of the crate stands for.
-UNUSED = {"NAGA_CHECK_STAGE_NONE"}
+UNUSED = {"NAGA_CHECK_STAGE_NONE", "NAGA_CHECK_NOT_OPEN"}
 
 differences = []
 
@@ -105,9 +105,9 @@ def c_type(ty):
 
 
 def sys_functions(text):
-    found = re.findall(r"pub (?:safe )?fn (naga_check_\w+)\((.*?)\) -> (\w+);", text, re.DOTALL)
+    found = re.findall(r"pub (?:safe )?fn (naga_check_\w+)\((.*?)\)(?: -> (\w+))?;", text, re.DOTALL)
     return {name: (RUST_TYPES[result], [[c_type(ty), parameter.removeprefix("r#")]
-                                        for parameter, ty in re.findall(r"(\S+): ([^,]+),", parameters)])
+                                        for parameter, ty in re.findall(r"(\S+): ([^,]+)(?:,|$)", parameters)])
             for name, parameters, result in found}
 
 

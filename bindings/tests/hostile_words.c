@@ -31,7 +31,7 @@ static naga_check_leaf *leaves;
 static naga_check_counts *counts;
 static uint32_t *stages, *paths, *type;
 static uint64_t *slots;
-static unsigned long seen[NAGA_CHECK_NOT_SHAREABLE + 1];
+static unsigned long seen[NAGA_CHECK_NOT_OPEN + 1];
 
 /* A number that the one before decides, so that each run does the same. */
 static uint64_t next_random(void) {
@@ -49,8 +49,30 @@ static void require(int holds, const char *what) {
 }
 
 static void note(naga_check_status status) {
-  require(status <= NAGA_CHECK_NOT_SHAREABLE, "a status that is none");
+  require(status <= NAGA_CHECK_NOT_OPEN, "a status that is none");
   seen[status]++;
+}
+
+/* Whether calls on a module that is opened end as those on its words, which are gone by then. */
+static void try_open(uint32_t *words, size_t count) {
+  naga_check_module open;
+  naga_check_outcome first;
+  const naga_check_status direct = naga_check_words(words, count, &by_words, infos, FEW_TYPES, &first);
+  const naga_check_status opened = naga_check_open(words, count, &by_words, &open, outcome);
+  note(opened);
+  require((opened == NAGA_CHECK_OK) == (open.at != NULL), "a module that is open without NAGA_CHECK_OK, or closed");
+  require(opened == direct || (opened == NAGA_CHECK_OK && direct == NAGA_CHECK_ROOM), "two ways to validate");
+  memset(words, 0xFF, count * sizeof *words);
+  if (opened == NAGA_CHECK_OK) {
+    require(naga_check_module_types(&open, infos, FEW_TYPES, outcome) == direct, "types of an open module");
+    require(memcmp(outcome, &first, sizeof first) == 0, "the outcome of an open module");
+    note(naga_check_module_functions(&open, stages, FEW_CALLABLES, outcome));
+    note(naga_check_module_leaves(&open, type, 1, 2, leaves, FEW_LEAVES, paths, FEW_INDEXES, counts, outcome));
+    note(naga_check_module_slots(&open, *type, *type, slots, outcome));
+  }
+  naga_check_close(&open);
+  note(naga_check_module_slots(&open, *type, *type, slots, outcome));
+  require(open.at == NULL, "a module that is closed has an address");
 }
 
 static void try_words(const uint32_t *module, size_t count) {
@@ -74,6 +96,8 @@ static void try_words(const uint32_t *module, size_t count) {
     note(naga_check_slots(words, count, &by_words, *type, *type, slots, outcome));
     require(first != NAGA_CHECK_REFUSED || outcome->stage != 0, "slots of a refused module");
   }
+  *type = (uint32_t)(count % 20);
+  try_open(words, count);
 }
 
 /* Leaves the settings out of words that can be read, and returns how many are left. */
@@ -168,8 +192,8 @@ int main(int argc, char **argv) {
   for (cut = 0; cut <= asked.word_count; cut++) try_words(asked.words, cut);
   try_many(&asked, argc > 3 ? strtoul(argv[3], NULL, 10) : 0);
   printf("hostile_words: statuses");
-  for (at = 0; at <= NAGA_CHECK_NOT_SHAREABLE; at++) printf(" %lu", seen[at]);
-  printf(" from 0 to %d\n", NAGA_CHECK_NOT_SHAREABLE);
+  for (at = 0; at <= NAGA_CHECK_NOT_OPEN; at++) printf(" %lu", seen[at]);
+  printf(" from 0 to %d\n", NAGA_CHECK_NOT_OPEN);
   for (at = NAGA_CHECK_OK; at <= NAGA_CHECK_UNREADABLE; at++) require(seen[at] != 0, "a status was never returned");
   require(!seen[NAGA_CHECK_MEMORY], "memory was refused");
   return 0;

@@ -14,6 +14,7 @@ static uint8_t text[MOST_BYTES], report[MOST_BYTES];
 static uint32_t words[MOST_WORDS];
 static naga_check_type_info infos[MOST_TYPES];
 static size_t text_count, word_count;
+static naga_check_module kept;
 
 static naga_check_status ask_version(void) {
   return naga_check_abi_version() == NAGA_CHECK_ABI_VERSION ? NAGA_CHECK_OK : NAGA_CHECK_REFUSED;
@@ -27,6 +28,15 @@ static naga_check_status ask_about_words(size_t count) {
 static naga_check_status ask_nothing(void) { return ask_about_words(0); }
 
 static naga_check_status ask_words(void) { return ask_about_words(word_count); }
+
+static naga_check_status ask_open(void) {
+  naga_check_module module;
+  const naga_check_status status = naga_check_open(words, word_count, NULL, &module, NULL);
+  naga_check_close(&module);
+  return status;
+}
+
+static naga_check_status ask_kept(void) { return naga_check_module_types(&kept, infos, MOST_TYPES, NULL); }
 
 static naga_check_status ask_text(void) {
   naga_check_outcome outcome;
@@ -42,7 +52,7 @@ static const struct {
   const char *name;
   naga_check_status (*make)(void);
 } calls[] = {{"version", ask_version}, {"nothing", ask_nothing}, {"words", ask_words}, {"text", ask_text},
-             {"report", ask_report}};
+             {"report", ask_report},    {"open", ask_open},       {"kept", ask_kept}};
 
 enum { CALLS = sizeof calls / sizeof *calls };
 
@@ -92,6 +102,7 @@ int main(int argc, char **argv) {
   while (word_count < MOST_WORDS && fscanf(file, "%lu", &word) == 1) words[word_count++] = (uint32_t)word;
   fclose(file);
 
+  if (naga_check_open(words, word_count, NULL, &kept, NULL) != NAGA_CHECK_OK) return 1;
   /* A turn of a call takes some 20 ms. */
   for (call = 0; call < CALLS; call++)
     for (rounds[call] = 1; time_of(call, rounds[call]) * (double)rounds[call] < 2e7;) rounds[call] *= 2;
@@ -101,5 +112,6 @@ int main(int argc, char **argv) {
     qsort(times[call], TURNS, sizeof **times, compare);
     printf("%s %.1f\n", calls[call].name, times[call][TURNS / 2]);
   }
+  naga_check_close(&kept);
   return 0;
 }

@@ -30,6 +30,32 @@ static void try_nulls(void) {
   require(naga_check_report(NULL, 0, NULL, 0, NULL) == NAGA_CHECK_ROOM, "report");
 }
 
+static void try_closed(void) {
+  naga_check_module module = NAGA_CHECK_MODULE_CLOSED, *const modules[] = {NULL, &module};
+  const uint32_t type = 0;
+  size_t at;
+  for (at = 0; at < 2; at++) {
+    naga_check_close(modules[at]);
+    require(naga_check_module_types(modules[at], NULL, 0, NULL) == NAGA_CHECK_NOT_OPEN, "types of none");
+    require(naga_check_module_functions(modules[at], NULL, 0, NULL) == NAGA_CHECK_NOT_OPEN, "functions of none");
+    require(naga_check_module_leaves(modules[at], &type, 1, 0, NULL, 0, NULL, 0, NULL, NULL) == NAGA_CHECK_NOT_OPEN,
+            "leaves of none");
+    require(naga_check_module_count_leaves(modules[at], &type, 1, 0, NULL, NULL) == NAGA_CHECK_NOT_OPEN,
+            "counts of none");
+    require(naga_check_module_slots(modules[at], 0, 0, NULL, NULL) == NAGA_CHECK_NOT_OPEN, "slots of none");
+  }
+  require(naga_check_open(NULL, 0, NULL, NULL, NULL) == NAGA_CHECK_OK, "a module that nobody wants");
+  require(naga_check_open(number, 4, NULL, &module, NULL) == NAGA_CHECK_REFUSED && !module.at, "a refused one");
+  require(naga_check_open(NULL, 0, NULL, &module, NULL) == NAGA_CHECK_OK && module.at, "an empty one");
+  require(naga_check_module_types(&module, NULL, 0, NULL) == NAGA_CHECK_OK, "types of nothing");
+  require(naga_check_module_functions(&module, NULL, 0, NULL) == NAGA_CHECK_OK, "functions of nothing");
+  require(naga_check_module_leaves(&module, NULL, 0, 0, NULL, 0, NULL, 0, NULL, NULL) == NAGA_CHECK_OK, "leaves");
+  require(naga_check_module_count_leaves(&module, NULL, 0, 0, NULL, NULL) == NAGA_CHECK_OK, "counts of nothing");
+  require(naga_check_module_slots(&module, 0, 0, NULL, NULL) == NAGA_CHECK_NO_TYPE, "slots of nothing");
+  naga_check_close(&module);
+  require(!module.at, "closed");
+}
+
 static void try_options(void) {
   naga_check_options options = NAGA_CHECK_OPTIONS_DEFAULT, zero = {0, 0, 0, 0, 0, 0, 0, 0};
   require(naga_check_words(number, 4, NULL, NULL, 0, NULL) == NAGA_CHECK_REFUSED, "no f16 by default");
@@ -49,6 +75,7 @@ static void try_options(void) {
 
 int main(void) {
   try_nulls();
+  try_closed();
   try_options();
   return failed;
 }

@@ -49,7 +49,7 @@ static long ask_with_refusal(const question *asked, int call, long request, answ
 /* Whether a call says that memory was refused, and nothing else. Some leaves may have been written. */
 static int says_refused(int call, const answer *given) {
   static const answer nothing = {.status = NAGA_CHECK_MEMORY};
-  if (call == ABOUT_LEAVES && given->status == NAGA_CHECK_MEMORY) return 1;
+  if ((call == ABOUT_LEAVES || call == OPEN_LEAVES) && given->status == NAGA_CHECK_MEMORY) return 1;
   return memcmp(given, &nothing, sizeof nothing) == 0;
 }
 

@@ -13,7 +13,7 @@ import sys
 from debug_form import read, told
 from words_of_text import Unreadable, Writer
 
-OK, REFUSED, UNREADABLE, MEMORY, ROOM, NO_TYPE, LIMIT, OPTIONS, SETTINGS, NOT_SHAREABLE = range(10)
+OK, REFUSED, UNREADABLE, MEMORY, ROOM, NO_TYPE, LIMIT, OPTIONS, SETTINGS, NOT_SHAREABLE, NOT_OPEN = range(11)
 STAGES = "handle layout type expression constant override".split()
 ITEMS = {"layout": "T", "type": "T", "expression": "G", "constant": "C", "override": "O"}
 ERRORS = {1: "HANDLE_ERROR", 2: "LAYOUT_ERROR", 3: "TYPE_ERROR", 4: "CONST_EXPRESSION_ERROR", 5: "CONSTANT_ERROR",
@@ -26,6 +26,9 @@ ALL_FLAGS, DEFAULT_CAPABILITIES, ALL_CAPABILITIES = 0x3F, 0x9000, 0xFFFFFFFFFFF
 NARROW = 1
 UNLIMITED = 2**64 - 1
 UNKNOWN = object()
+# What is handed to calls by its address, and all that calls may write.
+WRITTEN = (ctypes.Structure, ctypes.c_size_t, ctypes.c_uint64, ctypes.c_void_p)
+BUFFERS = (ctypes.Array, *WRITTEN)
 
 
 def struct(name, fields):
@@ -58,60 +61,77 @@ class Header:
         return self.numbers[(enum + variant).replace("_", "").upper()]
 
 
+def content(argument):
+    """What was handed to a call, to compare."""
+    return bytes(argument) if isinstance(argument, BUFFERS) else argument
+
+
 def array(kind, values):
     """A buffer of values; of none, one of a length that no call is told."""
     return (kind * max(len(values), 1))(*values)
 
 
 class Library:
-    """The calls, with results as Python has them."""
+    """The calls, with results as Python has them. What a call gives on words, it has to give on a module that is opened
+    with them."""
 
     def __init__(self, path, header):
         self.calls = ctypes.CDLL(path)
+        self.different = 0
         self.header = header
 
     def call(self, name, *arguments):
-        passed = [ctypes.c_size_t(it) if isinstance(it, int) else it for it in arguments]
+        passed = [ctypes.c_size_t(it) if isinstance(it, int) else ctypes.byref(it) if isinstance(it, WRITTEN) else it
+                  for it in arguments]
         return getattr(self.calls, f"naga_check_{name}_with")(*passed)
+
+    def on_words(self, name, module, options, *given):
+        """Makes a call on words, and one on the module that is opened with them: both have to do the same."""
+        words, closed = (array(ctypes.c_uint32, module.words), len(module.words), options), ctypes.c_void_p()
+        again = [type(it).from_buffer_copy(it) if isinstance(it, BUFFERS) else it for it in given]
+        status = self.call(name, *words, *given)
+        found = self.call("open", *words, closed, again[-1])
+        if found == OK:
+            found = self.call("module_" + {"words": "types"}.get(name, name), closed, *again)
+        self.call("close", closed)
+        if closed or (status, list(map(content, given))) != (found, list(map(content, again))):
+            self.different += 1
+            print(f"rows: {name} of the open module differ: {module.lines}")
+        return status
 
     def report(self, text):
         report, length = (ctypes.c_uint8 * 65536)(), ctypes.c_size_t()
-        status = self.call("report", array(ctypes.c_uint8, text), len(text), report, len(report),
-                           ctypes.byref(length))
+        status = self.call("report", array(ctypes.c_uint8, text), len(text), report, len(report), length)
         return status, bytes(report[:length.value]).decode()
 
-    def infos_of(self, name, kind, given, options):
+    def text(self, module):
         outcome, infos = self.header.outcome(), (self.header.info * 4096)()
-        status = self.call(name, array(kind, given), len(given), ctypes.byref(options), infos, len(infos),
-                           ctypes.byref(outcome))
+        status = self.call("text", array(ctypes.c_uint8, module.text), len(module.text), module.options(self.header),
+                           infos, len(infos), outcome)
         return status, outcome, infos[:outcome.types] if status == OK else []
 
-    def text(self, module):
-        return self.infos_of("text", ctypes.c_uint8, module.text, module.options(self.header))
-
     def words(self, module, capable=False):
-        return self.infos_of("words", ctypes.c_uint32, module.words, module.options(self.header, capable))
+        outcome, infos = self.header.outcome(), (self.header.info * 4096)()
+        status = self.on_words("words", module, module.options(self.header, capable), infos, len(infos), outcome)
+        return status, outcome, infos[:outcome.types] if status == OK else []
 
     def functions(self, module):
         outcome, stages = self.header.outcome(), (ctypes.c_uint32 * 4096)()
-        given = array(ctypes.c_uint32, module.words)
-        status = self.call("functions", given, len(module.words), ctypes.byref(module.options(self.header)), stages,
-                           len(stages), ctypes.byref(outcome))
+        status = self.on_words("functions", module, module.options(self.header), stages, len(stages), outcome)
         return status, outcome, stages[:outcome.written]
 
     def leaves(self, module, ty, length):
         counts, leaves, outcome = self.header.counts(), (self.header.leaf * MOST_LEAVES)(), self.header.outcome()
-        paths, given = (ctypes.c_uint32 * (64 * MOST_LEAVES))(), array(ctypes.c_uint32, module.words)
-        status = self.call("leaves", given, len(module.words), ctypes.byref(module.options(self.header, True)),
-                           array(ctypes.c_uint32, [ty]), 1, ctypes.c_uint32(length), leaves, len(leaves), paths,
-                           len(paths), ctypes.byref(counts), ctypes.byref(outcome))
+        paths, types = (ctypes.c_uint32 * (64 * MOST_LEAVES))(), array(ctypes.c_uint32, [ty])
+        status = self.on_words("leaves", module, module.options(self.header, True), types, 1, ctypes.c_uint32(length),
+                               leaves, len(leaves), paths, len(paths), counts, outcome)
         found = [(leaf, paths[leaf.path_at:leaf.path_at + leaf.path_length]) for leaf in leaves[:counts.leaves]]
         return status, outcome, found
 
     def slots(self, module, ty, offset):
-        slots, given, outcome = ctypes.c_uint64(), array(ctypes.c_uint32, module.words), self.header.outcome()
-        status = self.call("slots", given, len(module.words), ctypes.byref(module.options(self.header, True)),
-                           ctypes.c_uint32(ty), ctypes.c_uint32(offset), ctypes.byref(slots), ctypes.byref(outcome))
+        slots, outcome = ctypes.c_uint64(), self.header.outcome()
+        status = self.on_words("slots", module, module.options(self.header, True), ctypes.c_uint32(ty),
+                               ctypes.c_uint32(offset), slots, outcome)
         return status, outcome, slots.value
 
 
@@ -376,7 +396,8 @@ def main():
                     print(f"rows: {path}: {title}: {query[:100]}: {result[:3]}")
     print(f"rows: {passed} results the same, {failed} others, {unknown} of queries whose result no call returns")
     print(f"rows: {agreed} modules have the same results as text and as words")
-    sys.exit(failed > 0 or passed == 0 or agreed == 0)
+    print(f"rows: {library.different} calls on open modules do otherwise than on their words")
+    sys.exit(failed > 0 or library.different > 0 or passed == 0 or agreed == 0)
 
 
 if __name__ == "__main__":

@@ -32,6 +32,11 @@ int main(int argc, char **argv) {
   asked.type = (uint32_t)atol(argv[2]);
   asked.text = "type scalar float 4\ntype vector 4 float 4\n";
   for (at = 0; at < CALLS; at++) ask(&asked, at, &right[at]);
+  for (at = DIRECT_CALLS; at < CALLS; at++)
+    if (memcmp(&right[at], &right[at - DIRECT_CALLS + ABOUT_WORDS], sizeof *right) != 0) {
+      printf("threads: what the call gives on words differs from the %s\n", call_names[at]);
+      return 1;
+    }
   for (at = 0; at < THREADS; at++)
     if (pthread_create(&threads[at], NULL, ask_often, &given[at]) != 0) return 2;
   for (at = 0; at < THREADS; at++) {

@@ -5,9 +5,12 @@ use crate::flags::{ShaderStages, TypeFlags};
 use crate::operands::Handle;
 use crate::options::Options;
 use crate::raw::{self, Subject};
-use crate::sys::{self, NagaCheckLeaf, NagaCheckOutcome, NagaCheckStatus, NagaCheckTypeInfo};
+use crate::sys::{
+    self, NagaCheckCounts, NagaCheckLeaf, NagaCheckOutcome, NagaCheckStatus, NagaCheckTypeInfo,
+};
 use crate::types::Type;
 use std::fmt;
+use std::slice;
 use std::thread;
 
 /// Whether a module in a text is accepted.
@@ -158,19 +161,51 @@ impl Leaves {
     }
 
     /// The leaves in order.
-    pub fn iter(&self) -> impl ExactSizeIterator<Item = Leaf<'_>> {
-        self.leaves.iter().map(|leaf| {
-            let start = leaf.path_at as usize;
-            Leaf {
-                first: leaf.first,
-                size: leaf.size,
-                alignment: leaf.alignment,
-                query: leaf.query,
-                path: &self.paths[start..start + leaf.path_length as usize],
-            }
-        })
+    pub fn iter(&self) -> LeafIter<'_> {
+        LeafIter {
+            leaves: self.leaves.iter(),
+            paths: &self.paths,
+        }
     }
 }
+
+impl<'a> IntoIterator for &'a Leaves {
+    type Item = Leaf<'a>;
+    type IntoIter = LeafIter<'a>;
+
+    fn into_iter(self) -> LeafIter<'a> {
+        self.iter()
+    }
+}
+
+/// The leaves of [`Leaves`] in order.
+#[derive(Clone, Debug)]
+pub struct LeafIter<'a> {
+    leaves: slice::Iter<'a, NagaCheckLeaf>,
+    paths: &'a [u32],
+}
+
+impl<'a> Iterator for LeafIter<'a> {
+    type Item = Leaf<'a>;
+
+    fn next(&mut self) -> Option<Leaf<'a>> {
+        let leaf = self.leaves.next()?;
+        let start = leaf.path_at as usize;
+        Some(Leaf {
+            first: leaf.first,
+            size: leaf.size,
+            alignment: leaf.alignment,
+            query: leaf.query,
+            path: &self.paths[start..start + leaf.path_length as usize],
+        })
+    }
+
+    fn size_hint(&self) -> (usize, Option<usize>) {
+        self.leaves.size_hint()
+    }
+}
+
+impl ExactSizeIterator for LeafIter<'_> {}
 
 /// A buffer of elements that a call overwrites.
 fn buffer<T: Clone + Default>(count: usize) -> Result<Vec<T>, Error> {
@@ -188,7 +223,7 @@ fn buffer_of<T: Clone + Default>(count: u64) -> Result<Vec<T>, Error> {
 }
 
 /// How many items have an opcode that is looked for: of a module that can be read, or the first ones of another.
-fn count_items(words: &[u32], is_counted: impl Fn(u32) -> bool) -> usize {
+pub(crate) fn count_items(words: &[u32], is_counted: impl Fn(u32) -> bool) -> usize {
     let mut left = words;
     let mut count = 0;
     while let [head, rest @ ..] = left {
@@ -199,7 +234,7 @@ fn count_items(words: &[u32], is_counted: impl Fn(u32) -> bool) -> usize {
 }
 
 /// The error of a status that is none of success, with what was found out.
-fn error_of(status: NagaCheckStatus, outcome: &NagaCheckOutcome) -> Error {
+pub(crate) fn error_of(status: NagaCheckStatus, outcome: &NagaCheckOutcome) -> Error {
     match status {
         sys::NAGA_CHECK_REFUSED => {
             Refusal::from_outcome(outcome).map_or(Error::Unknown, Error::Refused)
@@ -250,9 +285,9 @@ pub fn report(text: &[u8]) -> Result<Report, Error> {
 }
 
 /// The infos that a call writes, which is given a buffer of at first `count` elements.
-fn infos_of(
+pub(crate) fn infos_of(
     count: usize,
-    call: impl Fn(&mut [NagaCheckTypeInfo]) -> (NagaCheckStatus, NagaCheckOutcome),
+    mut call: impl FnMut(&mut [NagaCheckTypeInfo]) -> (NagaCheckStatus, NagaCheckOutcome),
 ) -> Result<Vec<TypeInfo>, Error> {
     let mut infos = buffer(count)?;
     loop {
@@ -335,9 +370,19 @@ pub fn check_words(words: &[u32], options: &Options) -> Result<Vec<TypeInfo>, Er
 pub fn check_functions(words: &[u32], options: &Options) -> Result<FunctionStages, FunctionsError> {
     let is_function =
         |opcode| [sys::NAGA_CHECK_OP_FUNCTION, sys::NAGA_CHECK_OP_ENTRY_POINT].contains(&opcode);
-    let mut stages = buffer(count_items(words, is_function))?;
+    stages_of(count_items(words, is_function), |stages| {
+        raw::check_functions(Subject { words, options }, stages)
+    })
+}
+
+/// The stages that a call writes, which is given a buffer of at first `count` elements.
+pub(crate) fn stages_of(
+    count: usize,
+    mut call: impl FnMut(&mut [u32]) -> (NagaCheckStatus, NagaCheckOutcome),
+) -> Result<FunctionStages, FunctionsError> {
+    let mut stages = buffer(count)?;
     loop {
-        let (status, outcome) = raw::check_functions(Subject { words, options }, &mut stages);
+        let (status, outcome) = call(&mut stages);
         let needed = outcome.functions.saturating_add(outcome.entry_points);
         let is_too_short = needed > stages.len() as u64;
         match status {
@@ -396,13 +441,26 @@ pub fn leaves(
 ) -> Result<Leaves, Error> {
     let subject = Subject { words, options };
     let types: Vec<u32> = types.iter().map(|ty| ty.index()).collect();
-    let (status, counts, outcome) = raw::count_leaves(subject, &types, length);
+    leaves_of(
+        raw::count_leaves(subject, &types, length),
+        |leaves, paths| raw::leaves(subject, &types, length, leaves, paths),
+    )
+}
+
+/// What calls on leaves return besides leaves and paths.
+type Counted = (NagaCheckStatus, NagaCheckCounts, NagaCheckOutcome);
+
+/// The leaves that a call writes, which were counted before.
+pub(crate) fn leaves_of(
+    (status, counts, outcome): Counted,
+    call: impl FnOnce(&mut [NagaCheckLeaf], &mut [u32]) -> Counted,
+) -> Result<Leaves, Error> {
     if status != sys::NAGA_CHECK_OK {
         return Err(error_of(status, &outcome));
     }
     let mut leaves = buffer_of(counts.leaves)?;
     let mut paths = buffer_of(counts.paths)?;
-    match raw::leaves(subject, &types, length, &mut leaves, &mut paths) {
+    match call(&mut leaves, &mut paths) {
         (sys::NAGA_CHECK_OK, ..) => Ok(Leaves {
             leaves,
             paths,
@@ -476,21 +534,28 @@ pub fn slots(
     ty: Handle<Type>,
     offset: u32,
 ) -> Result<u64, Error> {
+    let subject = Subject { words, options };
+    let structs = count_items(words, |opcode| opcode == sys::NAGA_CHECK_OP_STRUCT);
+    slots_of(structs, || raw::slots(subject, ty.index(), offset))
+}
+
+/// The slots that a call returns on a module of so many structs.
+pub(crate) fn slots_of(
+    structs: usize,
+    call: impl FnOnce() -> (NagaCheckStatus, u64, NagaCheckOutcome) + Send,
+) -> Result<u64, Error> {
     /// How deep structs may be nested on the stack that every caller has.
     const MOST_STRUCTS: usize = 1000;
     /// More than the library needs for a struct within a struct.
     const STACK_OF_STRUCT: usize = 1024;
-    let subject = Subject { words, options };
-    let structs = count_items(words, |opcode| opcode == sys::NAGA_CHECK_OP_STRUCT);
     let (status, slots, outcome) = if structs <= MOST_STRUCTS {
-        raw::slots(subject, ty.index(), offset)
+        call()
     } else {
         // All structs may be nested, and the library calls itself for each.
         let stack = structs.saturating_mul(STACK_OF_STRUCT);
         thread::scope(|scope| {
             let thread = thread::Builder::new().stack_size(stack);
-            let call = thread.spawn_scoped(scope, || raw::slots(subject, ty.index(), offset));
-            call.ok()?.join().ok()
+            thread.spawn_scoped(scope, call).ok()?.join().ok()
         })
         .ok_or(Error::OutOfMemory)?
     };

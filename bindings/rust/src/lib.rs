@@ -3,7 +3,7 @@
 //! [`Words`] builds a module from types, expressions and functions that are named as in naga, and the calls read its
 //! words: [`check_words`] and [`check_functions`] validate it, [`leaves`] tells at which bytes of a buffer its values
 //! are, and [`slots`] which immediate data they use. [`check_text`] validates a module in the text that the program
-//! `naga_check` reads. [`Options`] say how a module is validated and how much a call may take: what comes in the words
+//! `naga_check` reads. [`Module`] reads and validates words once, for many questions. [`Options`] say how a module is validated and how much a call may take: what comes in the words
 //! or the text of a stranger can't loosen them.
 //!
 //! `Ok` means that every rule of the module's handles, types, global expressions, constants and overrides holds, and
@@ -23,7 +23,7 @@
 //! # Ok::<(), naga_check::BuildError>(())
 //! ```
 //!
-//! Nothing is kept between calls, and any number of threads may call at once.
+//! Nothing is kept between calls but a [`Module`], and any number of threads may call at once.
 //!
 //! # The library
 //!
@@ -51,6 +51,7 @@ mod expression_error;
 mod expressions;
 mod flags;
 mod module;
+mod opened;
 mod operands;
 mod operators;
 mod options;
@@ -66,7 +67,7 @@ mod words;
 
 pub use calls::{
     check_functions, check_text, check_words, leaves, leaves_up_to, report, slots, FunctionStages,
-    FunctionsError, Leaf, Leaves, Report, TypeInfo, Verdict,
+    FunctionsError, Leaf, LeafIter, Leaves, Report, TypeInfo, Verdict,
 };
 pub use errors::{
     ComposeError, ConstExpressionError, ConstantError, Disalignment, Error, HandleError,
@@ -80,6 +81,7 @@ pub use module::{
     Constant, DiagnosticFilterNode, Documented, EntryPoint, Function, FunctionArgument,
     FunctionResult, GlobalVariable, LocalVariable, MeshStageInfo, Override, SpecialTypes,
 };
+pub use opened::Module;
 pub use operands::Handle;
 pub use operators::{BinaryOperator, MathFunction, RelationalFunction, UnaryOperator};
 pub use options::{Options, Settings};

@@ -6,7 +6,8 @@
 
 use crate::options::Options;
 use crate::sys::{
-    self, NagaCheckCounts, NagaCheckLeaf, NagaCheckOutcome, NagaCheckStatus, NagaCheckTypeInfo,
+    self, NagaCheckCounts, NagaCheckLeaf, NagaCheckModule, NagaCheckOutcome, NagaCheckStatus,
+    NagaCheckTypeInfo,
 };
 use crate::version;
 
@@ -176,4 +177,142 @@ pub(crate) fn slots(
         )
     };
     (status, slots, outcome)
+}
+
+/// A module that the library keeps, open or closed: no other code writes it, and it is closed when it is dropped.
+#[derive(Debug)]
+pub(crate) struct OpenModule(NagaCheckModule);
+
+// SAFETY: the library is proved to keep nothing of a thread in an open module.
+unsafe impl Send for OpenModule {}
+
+impl Drop for OpenModule {
+    fn drop(&mut self) {
+        // SAFETY: the module is as a call left it.
+        unsafe { sys::naga_check_close_with(&raw mut self.0) }
+    }
+}
+
+impl OpenModule {
+    /// Validates a module, and opens it if it is accepted.
+    pub(crate) fn new(subject: Subject<'_>) -> (NagaCheckStatus, OpenModule, NagaCheckOutcome) {
+        version::require();
+        let mut module = NagaCheckModule::closed();
+        let mut outcome = NagaCheckOutcome::default();
+        // SAFETY: the words are a slice, the options are a reference, and the rest are variables of their own.
+        let status = unsafe {
+            sys::naga_check_open_with(
+                subject.words.as_ptr(),
+                subject.words.len(),
+                subject.options.as_raw(),
+                &raw mut module,
+                &raw mut outcome,
+            )
+        };
+        (status, OpenModule(module), outcome)
+    }
+
+    /// Writes the infos of its types.
+    pub(crate) fn types(
+        &mut self,
+        infos: &mut [NagaCheckTypeInfo],
+    ) -> (NagaCheckStatus, NagaCheckOutcome) {
+        let mut outcome = NagaCheckOutcome::default();
+        // SAFETY: the module is as a call left it, the buffer is a slice, and `outcome` is a variable of its own.
+        let status = unsafe {
+            sys::naga_check_module_types_with(
+                &raw mut self.0,
+                infos.as_mut_ptr(),
+                infos.len(),
+                &raw mut outcome,
+            )
+        };
+        (status, outcome)
+    }
+
+    /// Validates its functions, and writes the stages of functions and entry points.
+    pub(crate) fn functions(&mut self, stages: &mut [u32]) -> (NagaCheckStatus, NagaCheckOutcome) {
+        let mut outcome = NagaCheckOutcome::default();
+        // SAFETY: the module is as a call left it, the buffer is a slice, and `outcome` is a variable of its own.
+        let status = unsafe {
+            sys::naga_check_module_functions_with(
+                &raw mut self.0,
+                stages.as_mut_ptr(),
+                stages.len(),
+                &raw mut outcome,
+            )
+        };
+        (status, outcome)
+    }
+
+    /// Counts the leaves of types, and the indexes of their paths.
+    pub(crate) fn count_leaves(
+        &mut self,
+        types: &[u32],
+        length: u32,
+    ) -> (NagaCheckStatus, NagaCheckCounts, NagaCheckOutcome) {
+        let mut counts = NagaCheckCounts::default();
+        let mut outcome = NagaCheckOutcome::default();
+        // SAFETY: the module is as a call left it, the types are a slice, and the rest are variables of their own.
+        let status = unsafe {
+            sys::naga_check_module_count_leaves_with(
+                &raw mut self.0,
+                types.as_ptr(),
+                types.len(),
+                length,
+                &raw mut counts,
+                &raw mut outcome,
+            )
+        };
+        (status, counts, outcome)
+    }
+
+    /// Writes the leaves of types, and their paths.
+    pub(crate) fn leaves(
+        &mut self,
+        types: &[u32],
+        length: u32,
+        leaves: &mut [NagaCheckLeaf],
+        paths: &mut [u32],
+    ) -> (NagaCheckStatus, NagaCheckCounts, NagaCheckOutcome) {
+        let mut counts = NagaCheckCounts::default();
+        let mut outcome = NagaCheckOutcome::default();
+        // SAFETY: the module is as a call left it, the buffers are slices, and the rest are variables of their own.
+        let status = unsafe {
+            sys::naga_check_module_leaves_with(
+                &raw mut self.0,
+                types.as_ptr(),
+                types.len(),
+                length,
+                leaves.as_mut_ptr(),
+                leaves.len(),
+                paths.as_mut_ptr(),
+                paths.len(),
+                &raw mut counts,
+                &raw mut outcome,
+            )
+        };
+        (status, counts, outcome)
+    }
+
+    /// Returns the slots of immediate data that a value of a type uses from a byte on.
+    pub(crate) fn slots(
+        &mut self,
+        ty: u32,
+        offset: u32,
+    ) -> (NagaCheckStatus, u64, NagaCheckOutcome) {
+        let mut slots = 0;
+        let mut outcome = NagaCheckOutcome::default();
+        // SAFETY: the module is as a call left it, and the rest are variables of their own.
+        let status = unsafe {
+            sys::naga_check_module_slots_with(
+                &raw mut self.0,
+                ty,
+                offset,
+                &raw mut slots,
+                &raw mut outcome,
+            )
+        };
+        (status, slots, outcome)
+    }
 }

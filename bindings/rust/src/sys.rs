@@ -4,9 +4,12 @@
 
 mod flags;
 
+use std::ffi::c_void;
+use std::ptr;
+
 pub use flags::*;
 
-/// What calls return: a `NAGA_CHECK_` constant from `NAGA_CHECK_OK` to `NAGA_CHECK_NOT_SHAREABLE`.
+/// What calls return: a `NAGA_CHECK_` constant from `NAGA_CHECK_OK` to `NAGA_CHECK_NOT_OPEN`.
 pub type NagaCheckStatus = u32;
 
 /// Declares constants that share a line of documentation.
@@ -44,6 +47,7 @@ constants! {
     NAGA_CHECK_OPTIONS = 7,
     NAGA_CHECK_SETTINGS = 8,
     NAGA_CHECK_NOT_SHAREABLE = 9,
+    NAGA_CHECK_NOT_OPEN = 10,
 }
 
 /// The most leaves that a call comes to by default.
@@ -522,6 +526,24 @@ pub struct NagaCheckCounts {
     pub paths: u64,
 }
 
+/// A module that was read and validated once, open or closed.
+#[repr(C)]
+#[derive(Debug)]
+pub struct NagaCheckModule {
+    /// What the library knows of it, or null if it is closed.
+    at: *mut c_void,
+}
+
+impl NagaCheckModule {
+    /// A module that is closed.
+    #[must_use]
+    pub const fn closed() -> NagaCheckModule {
+        NagaCheckModule {
+            at: ptr::null_mut(),
+        }
+    }
+}
+
 unsafe extern "C" {
     /// The version of the interface that the library has.
     pub safe fn naga_check_abi_version() -> u32;
@@ -585,6 +607,67 @@ unsafe extern "C" {
         outcome: *mut NagaCheckOutcome,
     ) -> NagaCheckStatus;
 
+    /// Validates a module in words, and opens it if it is accepted.
+    pub fn naga_check_open_with(
+        words: *const u32,
+        word_count: usize,
+        options: *const NagaCheckOptions,
+        module: *mut NagaCheckModule,
+        outcome: *mut NagaCheckOutcome,
+    ) -> NagaCheckStatus;
+
+    /// Writes the infos of the types of an open module.
+    pub fn naga_check_module_types_with(
+        module: *mut NagaCheckModule,
+        infos: *mut NagaCheckTypeInfo,
+        info_count: usize,
+        outcome: *mut NagaCheckOutcome,
+    ) -> NagaCheckStatus;
+
+    /// Validates the expressions of the functions and entry points of an open module.
+    pub fn naga_check_module_functions_with(
+        module: *mut NagaCheckModule,
+        stages: *mut u32,
+        stage_count: usize,
+        outcome: *mut NagaCheckOutcome,
+    ) -> NagaCheckStatus;
+
+    /// Writes the leaves of types of an open module.
+    pub fn naga_check_module_leaves_with(
+        module: *mut NagaCheckModule,
+        types: *const u32,
+        type_count: usize,
+        length: u32,
+        leaves: *mut NagaCheckLeaf,
+        leaf_count: usize,
+        paths: *mut u32,
+        path_count: usize,
+        counts: *mut NagaCheckCounts,
+        outcome: *mut NagaCheckOutcome,
+    ) -> NagaCheckStatus;
+
+    /// Counts the leaves of types of an open module, and the indexes of their paths.
+    pub fn naga_check_module_count_leaves_with(
+        module: *mut NagaCheckModule,
+        types: *const u32,
+        type_count: usize,
+        length: u32,
+        counts: *mut NagaCheckCounts,
+        outcome: *mut NagaCheckOutcome,
+    ) -> NagaCheckStatus;
+
+    /// Writes the slots of immediate data that a value of a type of an open module uses.
+    pub fn naga_check_module_slots_with(
+        module: *mut NagaCheckModule,
+        r#type: u32,
+        offset: u32,
+        slots: *mut u64,
+        outcome: *mut NagaCheckOutcome,
+    ) -> NagaCheckStatus;
+
+    /// Closes a module.
+    pub fn naga_check_close_with(module: *mut NagaCheckModule);
+
     /// Validates a module in a text.
     pub fn naga_check_text_with(
         text: *const u8,
@@ -620,4 +703,5 @@ const _: () = {
     assert!(offset_of!(NagaCheckLeaf, path_length) == 16);
     assert!(offset_of!(NagaCheckLeaf, query) == 28);
     assert!(size_of::<NagaCheckCounts>() == 16);
+    assert!(size_of::<NagaCheckModule>() == 8);
 };

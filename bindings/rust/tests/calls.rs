@@ -511,3 +511,53 @@ fn rules_of_types_are_told_with_what_they_are_about() {
         "The Bool scalar width 1 is not supported for an atomic"
     );
 }
+
+#[test]
+fn an_open_module_says_what_the_calls_say() {
+    let mut words = Words::new();
+    let number = words.add_type(TypeInner::Scalar(Scalar::U32));
+    let vector = words.add_type(TypeInner::Vector {
+        size: VectorSize::Quad,
+        scalar: Scalar::F32,
+    });
+    let members = vec![StructMember::at(0, number), StructMember::at(16, vector)];
+    let pair = words.add_type(TypeInner::Struct { members, span: 32 });
+    let mut function = Function::default();
+    function.add_expression(Expression::Literal(Literal::U32(7)));
+    words.add_function(&function);
+    let words = words.finish().expect("the module has words");
+    let module = Module::new(&words, &DEFAULT).expect("the module is accepted");
+    assert_eq!(
+        check_words(&words, &DEFAULT).as_deref(),
+        Ok(module.type_infos())
+    );
+    assert_eq!(module.type_info(pair), module.type_infos().last());
+    assert_eq!(module.type_info(Handle::new(3)), None);
+    assert_eq!(module.leaves(pair, 0), leaves(&words, &DEFAULT, &[pair], 0));
+    assert_eq!(module.slots(pair, 4), slots(&words, &DEFAULT, pair, 4));
+    assert_eq!(module.functions(), check_functions(&words, &DEFAULT));
+    // It stands on its own, and other threads may have it.
+    drop(words);
+    let count =
+        std::thread::spawn(move || module.leaves(pair, 0).map(|leaves| leaves.iter().len()));
+    assert_eq!(count.join().expect("the thread ends"), Ok(2));
+}
+
+#[test]
+fn an_open_module_has_the_errors_of_the_calls() {
+    let (words, ty) = module_of(TypeInner::Scalar(Scalar::F16));
+    let refused = check_words(&words, &DEFAULT).unwrap_err();
+    assert_eq!(Module::new(&words, &DEFAULT).unwrap_err(), refused);
+    assert_eq!(
+        Module::new(&[255], &DEFAULT).unwrap_err(),
+        Error::Unreadable { at: 0 }
+    );
+    let (words, ty) = (module_of(TypeInner::Scalar(Scalar::BOOL)).0, ty);
+    let module = Module::new(&words, &DEFAULT.most_leaves(0)).expect("the module is accepted");
+    assert_eq!(module.leaves(ty, 0), Err(Error::Limit));
+    assert_eq!(module.leaves(Handle::new(1), 0), Err(Error::NoType));
+    assert_eq!(module.slots(ty, 0), Err(Error::NotShareable));
+    let deep = nested_structs(5000);
+    let module = Module::new(&deep.0, &DEFAULT).expect("the module is accepted");
+    assert_eq!(module.slots(deep.1, 0), Ok(1));
+}

@@ -23,7 +23,8 @@ use Rattle.naga_valid.specs.declared.function.FunctionsError.{FunctionsError}
 use Rattle.naga_c.specs.declared.subject.Subject.{Subject}
 use Rattle.naga_c.specs.Calls.{IsNotAccepted, refused, undecided}
 use Rattle.naga_c.specs.Functions.{validation_of}
-use Rattle.naga_c.specs.Verdicts.{refused_outcome, refused_status, settings_in}
+use Rattle.naga_c.specs.Verdicts.{settings_in}
+use Rattle.naga_c.specs.steps.Verdicts.{refused_outcome, refused_status}
 use Rattle.naga_c.specs.declared.results.Outcome.{Outcome}
 use Rattle.naga_c.specs.declared.status.Status.{Status}
 

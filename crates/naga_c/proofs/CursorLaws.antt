@@ -9,7 +9,8 @@ use Rattle.naga_leaves.specs.Cursor.{IsAtEnd, IsCursor, IsNext, IsOverSame, IsRe
 use Rattle.naga_leaves.specs.LeavesFrom.{HasLeafFrom}
 use Rattle.naga_leaves.specs.declared.cursor.Leaves.{Leaves}
 use Rattle.naga_typing.specs.Leaves.{LeafBytes, elements, leaf_at}
-use Rattle.naga_c.specs.Leaves.{AddsAnswers, Answer, AreAll, AreLeavesOfEach, Buffers, EndsAfter, Found, HasNoRoom, HasTypes, IsLeafOf, StopsAfter, WritesAll, WritesType, all, answer_to, answers_from, done, full, no_memory, over, some, stopped, too_many}
+use Rattle.naga_c.specs.Leaves.{Answer, AreAll, AreLeavesOfEach, Buffers, Found, HasNoRoom, HasTypes, IsLeafOf, StopsAfter, all, answer_to, answers_from, full, no_memory, over, some, too_many}
+use Rattle.naga_c.specs.steps.Leaves.{AddsAnswers, EndsAfter, WritesAll, WritesType, done, stopped}
 use Rattle.naga_c.specs.declared.status.Status.{Status}
 use Rattle.naga_c.specs.declared.status.Status.TheVariants.{Done, Limit, OutOfMemory, Room}
 use Rattle.naga_c.proofs.LeafLaws.{IsUpTo, adds_more, adds_none, answers_more, answers_push, are_all, are_first, from_start, one_more, zip_more}

@@ -6,7 +6,8 @@ use Rattle.naga_ir.specs.declared.ir.Module.{Module}
 use Rattle.naga_leaves.specs.Cursor.{IsAtEnd, IsCursor, IsNext, YieldsAll, path_of}
 use Rattle.naga_leaves.specs.declared.cursor.Leaves.{Leaves}
 use Rattle.naga_typing.specs.Leaves.{LeafBytes, elements}
-use Rattle.naga_c.specs.LeafCounts.{CannotCount, CannotCountType, CountsAll, CountsType, IsTooMuch, at_type, over, path_total, with_each, with_found}
+use Rattle.naga_c.specs.LeafCounts.{CannotCount, CannotCountType, CountsAll, IsTooMuch, at_type, over, path_total, with_each, with_found}
+use Rattle.naga_c.specs.steps.LeafCounts.{CountsType}
 use Rattle.naga_c.specs.Leaves.{AreAll, AreLeavesOfEach, Found, HasTypes, IsLeafOf, no_counts}
 use Rattle.naga_c.specs.declared.results.Counts.{Counts}
 use Rattle.naga_c.specs.declared.status.Status.{Status}

@@ -12,7 +12,8 @@ use Rattle.naga_leaves.specs.Order.{IsAtOrAfter}
 use Rattle.naga_c.specs.Buffers.{BeginsWith}
 use Rattle.naga_c.specs.declared.results.Counts.{Counts}
 use Rattle.naga_c.specs.declared.results.LeafRow.{LeafRow}
-use Rattle.naga_c.specs.Leaves.{AddsAnswers, Answer, AreAll, AreFirst, AreWritten, Buffers, ComesAfter, Found, answer_to, answers_from, paths_of, row_of, rows_from}
+use Rattle.naga_c.specs.Leaves.{Answer, AreAll, AreFirst, AreWritten, Buffers, ComesAfter, Found, answer_to, answers_from, paths_of, row_of, rows_from}
+use Rattle.naga_c.specs.steps.Leaves.{AddsAnswers}
 
 -- a test that decides says which
 decided : {P : Type 0} (b : Bool) → Decides b P → P ⊎ ¬ P

@@ -1,9 +1,11 @@
+pub mod AcceptedLaws
 pub mod CallLaws
 pub mod CountLaws
 pub mod CursorLaws
 pub mod Fronts
 pub mod LeafCountLaws
 pub mod LeafLaws
+pub mod OpenModuleValues
 pub mod RowLaws
 pub mod SlotLaws
 pub mod StageLaws

@@ -1,7 +1,8 @@
 -- What comes of a module that was read, with the settings that it brings.
 use Rattle.std.proofs.Common.{◌≡◌, ℕ, Err, Ok, Result}
 use Rattle.naga_ir.specs.declared.ir.Module.{Module}
-use Rattle.naga_c.specs.Subjects.{IsReadTo, IsTaken}
+use Rattle.naga_c.specs.Subjects.{IsReadTo}
+use Rattle.naga_c.specs.steps.Subjects.{IsTaken}
 use Rattle.naga_c.specs.declared.options.Options.{Options as OptionsType}
 use Rattle.naga_c.specs.declared.subject.NoSubject.{NoSubject}
 use Rattle.naga_c.specs.declared.subject.NoSubject.TheVariants.{Options, Limit, Unreadable, Settings, OutOfMemory}

@@ -38,12 +38,6 @@ pub data CannotCountType (m : Module) (n ty most : ℕ) (before : Counts) (statu
   over : (found : List Found) (next : Found) → AreFirst (IsLeafOf m n ty) (found ++ next ∷ []) → IsTooMuch most (with_found before found) (length next.path) → status ≡ Limit → CannotCountType m n ty most before status
   no_memory : status ≡ OutOfMemory → CannotCountType m n ty most before status
 
--- what counting the leaves of the type of index `ty` of the module `m` after `before` comes to, where a runtime-sized
--- array has `n` elements
-abbrev pub CountsType : Module → (n ty most : ℕ) → Counts → Result Counts Status → Type 0
-CountsType m n ty most before (Ok counts) = (found : List Found) × AreAll (IsLeafOf m n ty) found × (counts ≡ with_found before found)
-CountsType m n ty most before (Err status) = CannotCountType m n ty most before status
-
 -- why the leaves of types of the module `m` can't be counted: it lacks one of them, or those of one can't after those
 -- of the types before it
 pub data CannotCount (m : Module) (types : List ℕ) (n most : ℕ) (status : Status) : Type 0 where

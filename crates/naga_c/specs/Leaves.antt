@@ -54,10 +54,6 @@ pub record Answer : Type 0 where
 abbrev pub answer_to : ℕ → Found → Answer
 answer_to query found = record { query = query; found = found }
 
--- the leaf at a path, as an answer to the question at the place `query`
-abbrev pub answer : ℕ → List ℕ → LeafBytes → Answer
-answer query path leaf = answer_to query (record { path = path; leaf = leaf })
-
 -- the leaves that were found of each type that was asked about, from the place `query` on
 abbrev pub answers_from : ℕ → List (List Found) → List Answer
 answers_from query [] = []
@@ -92,10 +88,6 @@ pub record AreWritten (answers : List Answer) (old new : Buffers) : Type 0 where
   pub paths : BeginsWith (paths_of answers) old.paths new.paths
   pub as_many : new.counts ≡ record { leaves = length answers; paths = length (paths_of answers) }
 
--- `added` were written to the buffers `old`, which are `new` then, after all that was written to them before
-abbrev pub AddsAnswers : List Answer → (old new : Buffers) → Type 0
-AddsAnswers added old new = (answers : List Answer) (first : Buffers) → AreWritten answers first old → AreWritten (answers ++ added) first new
-
 -- there is no room for a leaf with this path: one of the buffers is full, or the path is longer than a row can say
 pub data HasNoRoom (buffers : Buffers) (path : List ℕ) : Type 0 where
   no_row : length buffers.leaves ≤ buffers.counts.leaves → HasNoRoom buffers path
@@ -108,18 +100,6 @@ pub data StopsAfter (most : ℕ) (IsLeaf : Found → Type 0) (found : List Found
   over : (next : Found) → AreFirst IsLeaf (found ++ next ∷ []) → most ≤ buffers.counts.leaves → status ≡ Limit → StopsAfter most IsLeaf found buffers status
   full : (next : Found) → AreFirst IsLeaf (found ++ next ∷ []) → buffers.counts.leaves < most → HasNoRoom buffers next.path → status ≡ Room → StopsAfter most IsLeaf found buffers status
   no_memory : AreFirst IsLeaf found → status ≡ OutOfMemory → StopsAfter most IsLeaf found buffers status
-
--- the leaves of which `IsLeaf` holds were found up to a place, and all of them if the status says so
-pub data EndsAfter (most : ℕ) (IsLeaf : Found → Type 0) (found : List Found) (buffers : Buffers) (status : Status) : Type 0 where
-  done : AreAll IsLeaf found → status ≡ Done → EndsAfter most IsLeaf found buffers status
-  stopped : StopsAfter most IsLeaf found buffers status → EndsAfter most IsLeaf found buffers status
-
--- a call wrote the leaves of the type of index `ty` of the module `m`, as answers to the question at the place `query`,
--- where a runtime-sized array has `n` elements, and `most` leaves may be written in all
-pub record WritesType (m : Module) (n ty most query : ℕ) (old new : Buffers) (status : Status) : Type 0 where
-  pub found : List Found
-  pub added : AddsAnswers (map (answer_to query) found) old new
-  pub ends : EndsAfter most (IsLeafOf m n ty) found new status
 
 -- all types of these indexes are in the module `m`
 abbrev pub HasTypes : Module → List ℕ → Type 0
@@ -139,12 +119,6 @@ pub data ReportsLeaves (m : Module) (types : List ℕ) (n most : ℕ) (answers :
       → answers ≡ answers_from 0 (found ++ last ∷ []) → StopsAfter most (IsLeafOf m n ty) last buffers status → ReportsLeaves m types n most answers buffers status
   too_many : HasTypes m types → (found : List (List Found)) → AreLeavesOfEach m n (take (length found) types) found → largest_u32 < length found → length found < length types
       → answers ≡ answers_from 0 found → status ≡ Room → ReportsLeaves m types n most answers buffers status
-
--- a call on an accepted module found the buffers `old` and left `new`: the answers that it wrote
-pub record WritesAll (m : Module) (types : List ℕ) (n most : ℕ) (old new : Buffers) (status : Status) : Type 0 where
-  pub answers : List Answer
-  pub added : AddsAnswers answers old new
-  pub reported : ReportsLeaves m types n most answers new status
 
 -- nothing is written
 abbrev pub no_counts : Counts

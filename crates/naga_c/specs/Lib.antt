@@ -5,8 +5,10 @@
 -- Calls.OfWords, OfText: what a call on words or a text ends with, whatever it is asked; IsNotAccepted: the same of a
 -- module
 -- Types.ChecksTypes, Functions.ChecksFunctions, Leaves.ChecksLeaves, Slots.ChecksSlots: what calls write of a module
+-- Accepted.IsAccepted, OpenModules.Opens, OfOpenModule: a module that is opened, and what calls on it end with
 -- Text.IsReported: what the call for a report leaves with its caller
 -- Verdicts, Refusals, Codes, Values: what calls write of a module that can't be read, or that is refused
+pub mod Accepted
 pub mod Buffers
 pub mod Calls
 pub mod Codes
@@ -15,6 +17,7 @@ pub mod Kinds
 pub mod LeafCounts
 pub mod Leaves
 pub mod Numbers
+pub mod OpenModules
 pub mod Options
 pub mod Refusals
 pub mod Slots
@@ -24,3 +27,4 @@ pub mod Text
 pub mod Types
 pub mod Values
 pub mod Verdicts
+pub mod steps

@@ -1,7 +1,7 @@
 -- The numbers of what calls return.
 use Rattle.std.specs.Prelude.{◌≡◌, ℕ}
 use Rattle.naga_c.specs.declared.status.Status.{Status}
-use Rattle.naga_c.specs.declared.status.Status.TheVariants.{Done, Refused, Unreadable, OutOfMemory, Room, NoType, Limit, Options, Settings, NotShareable}
+use Rattle.naga_c.specs.declared.status.Status.TheVariants.{Done, Refused, Unreadable, OutOfMemory, Room, NoType, Limit, Options, Settings, NotShareable, NotOpen}
 use Rattle.naga_c.specs.declared.subject.NoSubject.{NoSubject}
 use Rattle.naga_c.specs.declared.subject.NoSubject.TheVariants as none
 use Rattle.naga_report.specs.declared.report.Outcome.{Outcome}
@@ -19,6 +19,7 @@ code Limit = 6
 code Options = 7
 code Settings = 8
 code NotShareable = 9
+code NotOpen = 10
 
 -- a call returned the number of a status of which this holds
 abbrev pub Returns : ℕ → (Status → Type 0) → Type 0

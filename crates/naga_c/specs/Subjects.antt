@@ -17,21 +17,6 @@ use Rattle.naga_c.specs.declared.subject.NoSubject.TheVariants.{Options, Limit, 
 use Rattle.naga_c.specs.declared.subject.Said.{Said}
 use Rattle.naga_c.specs.declared.subject.Subject.{Subject}
 
--- why words that were not read have nothing to validate
-abbrev pub unread_words : WordsError → NoSubject
-unread_words (words.Item at) = Unreadable at
-unread_words words.OutOfMemory = OutOfMemory
-
--- why a text that was not read has nothing to validate
-abbrev pub unread_text : TextError → NoSubject
-unread_text (text.Line number) = Unreadable number
-unread_text text.OutOfMemory = OutOfMemory
-
--- a module with the settings `said` was taken under `options`: with the settings in force, if they allow those
-abbrev pub IsTaken : OptionsType → Module → Said → Result Subject NoSubject → Type 0
-IsTaken options m said (Ok subject) = Allow options said × (subject ≡ subject_of options m said)
-IsTaken options m said (Err why) = (¬ (Allow options said)) × (why ≡ Settings)
-
 -- what came of reading something under known options and within their limits: what it says is taken if `Reads` holds
 -- of a module and settings, and `Stops` of where it can't be read
 abbrev pub IsReadTo : OptionsType → (Reads : Module → Said → Type 0) → (Stops : ℕ → Type 0) → Result Subject NoSubject → Type 0

@@ -44,30 +44,6 @@ counts_of m = record no_outcome { types = length m.types; functions = length m.f
 abbrev pub settings_in : Subject → Settings
 settings_in subject = record { flags = subject.flags; capabilities = subject.capabilities; resolved = subject.resolved }
 
--- the status of a module that is not accepted
-abbrev pub refused_status : ValidationError → Status
-refused_status (InvalidHandle e) = status.Refused
-refused_status (Layouter e) = status.Refused
-refused_status (Type_ handle name source) = status.Refused
-refused_status (ConstExpression handle source) = status.Refused
-refused_status (ArraySizeError handle) = status.Refused
-refused_status (Constant handle name source) = status.Refused
-refused_status (Override handle name source) = status.Refused
-refused_status Corrupted = status.Refused
-refused_status OutOfMemory = status.OutOfMemory
-
 -- what is written of a module that is refused with an error
 abbrev pub refused_by : Module → ValidationError → Outcome
 refused_by m e = let r = refusal_of e in record (counts_of m) { index = r.index; values = r.values.items; stage = r.stage; kind = r.kind; errors = r.errors; value_count = r.values.count }
-
--- what is written of a module that is not accepted
-abbrev pub refused_outcome : Module → ValidationError → Outcome
-refused_outcome m (InvalidHandle e) = refused_by m (InvalidHandle e)
-refused_outcome m (Layouter e) = refused_by m (Layouter e)
-refused_outcome m (Type_ handle name source) = refused_by m (Type_ handle name source)
-refused_outcome m (ConstExpression handle source) = refused_by m (ConstExpression handle source)
-refused_outcome m (ArraySizeError handle) = refused_by m (ArraySizeError handle)
-refused_outcome m (Constant handle name source) = refused_by m (Constant handle name source)
-refused_outcome m (Override handle name source) = refused_by m (Override handle name source)
-refused_outcome m Corrupted = refused_by m Corrupted
-refused_outcome m OutOfMemory = no_outcome

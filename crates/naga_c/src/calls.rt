@@ -1,25 +1,40 @@
 //! The calls on a module in words.
 
+ghost use Rattle.naga_c.specs.steps.Accepting.{Accepting};
 ghost use Rattle.naga_c.specs.Calls.{LeavesBuffer, OfWords};
 ghost use Rattle.naga_c.specs.Functions.{ChecksFunctions};
 ghost use Rattle.naga_c.specs.LeafCounts.{ChecksCounts};
 ghost use Rattle.naga_c.specs.Leaves.{ChecksLeaves, LeavesBuffers, buffers, no_counts};
 ghost use Rattle.naga_c.specs.Slots.{ChecksSlots};
 ghost use Rattle.naga_c.specs.Statuses.{Returns};
+ghost use Rattle.naga_c.specs.Subjects.{IsSubjectOfWords};
 ghost use Rattle.naga_c.specs.Types.{ChecksTypes};
 ghost use Rattle.std.specs.Prelude.{◌≡◌};
 
+use crate::accepted::{AcceptedModule, NotAccepted, accept};
 use crate::functions::check_functions;
-use crate::leaf_counts::check_counts;
-use crate::leaves::{Queries, check_leaves};
+use crate::leaf_counts::report_counts;
+use crate::leaves::{Queries, report_leaves};
 use crate::options::Options;
 use crate::results::{Counts, LeafRow, Outcome, TypeRow};
-use crate::slots::check_slots;
+use crate::slots::report_slots;
 use crate::status::{Status, status_without};
 use crate::subject::subject_of_words;
-use crate::types::check_types;
+use crate::types::report_types;
 use crate::verdict::outcome_without;
 use std::alloc::Global;
+
+/// What words have a call read, if the module is accepted.
+pub(crate) fn accepted_words(
+    alloc: Global,
+    words: &[u32],
+    options: &Options,
+) -> Result<AcceptedModule, NotAccepted>
+    ensures { Accepting (λ given. IsSubjectOfWords options.now words.now given) options.now.most_leaves result }
+{
+    let given = subject_of_words(alloc, words, options);
+    accept(alloc, given, options.most_leaves)
+}
 
 /// Checks the types of words.
 fn words_types(
@@ -32,11 +47,11 @@ fn words_types(
     ensures { OfWords options.now words.now (λ subject. ChecksTypes subject infos.old infos.new outcome.new)
         (LeavesBuffer infos.old infos.new outcome.new) result }
 {
-    match subject_of_words(alloc, words, options) {
-        Ok(subject) => check_types(alloc, &subject, infos, outcome),
-        Err(why) => {
-            *outcome = outcome_without(why);
-            status_without(why)
+    match accepted_words(alloc, words, options) {
+        Ok(accepted) => report_types(alloc, &accepted, infos, outcome),
+        Err(not) => {
+            *outcome = not.outcome;
+            not.status
         }
     }
 }
@@ -89,17 +104,16 @@ fn words_leaves(
         leaves: 0,
         paths: 0,
     };
-    match subject_of_words(alloc, call.words, call.options) {
-        Ok(subject) => {
+    match accepted_words(alloc, call.words, call.options) {
+        Ok(accepted) => {
             let queries = Queries {
-                subject: &subject,
+                accepted: &accepted,
                 types: call.types,
                 length: call.length,
-                most: call.options.most_leaves,
             };
-            check_leaves(alloc, queries, leaves, paths, counts)
+            report_leaves(alloc, queries, leaves, paths, counts)
         }
-        Err(why) => (outcome_without(why), status_without(why)),
+        Err(not) => (not.outcome, not.status),
     }
 }
 
@@ -114,17 +128,16 @@ fn words_counts(alloc: Global, call: LeafCall<'_>, counts: &mut Counts) -> (Outc
         leaves: 0,
         paths: 0,
     };
-    match subject_of_words(alloc, call.words, call.options) {
-        Ok(subject) => {
+    match accepted_words(alloc, call.words, call.options) {
+        Ok(accepted) => {
             let queries = Queries {
-                subject: &subject,
+                accepted: &accepted,
                 types: call.types,
                 length: call.length,
-                most: call.options.most_leaves,
             };
-            check_counts(alloc, queries, counts)
+            report_counts(alloc, queries, counts)
         }
-        Err(why) => (outcome_without(why), status_without(why)),
+        Err(not) => (not.outcome, not.status),
     }
 }
 
@@ -145,9 +158,9 @@ fn words_slots(alloc: Global, call: SlotCall<'_>, slots: &mut u64) -> (Outcome, 
         (λ outcome. (slots.new ≡ 0) × (result.0 ≡ outcome)) result.1 }
 {
     *slots = 0;
-    match subject_of_words(alloc, call.words, call.options) {
-        Ok(subject) => check_slots(alloc, &subject, call.ty, call.offset, slots),
-        Err(why) => (outcome_without(why), status_without(why)),
+    match accepted_words(alloc, call.words, call.options) {
+        Ok(accepted) => report_slots(&accepted, call.ty, call.offset, slots),
+        Err(not) => (not.outcome, not.status),
     }
 }
 

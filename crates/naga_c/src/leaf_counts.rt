@@ -1,6 +1,8 @@
 //! The call that counts the leaves of types.
 
-ghost use Rattle.naga_c.specs.LeafCounts.{ChecksCounts, CountsAll, CountsType, IsTooMuch};
+ghost use Rattle.naga_c.specs.Accepted.{IsAccepted};
+ghost use Rattle.naga_c.specs.LeafCounts.{ChecksCounts, CountsAll, IsTooMuch};
+ghost use Rattle.naga_c.specs.steps.LeafCounts.{CountsType};
 ghost use Rattle.naga_c.specs.Leaves.{no_counts};
 ghost use Rattle.naga_ir.specs.Handles.{GlobalReferencesOk};
 ghost use Rattle.naga_ir.specs.ItemReferences.{global_lists};
@@ -9,7 +11,7 @@ ghost use Rattle.std.specs.Prelude.{◌≡◌, ◌+◌, ◌<◌, length, MatchOp
 use crate::leaves::{Queries, Query, has_types};
 use crate::results::{Counts, Outcome};
 use crate::status::Status;
-use crate::verdict::{counts_of, refused_outcome, refused_status, validate, validator_for};
+use crate::verdict::counts_of;
 use naga_valid::{Handle, leaves_of};
 use std::alloc::Global;
 
@@ -52,11 +54,11 @@ fn count_type(alloc: Global, query: Query<'_>, before: Counts) -> Result<Counts,
 
 /// How many leaves the types have that are asked about, and how many indexes their paths have together.
 fn count_all(alloc: Global, queries: Queries<'_>) -> Result<Counts, Status>
-    requires { GlobalReferencesOk (global_lists queries.subject.now.«module») }
-    ensures { CountsAll queries.entry.subject.now.«module» queries.entry.types.now queries.entry.length
-        queries.entry.most result }
+    requires { GlobalReferencesOk (global_lists queries.accepted.now.subject.«module») }
+    ensures { CountsAll queries.entry.accepted.now.subject.«module» queries.entry.types.now queries.entry.length
+        queries.entry.accepted.now.most_leaves result }
 {
-    let module = &queries.subject.module;
+    let module = &queries.accepted.subject.module;
     if !has_types(module, queries.types) {
         return Err(Status::NoType);
     }
@@ -70,7 +72,7 @@ fn count_all(alloc: Global, queries: Queries<'_>) -> Result<Counts, Status>
             ty: Handle::new(*ty),
             length: queries.length,
             place: 0,
-            most: queries.most,
+            most: queries.accepted.most_leaves,
         };
         match count_type(alloc, query, counts) {
             Ok(counted) => counts = counted,
@@ -80,29 +82,23 @@ fn count_all(alloc: Global, queries: Queries<'_>) -> Result<Counts, Status>
     Ok(counts)
 }
 
-/// Counts the leaves of types of a module. Returns also what was found out about it.
-pub(crate) fn check_counts(
+/// Counts the leaves of types of an accepted module. Returns also what was found out about it.
+pub(crate) fn report_counts(
     alloc: Global,
     queries: Queries<'_>,
     counts: &mut Counts,
 ) -> (Outcome, Status)
-    requires { counts.old ≡ no_counts }
-    ensures { ChecksCounts queries.entry.subject.now queries.entry.types.now queries.entry.length queries.entry.most
-        counts.new result.0 result.1 }
+    requires accepted { IsAccepted queries.accepted.now }
+    requires empty { counts.old ≡ no_counts }
+    ensures { ChecksCounts queries.entry.accepted.now.subject queries.entry.types.now queries.entry.length
+        queries.entry.accepted.now.most_leaves counts.new result.0 result.1 }
 {
-    let module = &queries.subject.module;
-    let mut validator = validator_for(alloc, queries.subject);
-    match validate(&mut validator, queries.subject) {
-        Ok(_) => match count_all(alloc, queries) {
-            Ok(counted) => {
-                *counts = counted;
-                (counts_of(module), Status::Done)
-            }
-            Err(status) => (counts_of(module), status),
-        },
-        Err(error) => {
-            let inner = error.as_inner();
-            (refused_outcome(module, inner), refused_status(inner))
+    let outcome = counts_of(&queries.accepted.subject.module);
+    match count_all(alloc, queries) {
+        Ok(counted) => {
+            *counts = counted;
+            (outcome, Status::Done)
         }
+        Err(status) => (outcome, status),
     }
 }

@@ -1,28 +1,28 @@
 //! The call on the leaves of types.
 
 ghost use Rattle.naga_arena.specs.Numbers.{largest_u32};
-ghost use Rattle.naga_c.specs.Leaves.{AddsAnswers, ChecksLeaves, HasNoRoom, HasTypes, WritesAll, WritesType, answer, buffers, no_counts};
+ghost use Rattle.naga_c.specs.Accepted.{IsAccepted};
+ghost use Rattle.naga_c.specs.Leaves.{ChecksLeaves, HasNoRoom, HasTypes, buffers, no_counts};
+ghost use Rattle.naga_c.specs.steps.Leaves.{AddsAnswers, WritesAll, WritesType, answer};
 ghost use Rattle.naga_ir.specs.Handles.{GlobalReferencesOk};
 ghost use Rattle.naga_ir.specs.ItemReferences.{global_lists};
 ghost use Rattle.naga_leaves.specs.Leaf.{bytes_of};
 ghost use Rattle.std.specs.Prelude.{◌≡◌, ◌<◌, ◌≤◌, ◌↔◌, [], ◌∷◌, IsFalse, IsTrue, length};
 
+use crate::accepted::AcceptedModule;
 use crate::results::{Counts, LeafRow, Outcome};
 use crate::status::Status;
-use crate::subject::Subject;
-use crate::verdict::{counts_of, refused_outcome, refused_status, validate, validator_for};
+use crate::verdict::counts_of;
 use naga_valid::{Handle, Leaf, Module, TypeTag, leaves_of};
 use std::alloc::Global;
 
-/// The types of a module whose leaves are asked for.
+/// The types of an accepted module whose leaves are asked for.
 #[derive(Clone, Copy)]
-pub struct Queries<'a> {
-    pub subject: &'a Subject,
-    pub types: &'a [u32],
+pub(crate) struct Queries<'a> {
+    pub(crate) accepted: &'a AcceptedModule,
+    pub(crate) types: &'a [u32],
     /// How many elements a runtime-sized array has.
-    pub length: u32,
-    /// The most leaves that a call may come to.
-    pub most: u64,
+    pub(crate) length: u32,
 }
 
 /// One type whose leaves are asked for.
@@ -138,11 +138,12 @@ fn write_all(
     paths: &mut [u32],
     counts: &mut Counts,
 ) -> Status
-    requires { GlobalReferencesOk (global_lists queries.subject.now.«module») }
-    ensures { WritesAll queries.entry.subject.now.«module» queries.entry.types.now queries.entry.length queries.entry.most
-        (buffers leaves.old paths.old counts.old) (buffers leaves.new paths.new counts.new) result }
+    requires { GlobalReferencesOk (global_lists queries.accepted.now.subject.«module») }
+    ensures { WritesAll queries.entry.accepted.now.subject.«module» queries.entry.types.now queries.entry.length
+        queries.entry.accepted.now.most_leaves (buffers leaves.old paths.old counts.old)
+        (buffers leaves.new paths.new counts.new) result }
 {
-    let module = &queries.subject.module;
+    let module = &queries.accepted.subject.module;
     if !has_types(module, queries.types) {
         return Status::NoType;
     }
@@ -155,7 +156,7 @@ fn write_all(
             ty: Handle::new(*ty),
             length: queries.length,
             place,
-            most: queries.most,
+            most: queries.accepted.most_leaves,
         };
         match write_leaves(alloc, query, leaves, paths, counts) {
             Status::Done => {}
@@ -165,28 +166,20 @@ fn write_all(
     Status::Done
 }
 
-/// Writes the leaves of types of a module. Returns also what was found out about it.
-pub(crate) fn check_leaves(
+/// Writes the leaves of types of an accepted module. Returns also what was found out about it.
+pub(crate) fn report_leaves(
     alloc: Global,
     queries: Queries<'_>,
     leaves: &mut [LeafRow],
     paths: &mut [u32],
     counts: &mut Counts,
 ) -> (Outcome, Status)
-    requires { counts.old ≡ no_counts }
-    ensures { ChecksLeaves queries.entry.subject.now queries.entry.types.now queries.entry.length queries.entry.most
-        (buffers leaves.old paths.old counts.old) (buffers leaves.new paths.new counts.new) result.0 result.1 }
+    requires accepted { IsAccepted queries.accepted.now }
+    requires empty { counts.old ≡ no_counts }
+    ensures { ChecksLeaves queries.entry.accepted.now.subject queries.entry.types.now queries.entry.length
+        queries.entry.accepted.now.most_leaves (buffers leaves.old paths.old counts.old)
+        (buffers leaves.new paths.new counts.new) result.0 result.1 }
 {
-    let module = &queries.subject.module;
-    let mut validator = validator_for(alloc, queries.subject);
-    match validate(&mut validator, queries.subject) {
-        Ok(_) => {
-            let status = write_all(alloc, queries, leaves, paths, counts);
-            (counts_of(module), status)
-        }
-        Err(error) => {
-            let inner = error.as_inner();
-            (refused_outcome(module, inner), refused_status(inner))
-        }
-    }
+    let status = write_all(alloc, queries, leaves, paths, counts);
+    (counts_of(&queries.accepted.subject.module), status)
 }

@@ -1,15 +1,19 @@
 //! The validator for hosts in C and Rust: a static library with a C interface (bindings/c/naga_check.h).
 //!
-//! Every call stands alone: nothing is kept between calls. What C passes is not checked, so no call requires anything.
+//! What C passes is not checked. So no call requires anything, except that an open module is as a call left it.
 #![tactic(auto)]
 
+mod accepted;
 mod calls;
 mod codes;
 mod functions;
 mod kinds;
 mod leaf_counts;
 mod leaves;
+mod loose;
+mod module_calls;
 mod numbers;
+mod open_module;
 mod options;
 mod refusal;
 mod results;

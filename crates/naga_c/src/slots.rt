@@ -1,17 +1,17 @@
 //! The call on slots of immediate data.
 
+ghost use Rattle.naga_c.specs.Accepted.{IsAccepted};
 ghost use Rattle.naga_c.specs.Slots.{AreSlotsOf, ChecksSlots, HasNoSlots, IsShareable};
 ghost use Rattle.naga_ir.specs.Handles.{GlobalReferencesOk};
 ghost use Rattle.naga_ir.specs.ItemReferences.{global_lists};
 ghost use Rattle.std.specs.Prelude.{◌≡◌, IfErr, IfOk, length};
 
+use crate::accepted::AcceptedModule;
 use crate::results::Outcome;
 use crate::status::Status;
-use crate::subject::Subject;
-use crate::verdict::{counts_of, refused_outcome, refused_status, validate, validator_for};
+use crate::verdict::counts_of;
 use naga_typing::context::to_ctx;
 use naga_valid::{Flags, FullTyping, Handle, ImmediateSlots, Module, TypeFlags, Validator};
-use std::alloc::Global;
 
 /// The slots that a value of a type of an accepted module uses from a byte on, if the module has the type and hosts may
 /// share its values. The members of other structs may all begin at byte 0, and the walk through them would take time
@@ -43,30 +43,24 @@ fn slots_of(
     Ok(ImmediateSlots::from_type(inner, offset, &module.types, to_ctx(module)))
 }
 
-/// Writes the slots of a type. Returns also what was found out about its module.
-pub(crate) fn check_slots(
-    alloc: Global,
-    subject: &Subject,
+/// Writes the slots of a type of an accepted module. Returns also what was found out about the module.
+pub(crate) fn report_slots(
+    accepted: &AcceptedModule,
     ty: u32,
     offset: u32,
     slots: &mut u64,
 ) -> (Outcome, Status)
-    requires { slots.old ≡ 0 }
-    ensures { ChecksSlots subject.now ty offset slots.new result.0 result.1 }
+    requires accepted { IsAccepted accepted.now }
+    requires empty { slots.old ≡ 0 }
+    ensures { ChecksSlots accepted.now.subject ty offset slots.new result.0 result.1 }
 {
-    let module = &subject.module;
-    let mut validator = validator_for(alloc, subject);
-    match validate(&mut validator, subject) {
-        Ok(_) => match slots_of(module, &validator, ty, offset) {
-            Ok(used) => {
-                *slots = used.to_raw();
-                (counts_of(module), Status::Done)
-            }
-            Err(status) => (counts_of(module), status),
-        },
-        Err(error) => {
-            let inner = error.as_inner();
-            (refused_outcome(module, inner), refused_status(inner))
+    let module = &accepted.subject.module;
+    let outcome = counts_of(module);
+    match slots_of(module, &accepted.validator, ty, offset) {
+        Ok(used) => {
+            *slots = used.to_raw();
+            (outcome, Status::Done)
         }
+        Err(status) => (outcome, status),
     }
 }

@@ -29,6 +29,8 @@ pub enum Status {
     Settings,
     /// Hosts may not share values of the type that was asked about.
     NotShareable,
+    /// The module is not open.
+    NotOpen,
 }
 
 impl Status {
@@ -47,6 +49,7 @@ impl Status {
             Status::Options => 7,
             Status::Settings => 8,
             Status::NotShareable => 9,
+            Status::NotOpen => 10,
         }
     }
 }

@@ -1,7 +1,8 @@
 //! What a call validates: the module of words or of a text, and the settings in force.
 
 ghost use Rattle.naga_c.specs.Options.{Allow, AreKnown, AreWithin, IsTextWithin, capabilities_of_both, flags_of_both, item_count, line_ends, nothing_said, subject_of};
-ghost use Rattle.naga_c.specs.Subjects.{IsSubjectOfText, IsSubjectOfWords, IsTaken};
+ghost use Rattle.naga_c.specs.Subjects.{IsSubjectOfText, IsSubjectOfWords};
+ghost use Rattle.naga_c.specs.steps.Subjects.{IsTaken};
 ghost use Rattle.naga_c.specs.declared.subject.NoSubject.TheVariants as none;
 ghost use Rattle.std.specs.Prelude.{◌≡◌, ◌↔◌, ◌<◌, IsTrue, drop};
 
@@ -53,7 +54,7 @@ pub enum NoSubject {
 
 impl From<WordsError> for NoSubject {
     ghost use Rattle.std.specs.Prelude.{◌≡◌};
-    ghost use Rattle.naga_c.specs.Subjects.{unread_words};
+    ghost use Rattle.naga_c.specs.steps.Subjects.{unread_words};
 
     ghost from_gives = { λ given e. e ≡ unread_words given };
 
@@ -67,7 +68,7 @@ impl From<WordsError> for NoSubject {
 
 impl From<TextError> for NoSubject {
     ghost use Rattle.std.specs.Prelude.{◌≡◌};
-    ghost use Rattle.naga_c.specs.Subjects.{unread_text};
+    ghost use Rattle.naga_c.specs.steps.Subjects.{unread_text};
 
     ghost from_gives = { λ given e. e ≡ unread_text given };
 

@@ -6,12 +6,12 @@ ghost use Rattle.naga_c.specs.Text.{IsReported};
 ghost use Rattle.naga_c.specs.Types.{ChecksTypes};
 ghost use Rattle.std.specs.Prelude.{◌≡◌};
 
+use crate::accepted::accept;
 use crate::options::Options;
 use crate::results::{Outcome, TypeRow};
-use crate::status::{Status, status_of, status_without};
+use crate::status::{Status, status_of};
 use crate::subject::subject_of_text;
-use crate::types::check_types;
-use crate::verdict::outcome_without;
+use crate::types::report_types;
 use naga_report::report::make_report;
 use std::alloc::Global;
 
@@ -34,11 +34,12 @@ fn text_types(
     ensures { OfText options.now text.now (λ subject. ChecksTypes subject infos.old infos.new outcome.new)
         (LeavesBuffer infos.old infos.new outcome.new) result }
 {
-    match subject_of_text(alloc, text, options) {
-        Ok(subject) => check_types(alloc, &subject, infos, outcome),
-        Err(why) => {
-            *outcome = outcome_without(why);
-            status_without(why)
+    let given = subject_of_text(alloc, text, options);
+    match accept(alloc, given, options.most_leaves) {
+        Ok(accepted) => report_types(alloc, &accepted, infos, outcome),
+        Err(not) => {
+            *outcome = not.outcome;
+            not.status
         }
     }
 }

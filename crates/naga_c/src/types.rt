@@ -1,5 +1,6 @@
 //! The call on a module: its verdict, and an info for each type.
 
+ghost use Rattle.naga_c.specs.Accepted.{IsAccepted};
 ghost use Rattle.naga_c.specs.Buffers.{BeginsWith};
 ghost use Rattle.naga_c.specs.Types.{ChecksTypes, ReportsTypes, alignment_of, error_of, rows_of, type_row};
 ghost use Rattle.naga_arena.specs.Numbers.{largest_u32};
@@ -7,13 +8,11 @@ ghost use Rattle.naga_ir.specs.Handles.{GlobalReferencesOk};
 ghost use Rattle.naga_ir.specs.ItemReferences.{global_lists};
 ghost use Rattle.std.specs.Prelude.{◌≡◌, ◌≤◌, length};
 
+use crate::accepted::AcceptedModule;
 use crate::codes::disalignment_code;
 use crate::results::{Outcome, TypeRow};
 use crate::status::Status;
-use crate::subject::Subject;
-use crate::verdict::{
-    counts_of, no_outcome, refused_outcome, refused_status, validate, validator_for,
-};
+use crate::verdict::{counts_of, no_outcome};
 use naga_typing::context::to_ctx;
 use naga_typing::layouter::{Layouter, TypeLayout};
 use naga_valid::{Flags, FullTyping, Handle, LayoutCompatibility, Module, TypeInfo, Validator};
@@ -68,8 +67,8 @@ fn write_rows(validator: &Validator<FullTyping>, layouter: &Layouter, rows: &mut
     }
 }
 
-/// Writes the rows of an accepted module, if they are wanted and have room.
-fn report_types(
+/// Writes the rows of types with these infos, if they are wanted and have room.
+fn report_rows(
     alloc: Global,
     module: &Module,
     validator: &Validator<FullTyping>,
@@ -98,22 +97,16 @@ fn report_types(
     Status::Done
 }
 
-/// Checks the module of words that were read.
-pub(crate) fn check_types(
+/// Writes the rows of the types of an accepted module, if they are wanted and have room.
+pub(crate) fn report_types(
     alloc: Global,
-    subject: &Subject,
+    accepted: &AcceptedModule,
     rows: &mut [TypeRow],
     outcome: &mut Outcome,
 ) -> Status
-    ensures { ChecksTypes subject.now rows.old rows.new outcome.new result }
+    requires { IsAccepted accepted.now }
+    ensures { ChecksTypes accepted.now.subject rows.old rows.new outcome.new result }
 {
-    let mut validator = validator_for(alloc, subject);
-    match validate(&mut validator, subject) {
-        Ok(_) => report_types(alloc, &subject.module, &validator, rows, outcome),
-        Err(error) => {
-            let inner = error.as_inner();
-            *outcome = refused_outcome(&subject.module, inner);
-            refused_status(inner)
-        }
-    }
+    let module = &accepted.subject.module;
+    report_rows(alloc, module, &accepted.validator, rows, outcome)
 }

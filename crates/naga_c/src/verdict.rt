@@ -3,6 +3,7 @@
 ghost use Rattle.naga_arena.specs.Memory.{UnlessOutOfMemory};
 ghost use Rattle.naga_arena.specs.Span.{inner_of};
 ghost use Rattle.naga_c.specs.Verdicts as spec;
+ghost use Rattle.naga_c.specs.steps.Verdicts as steps;
 ghost use Rattle.naga_ir.specs.Handles.{GlobalReferencesOk};
 ghost use Rattle.naga_ir.specs.ItemReferences.{global_lists};
 ghost use Rattle.naga_typing.specs.FullTyping.{full_resolves};
@@ -81,7 +82,7 @@ pub(crate) fn validate(
 
 /// The status of a module that is not accepted.
 pub(crate) fn refused_status(error: &ValidationError) -> Status
-    ensures { result ≡ spec.refused_status error.now }
+    ensures { result ≡ steps.refused_status error.now }
 {
     match error {
         ValidationError::OutOfMemory => Status::OutOfMemory,
@@ -98,7 +99,7 @@ pub(crate) fn refused_status(error: &ValidationError) -> Status
 
 /// What is written of a module that is not accepted.
 pub(crate) fn refused_outcome(module: &Module, error: &ValidationError) -> Outcome
-    ensures { result ≡ spec.refused_outcome «module».now error.now }
+    ensures { result ≡ steps.refused_outcome «module».now error.now }
 {
     if refused_status(error) == Status::OutOfMemory {
         return no_outcome();

@@ -1,8 +1,10 @@
-use Rattle.std.proofs.Common.{Err, Ok, refl}
+use Rattle.std.proofs.Common.{Ok, refl}
+use Rattle.naga_c.specs.LeafCounts.{not_accepted}
+use Rattle.naga_c.proofs.AcceptedLaws.{ends_without}
 use Rattle.naga_c.proofs.calls.words_counts.Goals as goal
 
 pub returns-in-Ok : goal.returns-in-Ok
-returns-in-Ok c = (Ok c.in-Ok.subject, c.in-Ok.ensures, c.check_counts.ensures)
+returns-in-Ok c = (Ok c.in-Ok.accepted.subject, c.in-Ok.ensures.0, c.report_counts.ensures)
 
 pub returns-in-Err : goal.returns-in-Err
-returns-in-Err c = (Err c.in-Err.why, c.in-Err.ensures, ((refl, c.outcome_without.ensures), c.status_without.ensures))
+returns-in-Err c = let h = c.in-Err.ensures in (h.0, h.1.0, ends_without h.0 c.in-Err.not _ _ h.1.1 (λ subject e. not_accepted e) (refl, refl))

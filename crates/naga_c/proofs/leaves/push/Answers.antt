@@ -1,6 +1,7 @@
 use Rattle.std.proofs.Common.{◌≡◌, ◌+◌, ◌-◌, ◌++◌, ℕ, List, ap, arith, drop, drop-drop, length, slice_set, take, ◌∙◌}
 use Rattle.naga_leaves.specs.Leaf.{bytes_of}
-use Rattle.naga_c.specs.Leaves.{Answer, answer, buffers, row_of}
+use Rattle.naga_c.specs.Leaves.{Answer, buffers, row_of}
+use Rattle.naga_c.specs.steps.Leaves.{answer}
 use Rattle.naga_c.specs.declared.results.Counts.{Counts}
 use Rattle.naga_c.specs.declared.results.LeafRow.{LeafRow}
 use Rattle.naga_c.proofs.LeafLaws.{adds_one}

@@ -1,0 +1,11 @@
+use Rattle.std.proofs.Common.{Result, subst, sym}
+use Rattle.naga_c.specs.Subjects.{IsSubjectOfWords}
+use Rattle.naga_c.specs.declared.subject.NoSubject.{NoSubject}
+use Rattle.naga_c.specs.declared.subject.Subject.{Subject}
+use Rattle.naga_c.proofs.AcceptedLaws.{given_as}
+use Rattle.naga_c.proofs.calls.accepted_words.Goals as goal
+
+pub returns : goal.returns
+returns c =
+    given_as _ _ c.args.options.now.most_leaves c.accept.result
+    (λ given same. subst (λ (g : Result Subject NoSubject). IsSubjectOfWords c.args.options.now c.args.words.now g) (sym same) c.subject_of_words-given.ensures) c.accept.ensures
