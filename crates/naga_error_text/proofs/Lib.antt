@@ -1,0 +1,3 @@
+pub mod ShortTexts
+pub mod TextLaws
+pub mod WritingLaws

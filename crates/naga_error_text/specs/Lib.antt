@@ -1,0 +1,11 @@
+pub mod Causes
+pub mod Errors
+pub mod ExpressionErrors
+pub mod ModuleErrors
+pub mod Names
+pub mod Numbers
+pub mod Pieces
+pub mod Stages
+pub mod Texts
+pub mod TypeErrors
+pub mod Writing

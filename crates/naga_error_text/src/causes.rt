@@ -1,0 +1,292 @@
+//! The errors within errors.
+
+ghost use Rattle.naga_error_text.specs.Causes.{compose_error_parts, compose_errors, indexable_length_error_parts, indexable_length_errors, literal_error_cause, literal_error_parts, literal_errors, resolve_error_parts, resolve_errors, varying_error_parts, varying_errors, width_error_parts, width_errors};
+ghost use Rattle.naga_error_text.specs.Numbers.{numbered};
+ghost use Rattle.naga_error_text.specs.Pieces.{are_short, piece_text};
+ghost use Rattle.std.specs.Prelude.{◌≡◌, IsTrue, map};
+
+use crate::families::Family;
+use crate::names::Names;
+use crate::numbers::numbered;
+use crate::pieces::Piece::{Name, Number, Words};
+use crate::pieces::Place::{First, Second, Third};
+use crate::pieces::{Piece, Values};
+
+/// Why the members of a struct can't be the two sources of blending (WGSL "blend_src").
+#[derive(Clone, Copy, Debug, PartialEq)]
+pub enum VaryingError {
+    /// A source of blending has another location than 0, or an index other than 0 and 1.
+    InvalidBlendSrcIndex,
+    /// A member before is the same source.
+    BindingCollisionBlendSrc,
+    /// A member of a struct with blend sources has a location, but is not a source itself.
+    InvalidBlendSrcWithOtherBindings,
+    /// The two sources have different types.
+    BlendSrcOutputTypeMismatch,
+    /// Pipeline stages can't pass values of the sources' type (WGSL "Input-output Locations").
+    NotIOShareableType,
+    /// Only one of the two sources exists.
+    IncompleteBlendSrcUsage,
+}
+
+/// The error of a number, if there is one.
+pub fn varying_error_of(number: u32) -> Option<VaryingError>
+    ensures { result ≡ numbered varying_errors number }
+{
+    numbered(
+        &[
+            VaryingError::InvalidBlendSrcIndex,
+            VaryingError::BindingCollisionBlendSrc,
+            VaryingError::InvalidBlendSrcWithOtherBindings,
+            VaryingError::BlendSrcOutputTypeMismatch,
+            VaryingError::NotIOShareableType,
+            VaryingError::IncompleteBlendSrcUsage,
+        ],
+        number,
+    )
+}
+
+/// The pieces of the text of such an error.
+pub fn varying_error_pieces(error: VaryingError) -> &'static [Piece]
+    ensures text { (values : Values) → map (piece_text values) result.now ≡ varying_error_parts error values }
+    ensures short { IsTrue (are_short result.now) }
+{
+    match error {
+        VaryingError::InvalidBlendSrcIndex => &[
+            Words("A blend source has to be 0 or 1 at location 0, and not "),
+            Number(Second),
+            Words(" at location "),
+            Number(First),
+        ],
+        VaryingError::BindingCollisionBlendSrc => &[
+            Words("Several members are the blend source "),
+            Number(First),
+        ],
+        VaryingError::InvalidBlendSrcWithOtherBindings => &[
+            Words("A member at location "),
+            Number(First),
+            Words(" stands beside blend sources"),
+        ],
+        VaryingError::BlendSrcOutputTypeMismatch => &[
+            Words("The blend sources are of the types ["),
+            Number(First),
+            Words("] and ["),
+            Number(Second),
+            Words("], which differ"),
+        ],
+        VaryingError::NotIOShareableType => &[
+            Words("Values of the type ["),
+            Number(First),
+            Words("] can't be passed between pipeline stages"),
+        ],
+        VaryingError::IncompleteBlendSrcUsage => &[
+            Words("Only the blend source "),
+            Number(First),
+            Words(" is there, and not the other one"),
+        ],
+    }
+}
+
+/// Why a literal is refused.
+#[derive(Clone, Copy, Debug, PartialEq)]
+pub enum LiteralError {
+    /// The width of its scalar is not allowed.
+    Width,
+}
+
+/// The error of a number, if there is one.
+pub fn literal_error_of(number: u32) -> Option<LiteralError>
+    ensures { result ≡ numbered literal_errors number }
+{
+    numbered(&[LiteralError::Width], number)
+}
+
+/// The pieces of the text of such an error.
+pub fn literal_error_pieces(error: LiteralError) -> &'static [Piece]
+    ensures text { (values : Values) → map (piece_text values) result.now ≡ literal_error_parts error values }
+    ensures short { IsTrue (are_short result.now) }
+{
+    match error {
+        LiteralError::Width => &[],
+    }
+}
+
+/// What the error within such an error is one of.
+pub fn literal_error_cause(error: LiteralError) -> Family
+    ensures { result ≡ literal_error_cause error }
+{
+    match error {
+        LiteralError::Width => Family::Width,
+    }
+}
+
+/// Why a width of a scalar is refused.
+#[derive(Clone, Copy, Debug, PartialEq)]
+pub enum WidthError {
+    /// No capability allows scalars of this kind the width.
+    Invalid,
+    /// The width needs a capability.
+    MissingCapability,
+    /// Only constant expressions have abstract scalars (WGSL "Abstract Numeric Types").
+    Abstract,
+}
+
+/// The error of a number, if there is one.
+pub fn width_error_of(number: u32) -> Option<WidthError>
+    ensures { result ≡ numbered width_errors number }
+{
+    numbered(
+        &[
+            WidthError::Invalid,
+            WidthError::MissingCapability,
+            WidthError::Abstract,
+        ],
+        number,
+    )
+}
+
+/// The pieces of the text of such an error.
+pub fn width_error_pieces(error: WidthError) -> &'static [Piece]
+    ensures text { (values : Values) → map (piece_text values) result.now ≡ width_error_parts error values }
+    ensures short { IsTrue (are_short result.now) }
+{
+    match error {
+        WidthError::Invalid => &[
+            Words("The "),
+            Name(Names::ScalarKinds, First),
+            Words(" scalar width "),
+            Number(Second),
+            Words(" is not supported"),
+        ],
+        WidthError::MissingCapability => &[
+            Words("Using `"),
+            Name(Names::ScalarLetters, First),
+            Name(Names::ScalarBits, Second),
+            Words("` values requires the `naga::valid::Capabilities::"),
+            Name(Names::Capabilities, Third),
+            Words("` flag"),
+        ],
+        WidthError::Abstract => &[Words("Abstract types may only appear in constant expressions")],
+    }
+}
+
+/// Why a value can't be composed.
+#[derive(Clone, Copy, Debug, PartialEq)]
+pub enum ComposeError {
+    /// Values of the type aren't composed.
+    Type_,
+    /// The components are too few or too many.
+    ComponentCount,
+    /// A component has the wrong type.
+    ComponentType,
+}
+
+/// The error of a number, if there is one.
+pub fn compose_error_of(number: u32) -> Option<ComposeError>
+    ensures { result ≡ numbered compose_errors number }
+{
+    numbered(
+        &[
+            ComposeError::Type_,
+            ComposeError::ComponentCount,
+            ComposeError::ComponentType,
+        ],
+        number,
+    )
+}
+
+/// The pieces of the text of such an error.
+pub fn compose_error_pieces(error: ComposeError) -> &'static [Piece]
+    ensures text { (values : Values) → map (piece_text values) result.now ≡ compose_error_parts error values }
+    ensures short { IsTrue (are_short result.now) }
+{
+    match error {
+        ComposeError::Type_ => &[
+            Words("Composing of type ["),
+            Number(First),
+            Words("] can't be done"),
+        ],
+        ComposeError::ComponentCount => &[
+            Words("Composing expects "),
+            Number(Second),
+            Words(" components but "),
+            Number(First),
+            Words(" were given"),
+        ],
+        ComposeError::ComponentType => &[
+            Words("Composing "),
+            Number(First),
+            Words("'s component type is not expected"),
+        ],
+    }
+}
+
+/// Why an expression has no type.
+#[derive(Clone, Copy, Debug, PartialEq)]
+pub enum ResolveError {
+    /// The types of the operands don't fit the expression.
+    IncompatibleOperands,
+    /// The typing doesn't support this variant of expressions.
+    NotResolvable,
+}
+
+/// The error of a number, if there is one.
+pub fn resolve_error_of(number: u32) -> Option<ResolveError>
+    ensures { result ≡ numbered resolve_errors number }
+{
+    numbered(
+        &[
+            ResolveError::IncompatibleOperands,
+            ResolveError::NotResolvable,
+        ],
+        number,
+    )
+}
+
+/// The pieces of the text of such an error.
+pub fn resolve_error_pieces(error: ResolveError) -> &'static [Piece]
+    ensures text { (values : Values) → map (piece_text values) result.now ≡ resolve_error_parts error values }
+    ensures short { IsTrue (are_short result.now) }
+{
+    match error {
+        ResolveError::IncompatibleOperands => &[Words("Incompatible operands")],
+        ResolveError::NotResolvable => &[Words("The type of the expression can't be resolved")],
+    }
+}
+
+/// Why a value has no length.
+#[derive(Clone, Copy, Debug, PartialEq)]
+pub enum IndexableLengthError {
+    /// It is neither a vector, matrix, array or binding array, nor a pointer to one.
+    TypeNotIndexable,
+    /// The override that gives the number of elements has no initialiser that is an index constant above 0.
+    InvalidArrayLength,
+}
+
+/// The error of a number, if there is one.
+pub fn indexable_length_error_of(number: u32) -> Option<IndexableLengthError>
+    ensures { result ≡ numbered indexable_length_errors number }
+{
+    numbered(
+        &[
+            IndexableLengthError::TypeNotIndexable,
+            IndexableLengthError::InvalidArrayLength,
+        ],
+        number,
+    )
+}
+
+/// The pieces of the text of such an error.
+pub fn indexable_length_error_pieces(error: IndexableLengthError) -> &'static [Piece]
+    ensures text { (values : Values) → map (piece_text values) result.now ≡ indexable_length_error_parts error values }
+    ensures short { IsTrue (are_short result.now) }
+{
+    match error {
+        IndexableLengthError::TypeNotIndexable => &[Words(
+            "Type is not indexable, and has no length (validation error)",
+        )],
+        IndexableLengthError::InvalidArrayLength => &[Words(
+            "Array length is not a positive constant",
+        )],
+    }
+}
