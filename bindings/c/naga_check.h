@@ -601,6 +601,7 @@ naga_check_status naga_check_text_with(const uint8_t *text, size_t text_count, c
                                        naga_check_type_info *infos, size_t info_count, naga_check_outcome *outcome);
 naga_check_status naga_check_report_with(const uint8_t *text, size_t text_count, uint8_t *report, size_t report_count,
                                          size_t *length);
+size_t naga_check_error_text_with(const naga_check_outcome *outcome, uint8_t *buffer, size_t room);
 
 /* These options, or the default ones. */
 static inline naga_check_options naga_check_options_or_default(const naga_check_options *options) {
@@ -804,6 +805,22 @@ static inline naga_check_status naga_check_report(const uint8_t *text, size_t te
   size_t unwanted;
   return naga_check_report_with(text ? text : &no_text, text_count, report ? report : &no_report, report_count,
                                 length ? length : &unwanted);
+}
+
+/* Writes naga's text of the errors of an outcome, as snprintf does: as much of it as there is room for before a 0, which
+ * always ends it unless there is no room at all. Returns the length of the whole text in bytes, without the 0: the text
+ * was cut if that is not less than the room. The text is one line without an end, in ASCII: which item breaks a rule,
+ * and then, each after ": ", its error and the errors within that. Where naga's text shows a type or a name, which an
+ * outcome doesn't have, it is left out. It is empty if nothing is refused; numbers that no call writes are
+ * "unknown error" and "unknown". No memory is requested. */
+static inline size_t naga_check_error_text(const naga_check_outcome *outcome, char *buffer, size_t room) {
+  const naga_check_outcome no_outcome = {0, 0, 0, 0, 0, {0, 0, 0, 0, 0}, 0, 0, {0, 0, 0, 0}, 0, 0};
+  char no_buffer;
+  const size_t most = buffer && room ? room - 1 : 0;
+  const size_t length = naga_check_error_text_with(outcome ? outcome : &no_outcome,
+                                                   (uint8_t *)(buffer ? buffer : &no_buffer), most);
+  if (buffer && room) buffer[length < most ? length : most] = 0;
+  return length;
 }
 
 #ifdef __cplusplus

@@ -686,6 +686,13 @@ unsafe extern "C" {
         report_count: usize,
         length: *mut usize,
     ) -> NagaCheckStatus;
+
+    /// Writes naga's text of the errors of an outcome, as far as the buffer reaches, and returns the length of it all.
+    pub fn naga_check_error_text_with(
+        outcome: *const NagaCheckOutcome,
+        buffer: *mut u8,
+        room: usize,
+    ) -> usize;
 }
 
 // The sizes and places that `naga_check.h` has on the platform of the library.

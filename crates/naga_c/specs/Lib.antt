@@ -7,11 +7,13 @@
 -- Types.ChecksTypes, Functions.ChecksFunctions, Leaves.ChecksLeaves, Slots.ChecksSlots: what calls write of a module
 -- Accepted.IsAccepted, OpenModules.Opens, OfOpenModule: a module that is opened, and what calls on it end with
 -- Text.IsReported: what the call for a report leaves with its caller
+-- ErrorText.error_text: the text of what an outcome tells
 -- Verdicts, Refusals, Codes, Values: what calls write of a module that can't be read, or that is refused
 pub mod Accepted
 pub mod Buffers
 pub mod Calls
 pub mod Codes
+pub mod ErrorText
 pub mod Functions
 pub mod Kinds
 pub mod LeafCounts

@@ -6,6 +6,7 @@
 mod accepted;
 mod calls;
 mod codes;
+mod error_text;
 mod functions;
 mod kinds;
 mod leaf_counts;

@@ -2,7 +2,7 @@
 use Rattle.std.proofs.Common.{arith, ◌≡◌, ◌∙◌, ap, sym, ℕ, List, ◌+◌, ◌-◌, ◌++◌, ◌<◌, ◌≤◌, take, drop, length, get_or, inl, inr}
 use Rattle.std.proofs.lemmas.Bool.{cases_lt}
 use Rattle.std.proofs.lemmas.List.{same_lists, places}
-use Rattle.naga_error_text.specs.Writing.{written, written_at}
+use Rattle.naga_error_text.specs.Writing.{overwritten, written_at}
 
 -- a buffer keeps its length
 pub length_written : (at : ℕ) (text old : List ℕ) → length (written_at at text old) ≡ length old
@@ -53,11 +53,11 @@ pub from_zero : (n : ℕ) → 0 + n ≡ n
 from_zero n = omega arith
 
 -- a text that is written at the first place
-written_first : (text old : List ℕ) → written_at 0 text old ≡ written text old
+written_first : (text old : List ℕ) → written_at 0 text old ≡ overwritten text old
 written_first text old =
     let room : length old - 0 ≡ length old = omega arith in
     ap (λ n. take n text ++ drop (0 + length text) old) room ∙ ap (λ n. take (length old) text ++ drop n old) (from_zero (length text))
 
 -- a text that is written at the first place is the whole text
-pub written_all : (text whole old new : List ℕ) → text ≡ whole → new ≡ written_at 0 text old → new ≡ written whole old
-written_all text whole old new same bytes = bytes ∙ written_first text old ∙ ap (λ t. written t old) same
+pub written_all : (text whole old new : List ℕ) → text ≡ whole → new ≡ written_at 0 text old → new ≡ overwritten whole old
+written_all text whole old new same bytes = bytes ∙ written_first text old ∙ ap (λ t. overwritten t old) same

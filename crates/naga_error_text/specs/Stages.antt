@@ -31,7 +31,7 @@ stage_parts stage.EntryPoint v =
     codes "] is invalid: " ∷ []
 stage_parts stage.Module v = codes "The module is invalid: " ∷ []
 
--- what the error within that of a stage is one of
+-- what the error of a stage is one of
 abbrev pub stage_cause : Stage → Family
 stage_cause stage.Handle = family.Handle
 stage_cause stage.Layout = family.Layout

@@ -6,5 +6,5 @@ abbrev pub written_at : ℕ → (text old : List ℕ) → List ℕ
 written_at at text old = take at old ++ (take (length old - at) text ++ drop (at + length text) old)
 
 -- `old` with a text in place of its beginning, as far as it reaches: the rest is as before
-abbrev pub written : (text old : List ℕ) → List ℕ
-written text old = take (length old) text ++ drop (length text) old
+abbrev pub overwritten : (text old : List ℕ) → List ℕ
+overwritten text old = take (length old) text ++ drop (length text) old

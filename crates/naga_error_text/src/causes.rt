@@ -30,7 +30,7 @@ pub enum VaryingError {
 }
 
 /// The error of a number, if there is one.
-pub fn varying_error_of(number: u32) -> Option<VaryingError>
+pub(crate) fn varying_error_of(number: u32) -> Option<VaryingError>
     ensures { result ≡ numbered varying_errors number }
 {
     numbered(
@@ -47,7 +47,7 @@ pub fn varying_error_of(number: u32) -> Option<VaryingError>
 }
 
 /// The pieces of the text of such an error.
-pub fn varying_error_pieces(error: VaryingError) -> &'static [Piece]
+pub(crate) fn varying_error_pieces(error: VaryingError) -> &'static [Piece]
     ensures text { (values : Values) → map (piece_text values) result.now ≡ varying_error_parts error values }
     ensures short { IsTrue (are_short result.now) }
 {
@@ -95,14 +95,14 @@ pub enum LiteralError {
 }
 
 /// The error of a number, if there is one.
-pub fn literal_error_of(number: u32) -> Option<LiteralError>
+pub(crate) fn literal_error_of(number: u32) -> Option<LiteralError>
     ensures { result ≡ numbered literal_errors number }
 {
     numbered(&[LiteralError::Width], number)
 }
 
 /// The pieces of the text of such an error.
-pub fn literal_error_pieces(error: LiteralError) -> &'static [Piece]
+pub(crate) fn literal_error_pieces(error: LiteralError) -> &'static [Piece]
     ensures text { (values : Values) → map (piece_text values) result.now ≡ literal_error_parts error values }
     ensures short { IsTrue (are_short result.now) }
 {
@@ -112,7 +112,7 @@ pub fn literal_error_pieces(error: LiteralError) -> &'static [Piece]
 }
 
 /// What the error within such an error is one of.
-pub fn literal_error_cause(error: LiteralError) -> Family
+pub(crate) fn literal_error_cause(error: LiteralError) -> Family
     ensures { result ≡ literal_error_cause error }
 {
     match error {
@@ -132,7 +132,7 @@ pub enum WidthError {
 }
 
 /// The error of a number, if there is one.
-pub fn width_error_of(number: u32) -> Option<WidthError>
+pub(crate) fn width_error_of(number: u32) -> Option<WidthError>
     ensures { result ≡ numbered width_errors number }
 {
     numbered(
@@ -146,7 +146,7 @@ pub fn width_error_of(number: u32) -> Option<WidthError>
 }
 
 /// The pieces of the text of such an error.
-pub fn width_error_pieces(error: WidthError) -> &'static [Piece]
+pub(crate) fn width_error_pieces(error: WidthError) -> &'static [Piece]
     ensures text { (values : Values) → map (piece_text values) result.now ≡ width_error_parts error values }
     ensures short { IsTrue (are_short result.now) }
 {
@@ -182,7 +182,7 @@ pub enum ComposeError {
 }
 
 /// The error of a number, if there is one.
-pub fn compose_error_of(number: u32) -> Option<ComposeError>
+pub(crate) fn compose_error_of(number: u32) -> Option<ComposeError>
     ensures { result ≡ numbered compose_errors number }
 {
     numbered(
@@ -196,7 +196,7 @@ pub fn compose_error_of(number: u32) -> Option<ComposeError>
 }
 
 /// The pieces of the text of such an error.
-pub fn compose_error_pieces(error: ComposeError) -> &'static [Piece]
+pub(crate) fn compose_error_pieces(error: ComposeError) -> &'static [Piece]
     ensures text { (values : Values) → map (piece_text values) result.now ≡ compose_error_parts error values }
     ensures short { IsTrue (are_short result.now) }
 {
@@ -231,7 +231,7 @@ pub enum ResolveError {
 }
 
 /// The error of a number, if there is one.
-pub fn resolve_error_of(number: u32) -> Option<ResolveError>
+pub(crate) fn resolve_error_of(number: u32) -> Option<ResolveError>
     ensures { result ≡ numbered resolve_errors number }
 {
     numbered(
@@ -244,7 +244,7 @@ pub fn resolve_error_of(number: u32) -> Option<ResolveError>
 }
 
 /// The pieces of the text of such an error.
-pub fn resolve_error_pieces(error: ResolveError) -> &'static [Piece]
+pub(crate) fn resolve_error_pieces(error: ResolveError) -> &'static [Piece]
     ensures text { (values : Values) → map (piece_text values) result.now ≡ resolve_error_parts error values }
     ensures short { IsTrue (are_short result.now) }
 {
@@ -264,7 +264,7 @@ pub enum IndexableLengthError {
 }
 
 /// The error of a number, if there is one.
-pub fn indexable_length_error_of(number: u32) -> Option<IndexableLengthError>
+pub(crate) fn indexable_length_error_of(number: u32) -> Option<IndexableLengthError>
     ensures { result ≡ numbered indexable_length_errors number }
 {
     numbered(
@@ -277,7 +277,7 @@ pub fn indexable_length_error_of(number: u32) -> Option<IndexableLengthError>
 }
 
 /// The pieces of the text of such an error.
-pub fn indexable_length_error_pieces(error: IndexableLengthError) -> &'static [Piece]
+pub(crate) fn indexable_length_error_pieces(error: IndexableLengthError) -> &'static [Piece]
     ensures text { (values : Values) → map (piece_text values) result.now ≡ indexable_length_error_parts error values }
     ensures short { IsTrue (are_short result.now) }
 {

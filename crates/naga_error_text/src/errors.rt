@@ -47,7 +47,7 @@ pub enum Error {
 }
 
 /// The error of a family that has this number, if there is one.
-pub fn error_of(family: Family, number: u32) -> Option<Error>
+pub(crate) fn error_of(family: Family, number: u32) -> Option<Error>
     ensures { result ≡ error_of family number }
 {
     Some(match family {
@@ -70,7 +70,7 @@ pub fn error_of(family: Family, number: u32) -> Option<Error>
 }
 
 /// The pieces of the text of an error.
-pub fn pieces_of(error: Error) -> &'static [Piece]
+pub(crate) fn pieces_of(error: Error) -> &'static [Piece]
     ensures text { (values : Values) → map (piece_text values) result.now ≡ error_parts error values }
     ensures short { IsTrue (are_short result.now) }
 {
@@ -94,7 +94,7 @@ pub fn pieces_of(error: Error) -> &'static [Piece]
 }
 
 /// What the error within an error is one of, if there is one.
-pub fn cause_of(error: Error) -> Option<Family>
+pub(crate) fn cause_of(error: Error) -> Option<Family>
     ensures { result ≡ cause_of error }
 {
     match error {
@@ -117,7 +117,7 @@ pub fn cause_of(error: Error) -> Option<Family>
 }
 
 /// The values of the error within an error: those after its own.
-pub fn values_within(error: Error, values: Values) -> Values
+pub(crate) fn values_within(error: Error, values: Values) -> Values
     ensures { result ≡ values_within error values }
 {
     match error {

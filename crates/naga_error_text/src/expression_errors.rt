@@ -148,7 +148,7 @@ pub enum ExpressionError {
 }
 
 /// The error of a number, if there is one.
-pub fn expression_error_of(number: u32) -> Option<ExpressionError>
+pub(crate) fn expression_error_of(number: u32) -> Option<ExpressionError>
     ensures { result ≡ numbered expression_errors number }
 {
     numbered(
@@ -221,7 +221,7 @@ pub fn expression_error_of(number: u32) -> Option<ExpressionError>
 }
 
 /// The pieces of the text of such an error.
-pub fn expression_error_pieces(error: ExpressionError) -> &'static [Piece]
+pub(crate) fn expression_error_pieces(error: ExpressionError) -> &'static [Piece]
     ensures text { (values : Values) → map (piece_text values) result.now ≡ expression_error_parts error values }
     ensures short { IsTrue (are_short result.now) }
 {
@@ -497,7 +497,7 @@ pub fn expression_error_pieces(error: ExpressionError) -> &'static [Piece]
 }
 
 /// What the error within such an error is one of, if there is one.
-pub fn expression_error_cause(error: ExpressionError) -> Option<Family>
+pub(crate) fn expression_error_cause(error: ExpressionError) -> Option<Family>
     ensures { result ≡ expression_error_cause error }
 {
     match error {

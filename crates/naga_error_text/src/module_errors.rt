@@ -24,7 +24,7 @@ pub enum HandleError {
 }
 
 /// The error of a number, if there is one.
-pub fn handle_error_of(number: u32) -> Option<HandleError>
+pub(crate) fn handle_error_of(number: u32) -> Option<HandleError>
     ensures { result ≡ numbered handle_errors number }
 {
     numbered(
@@ -38,7 +38,7 @@ pub fn handle_error_of(number: u32) -> Option<HandleError>
 }
 
 /// The pieces of the text of such an error.
-pub fn handle_error_pieces(error: HandleError) -> &'static [Piece]
+pub(crate) fn handle_error_pieces(error: HandleError) -> &'static [Piece]
     ensures text { (values : Values) → map (piece_text values) result.now ≡ handle_error_parts error values }
     ensures short { IsTrue (are_short result.now) }
 {
@@ -83,7 +83,7 @@ pub enum LayoutError {
 }
 
 /// The error of a number, if there is one.
-pub fn layout_error_of(number: u32) -> Option<LayoutError>
+pub(crate) fn layout_error_of(number: u32) -> Option<LayoutError>
     ensures { result ≡ numbered layout_errors number }
 {
     numbered(
@@ -93,7 +93,7 @@ pub fn layout_error_of(number: u32) -> Option<LayoutError>
 }
 
 /// The pieces of the text of such an error.
-pub fn layout_error_pieces(error: LayoutError) -> &'static [Piece]
+pub(crate) fn layout_error_pieces(error: LayoutError) -> &'static [Piece]
     ensures text { (values : Values) → map (piece_text values) result.now ≡ layout_error_parts error values }
     ensures short { IsTrue (are_short result.now) }
 {
@@ -123,7 +123,7 @@ pub enum ConstExpressionError {
 }
 
 /// The error of a number, if there is one.
-pub fn const_expression_error_of(number: u32) -> Option<ConstExpressionError>
+pub(crate) fn const_expression_error_of(number: u32) -> Option<ConstExpressionError>
     ensures { result ≡ numbered const_expression_errors number }
 {
     numbered(
@@ -141,7 +141,7 @@ pub fn const_expression_error_of(number: u32) -> Option<ConstExpressionError>
 }
 
 /// The pieces of the text of such an error.
-pub fn const_expression_error_pieces(error: ConstExpressionError) -> &'static [Piece]
+pub(crate) fn const_expression_error_pieces(error: ConstExpressionError) -> &'static [Piece]
     ensures text { (values : Values) → map (piece_text values) result.now ≡ const_expression_error_parts error values }
     ensures short { IsTrue (are_short result.now) }
 {
@@ -165,7 +165,7 @@ pub fn const_expression_error_pieces(error: ConstExpressionError) -> &'static [P
 }
 
 /// What the error within such an error is one of, if there is one.
-pub fn const_expression_error_cause(error: ConstExpressionError) -> Option<Family>
+pub(crate) fn const_expression_error_cause(error: ConstExpressionError) -> Option<Family>
     ensures { result ≡ const_expression_error_cause error }
 {
     match error {
@@ -189,7 +189,7 @@ pub enum ConstantError {
 }
 
 /// The error of a number, if there is one.
-pub fn constant_error_of(number: u32) -> Option<ConstantError>
+pub(crate) fn constant_error_of(number: u32) -> Option<ConstantError>
     ensures { result ≡ numbered constant_errors number }
 {
     numbered(
@@ -203,7 +203,7 @@ pub fn constant_error_of(number: u32) -> Option<ConstantError>
 }
 
 /// The pieces of the text of such an error.
-pub fn constant_error_pieces(error: ConstantError) -> &'static [Piece]
+pub(crate) fn constant_error_pieces(error: ConstantError) -> &'static [Piece]
     ensures text { (values : Values) → map (piece_text values) result.now ≡ constant_error_parts error values }
     ensures short { IsTrue (are_short result.now) }
 {
@@ -238,7 +238,7 @@ pub enum OverrideError {
 }
 
 /// The error of a number, if there is one.
-pub fn override_error_of(number: u32) -> Option<OverrideError>
+pub(crate) fn override_error_of(number: u32) -> Option<OverrideError>
     ensures { result ≡ numbered override_errors number }
 {
     numbered(
@@ -258,7 +258,7 @@ pub fn override_error_of(number: u32) -> Option<OverrideError>
 }
 
 /// The pieces of the text of such an error.
-pub fn override_error_pieces(error: OverrideError) -> &'static [Piece]
+pub(crate) fn override_error_pieces(error: OverrideError) -> &'static [Piece]
     ensures text { (values : Values) → map (piece_text values) result.now ≡ override_error_parts error values }
     ensures short { IsTrue (are_short result.now) }
 {
@@ -282,7 +282,7 @@ pub fn override_error_pieces(error: OverrideError) -> &'static [Piece]
 }
 
 /// What the error within such an error is one of, if there is one.
-pub fn override_error_cause(error: OverrideError) -> Option<Family>
+pub(crate) fn override_error_cause(error: OverrideError) -> Option<Family>
     ensures { result ≡ override_error_cause error }
 {
     match error {
@@ -301,14 +301,14 @@ pub enum ModuleError {
 }
 
 /// The error of a number, if there is one.
-pub fn module_error_of(number: u32) -> Option<ModuleError>
+pub(crate) fn module_error_of(number: u32) -> Option<ModuleError>
     ensures { result ≡ numbered module_errors number }
 {
     numbered(&[ModuleError::Corrupted, ModuleError::ArraySize], number)
 }
 
 /// The pieces of the text of such an error.
-pub fn module_error_pieces(error: ModuleError) -> &'static [Piece]
+pub(crate) fn module_error_pieces(error: ModuleError) -> &'static [Piece]
     ensures text { (values : Values) → map (piece_text values) result.now ≡ module_error_parts error values }
     ensures short { IsTrue (are_short result.now) }
 {

@@ -265,7 +265,7 @@ fn table_of(names: Names) -> &'static [(u64, &'static str)]
 }
 
 /// The name of what a number stands for.
-pub fn shown_name(names: Names, number: u64) -> &'static str
+pub(crate) fn shown_name(names: Names, number: u64) -> &'static str
     ensures { result.now ≡ named names number }
 {
     name_in(table_of(names), number)

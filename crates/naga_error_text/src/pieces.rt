@@ -36,7 +36,7 @@ pub enum Place {
 
 impl Values {
     /// The value at a place.
-    pub fn at(self, place: Place) -> u64
+    pub(crate) fn at(self, place: Place) -> u64
         ensures { result ≡ place_value self place }
     {
         match place {
@@ -88,7 +88,7 @@ pub enum ImageClass {
 }
 
 /// The class of images of a number.
-pub fn image_class_of(number: u64) -> ImageClass
+pub(crate) fn image_class_of(number: u64) -> ImageClass
     ensures { result ≡ image_class_of number }
 {
     match number {
@@ -101,7 +101,7 @@ pub fn image_class_of(number: u64) -> ImageClass
 }
 
 /// The pieces of the text of a class of images, whose two words are the first two values.
-pub fn image_class_pieces(class: ImageClass) -> &'static [Part]
+pub(crate) fn image_class_pieces(class: ImageClass) -> &'static [Part]
     ensures text { (values : Values) → map (part_text values) result.now ≡ image_class_parts class values }
     ensures short { IsTrue (are_short_parts result.now) }
 {

@@ -36,7 +36,7 @@ pub enum Stage {
 }
 
 /// The stage of a number, if there is one.
-pub fn stage_of(number: u32) -> Option<Stage>
+pub(crate) fn stage_of(number: u32) -> Option<Stage>
     ensures { result ≡ numbered stages number }
 {
     numbered(
@@ -56,11 +56,11 @@ pub fn stage_of(number: u32) -> Option<Stage>
 }
 
 /// The pieces of the text of a stage.
-pub fn stage_pieces(error: Stage) -> &'static [Piece]
-    ensures text { (values : Values) → map (piece_text values) result.now ≡ stage_parts error values }
+pub(crate) fn stage_pieces(stage: Stage) -> &'static [Piece]
+    ensures text { (values : Values) → map (piece_text values) result.now ≡ stage_parts stage values }
     ensures short { IsTrue (are_short result.now) }
 {
-    match error {
+    match stage {
         Stage::Handle => &[
             Words("Handle or range ["),
             Number(Index),
@@ -99,11 +99,11 @@ pub fn stage_pieces(error: Stage) -> &'static [Piece]
     }
 }
 
-/// What the error within that of a stage is one of.
-pub fn stage_cause(error: Stage) -> Family
-    ensures { result ≡ stage_cause error }
+/// What the error of a stage is one of.
+pub(crate) fn stage_cause(stage: Stage) -> Family
+    ensures { result ≡ stage_cause stage }
 {
-    match error {
+    match stage {
         Stage::Handle => Family::Handle,
         Stage::Layout => Family::Layout,
         Stage::Type_ => Family::Type_,

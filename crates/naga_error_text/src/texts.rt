@@ -2,7 +2,7 @@
 
 ghost use Rattle.naga_error_text.specs.Errors.{error_parts};
 ghost use Rattle.naga_error_text.specs.Texts.{chain_text, refusal_text};
-ghost use Rattle.naga_error_text.specs.Writing.{written, written_at};
+ghost use Rattle.naga_error_text.specs.Writing.{overwritten, written_at};
 ghost use Rattle.std.specs.List.{concat};
 ghost use Rattle.std.specs.Prelude.{◌≡◌, ◌+◌, ◌*◌, ◌<◌, ◌≤◌, ◌^◌, length};
 
@@ -62,7 +62,7 @@ pub struct Refusal {
 /// Writes the text of a refusal, as far as the buffer reaches. Returns the length of the whole text.
 pub fn write_refusal(buffer: &mut [u8], refusal: Refusal) -> usize
     ensures length { result ≡ length (refusal_text refusal.stage refusal.errors refusal.values) }
-    ensures bytes { buffer.new ≡ written (refusal_text refusal.stage refusal.errors refusal.values) buffer.old }
+    ensures bytes { buffer.new ≡ overwritten (refusal_text refusal.stage refusal.errors refusal.values) buffer.old }
 {
     if refusal.stage == 0 {
         return 0;

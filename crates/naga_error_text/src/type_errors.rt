@@ -59,7 +59,7 @@ pub enum TypeError {
 }
 
 /// The error of a number, if there is one.
-pub fn type_error_of(number: u32) -> Option<TypeError>
+pub(crate) fn type_error_of(number: u32) -> Option<TypeError>
     ensures { result ≡ numbered type_errors number }
 {
     numbered(
@@ -90,7 +90,7 @@ pub fn type_error_of(number: u32) -> Option<TypeError>
 }
 
 /// The pieces of the text of such an error.
-pub fn type_error_pieces(error: TypeError) -> &'static [Piece]
+pub(crate) fn type_error_pieces(error: TypeError) -> &'static [Piece]
     ensures text { (values : Values) → map (piece_text values) result.now ≡ type_error_parts error values }
     ensures short { IsTrue (are_short result.now) }
 {
@@ -198,7 +198,7 @@ pub fn type_error_pieces(error: TypeError) -> &'static [Piece]
 }
 
 /// What the error within such an error is one of, if there is one.
-pub fn type_error_cause(error: TypeError) -> Option<Family>
+pub(crate) fn type_error_cause(error: TypeError) -> Option<Family>
     ensures { result ≡ type_error_cause error }
 {
     match error {
