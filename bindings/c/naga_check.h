@@ -58,6 +58,14 @@ extern "C" {
 #define NAGA_CHECK_ITEM_OF(opcode, count) \
   ((uint64_t)(count) >> 24 ? NAGA_CHECK_NONE : (uint32_t)(count) << 8 | (uint32_t)(opcode))
 
+/* The operands of the header, an item that may stand first so that a file of words can be told from others: the magic
+ * word, which is "NAGW" in a file, and the version of the words. */
+#define NAGA_CHECK_MAGIC 0x5747414Eu
+#define NAGA_CHECK_WORDS_VERSION 1u
+
+/* The words of the header, for the beginning of an array. */
+#define NAGA_CHECK_HEADER NAGA_CHECK_ITEM(NAGA_CHECK_OP_HEADER, 2), NAGA_CHECK_MAGIC, NAGA_CHECK_WORDS_VERSION
+
 /* The opcodes of an expression of a function and of a global one, by the number of its form. */
 #define NAGA_CHECK_EXPRESSION(form) ((uint32_t)NAGA_CHECK_OP_EXPRESSION + (uint32_t)(form))
 #define NAGA_CHECK_GLOBAL_EXPRESSION(form) ((uint32_t)NAGA_CHECK_OP_GLOBAL_EXPRESSION + (uint32_t)(form))
@@ -127,6 +135,7 @@ enum {
   NAGA_CHECK_OP_COMMENT_ON_ENTRY_POINT = 11,
   NAGA_CHECK_OP_COMMENT_ON_CONSTANT = 12,
   NAGA_CHECK_OP_COMMENT_ON_GLOBAL_VARIABLE = 13,
+  NAGA_CHECK_OP_HEADER = 15,
   NAGA_CHECK_OP_SCALAR = 16,
   NAGA_CHECK_OP_VECTOR = 17,
   NAGA_CHECK_OP_MATRIX = 18,

@@ -125,7 +125,7 @@ def compare_variants(constants, folder):
 
 def words_opcodes(text):
     """The opcodes of the tables, which name each one at the beginning of a row or after a comma in its first column."""
-    tables = text[text.index("## Settings"):text.index("## Operators and functions")]
+    tables = text[text.index("## Header"):text.index("## Operators and functions")]
     before, forms = tables.split("## Expressions")
     forms, after = forms.split("## Parts of a function")
     rows = re.findall(r"^\| (\d+ .*?) \|", before + after, re.MULTILINE)
@@ -140,6 +140,11 @@ def compare_words(constants, text):
     same("form", {value for name, value in constants.items() if name.startswith("NAGA_CHECK_FORM_")}, forms)
     for enum in ("BINARY", "MATH"):
         same(f"{enum} of the page", numbers_of_prefix(constants, enum), numbers_of_page(text, enum))
+    header = re.search(r"`(\d+), (0x\w+), (\d+)`", text)
+    ours = [2 << 8 | constants["NAGA_CHECK_OP_HEADER"]]
+    ours += [constants["NAGA_CHECK_" + name] for name in ("MAGIC", "WORDS_VERSION")]
+    same("header of the page", dict(enumerate(ours)),
+         dict(enumerate(int(word, 0) for word in (header.groups() if header else ()))))
     limits = re.search(r"bits up to (\d+).*?\n.*? up to (\d+); naga's default is (\d+)", text)
     ours = [constants["NAGA_CHECK_" + name] for name in ("VALIDATE_ALL", "CAPABILITY_ALL", "CAPABILITY_DEFAULT")]
     same("limit of the page", dict(enumerate(ours)), dict(enumerate(map(int, limits.groups() if limits else ()))))

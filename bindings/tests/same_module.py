@@ -60,4 +60,5 @@ def main():
         sys.exit(f"same_module: no item has the opcodes {sorted(missing)}")
 
 
-main()
+if __name__ == "__main__":
+    main()

@@ -1,13 +1,16 @@
 #!/usr/bin/env python3
 """Writes a module of the larger text (docs/TEXT.md) as words (docs/WORDS.md): a second encoder, beside the one in Rust.
 
-    words_of_text.py FILE      prints the words of the module in a file, a line each, without its queries and results
+    words_of_text.py [--header] FILE      prints the words of the module in a file, a line each, without its queries and
+                                          results; after the header, if that is asked for
 """
 
 import re
 import sys
 
 NONE = 0xFFFFFFFF
+# The header, which may stand before all items: an item of the bytes of a file by which it is known, and a version.
+HEADER = [2 << 8 | 15, int.from_bytes(b"NAGW", "little"), 1]
 KINDS = "sint uint float bool aint afloat".split()
 SPACES = "function private workgroup uniform storage handle immediate taskpayload raypayload incomingraypayload".split()
 LOAD, STORE, ATOMIC = 1, 2, 4
@@ -371,7 +374,7 @@ class Writer:
         self.end_function()
         self.item(opcode, *name)
         self.in_function = True
-        self.counts["expression"] = self.counts["local"] = 0
+        self.counts["argument"] = self.counts["local"] = self.counts["expression"] = 0
         return self.count(kind)
 
     def line_fn(self, _stages):
@@ -442,6 +445,7 @@ class Writer:
     def line_arg(self, ty):
         self.part()
         self.item(40, *self.take_name(), index(ty), 0, 0, 0)
+        return self.count("argument")
 
     def line_local(self, ty, init):
         self.part()
@@ -483,9 +487,10 @@ def words_of(lines):
 
 
 def main():
-    with open(sys.argv[1], encoding="utf-8") as file:
+    *options, path = sys.argv[1:]
+    with open(path, encoding="utf-8") as file:
         lines = [line for line in file.read().splitlines() if not line.startswith(("?", "|"))]
-    for word in words_of(lines):
+    for word in (HEADER if options == ["--header"] else []) + words_of(lines):
         print(word)
 
 

@@ -696,7 +696,7 @@ fn add_settings(words: &mut Words, types: &Types) {
 }
 
 fn main() -> Result<(), Box<dyn std::error::Error>> {
-    let mut words = Words::new();
+    let mut words = Words::with_header();
     let (u32, first) = add_first_values(&mut words);
     let types = add_types(&mut words, u32, first.count);
     let size = add_values(&mut words, &types, &first);

@@ -35,6 +35,12 @@ pub const NAGA_CHECK_NONE: u32 = 0xFFFF_FFFF;
 /// The most operands of an item.
 pub const NAGA_CHECK_MOST_OPERANDS: u32 = 0xFF_FFFF;
 
+/// The magic word, the first operand of the header: `NAGW` in a file.
+pub const NAGA_CHECK_MAGIC: u32 = 0x5747_414E;
+
+/// The version of the words, the second operand of the header.
+pub const NAGA_CHECK_WORDS_VERSION: u32 = 1;
+
 constants! {
     "What calls return."
     NAGA_CHECK_OK = 0,
@@ -96,6 +102,7 @@ constants! {
     NAGA_CHECK_OP_COMMENT_ON_ENTRY_POINT = 11,
     NAGA_CHECK_OP_COMMENT_ON_CONSTANT = 12,
     NAGA_CHECK_OP_COMMENT_ON_GLOBAL_VARIABLE = 13,
+    NAGA_CHECK_OP_HEADER = 15,
     NAGA_CHECK_OP_SCALAR = 16,
     NAGA_CHECK_OP_VECTOR = 17,
     NAGA_CHECK_OP_MATRIX = 18,

@@ -91,6 +91,23 @@ impl Words {
         Words::default()
     }
 
+    /// The empty module, whose words begin with the header, by which a file of words can be told from any other.
+    ///
+    /// ```
+    /// let words = naga_check::Words::with_header().finish()?;
+    /// let bytes: Vec<u8> = words.iter().flat_map(|word| word.to_le_bytes()).collect();
+    /// assert_eq!(&bytes[4..8], b"NAGW");
+    /// # Ok::<(), naga_check::BuildError>(())
+    /// ```
+    #[must_use]
+    pub fn with_header() -> Words {
+        let mut words = Words::new();
+        words.item(sys::NAGA_CHECK_OP_HEADER, |words| {
+            words.extend([sys::NAGA_CHECK_MAGIC, sys::NAGA_CHECK_WORDS_VERSION]);
+        });
+        words
+    }
+
     /// Sets which parts of the module are validated; without it all are.
     pub fn set_flags(&mut self, flags: ValidationFlags) {
         self.settings.flags = Some(flags);

@@ -80,6 +80,18 @@ fn the_struct_of_the_page() {
     assert!(section_of_the_page("### A struct\n").contains(&format!("`{}`", bytes.join(" "))));
 }
 
+#[test]
+fn the_header_of_the_page() {
+    let words = Words::with_header().finish();
+    let words = words.expect("no items have words");
+    let section = section_of_the_page("## Header\n");
+    let numbers = format!("`{}, {:#x}, {}`", words[0], words[1], words[2]);
+    assert!(section.contains(&numbers));
+    let bytes = words.iter().flat_map(|word| word.to_le_bytes());
+    let bytes: Vec<String> = bytes.map(|byte| format!("{byte:02x}")).collect();
+    assert!(section.contains(&format!("`{}`", bytes.join(" "))));
+}
+
 /// `fn limit(count: u32) -> u32 { if count > 4u { return 4u; } return count; }`
 fn limit() -> Vec<u32> {
     let mut words = Words::new();

@@ -8,6 +8,7 @@ pub mod ExpressionLaws
 pub mod ExpressionNumbers
 pub mod FormLaws
 pub mod FunctionLaws
+pub mod HeaderLaws
 pub mod ItemLaws
 pub mod ItemWords
 pub mod ListLaws

@@ -1,6 +1,6 @@
 -- What words say, and where words that say nothing can't be read.
 use Rattle.std.specs.List.{AllZip}
-use Rattle.std.specs.Prelude.{◌≡◌, ℕ, ◌<◌, ◌≤◌, ◌+◌, ◌*◌, false, List, [], ◌∷◌, ◌++◌, Option, None, Some, drop, length, slice_get, take, unwrap_or}
+use Rattle.std.specs.Prelude.{◌≡◌, ℕ, ◌<◌, ◌≤◌, ◌+◌, ◌*◌, false, List, [], ◌∷◌, ◌++◌, ◌⊎◌, Option, None, Some, drop, length, slice_get, take, unwrap_or}
 use Rattle.naga_arena.specs.Numbers.{largest_u32}
 use Rattle.naga_ir.specs.Distinct.{AllDistinct}
 use Rattle.naga_ir.specs.declared.ir.EntryPoint.{EntryPoint as EntryPointType}
@@ -29,6 +29,14 @@ pub record IsItemBefore (words : List ℕ) (item : Item) (rest : List ℕ) : Typ
 abbrev pub AreItems : List ℕ → List Item → Type 0
 AreItems words [] = words ≡ []
 AreItems words (item ∷ items) = (rest : List ℕ) × IsItemBefore words item rest × AreItems rest items
+
+-- the words of a header: an item of opcode 15 with two operands, the bytes of "NAGW" and the version of the words, 1
+abbrev pub header : List ℕ
+header = (2 * 256 + 15) ∷ 0x5747_414e ∷ 1 ∷ []
+
+-- `words` are the words of `items`, after a header or without one
+abbrev pub AreWordsOf : List ℕ → List Item → Type 0
+AreWordsOf words items = AreItems words items ⊎ ((rest : List ℕ) × (words ≡ header ++ rest) × AreItems rest items)
 
 -- the first of a list, if it has one
 abbrev pub first_of : {A : Type 0} → List A → Option A
@@ -144,21 +152,23 @@ pub record Say (items : List Item) (contents : Contents) : Type 0 where
     resolved = unwrap_or (first_of (all_said items).resolved) false;
   }
 
--- `words` are items that say together `contents`
+-- `words` are items that say together `contents`, after a header or without one
 abbrev pub IsWords : List ℕ → Contents → Type 0
-IsWords words contents = (items : List Item) × AreItems words items × Say items contents
+IsWords words contents = (items : List Item) × AreWordsOf words items × Say items contents
 
 -- some items after `items` complete what can be read
 abbrev pub CanBegin : List Item → Type 0
 CanBegin items = (more : List Item) × (contents : Contents) × Say (items ++ more) contents
 
--- the words before the index `at` are items that can begin a module, and there no item can stand, nor the end
+-- the words before the index `at` are items that can begin a module, after a header or without one, and there no item
+-- can stand, nor a header, nor the end
 pub record IsFirstUnreadable (words : List ℕ) (at : ℕ) : Type 0 where
   pub items : List Item
-  pub before : AreItems (take at words) items
+  pub before : AreWordsOf (take at words) items
   pub within : at ≤ length words
   pub begins : CanBegin items
   pub no_item : (item : Item) (rest : List ℕ) → IsItemBefore (drop at words) item rest → ¬ (CanBegin (items ++ item ∷ []))
+  pub no_header : at ≡ 0 → (rest : List ℕ) → ¬ (words ≡ header ++ rest)
   pub no_end : at ≡ length words → (contents : Contents) → ¬ (Say items contents)
 
 -- an error names the index of a word of which this holds

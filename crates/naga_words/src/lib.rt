@@ -21,4 +21,4 @@ mod unread;
 
 pub use bits::{all_capabilities, all_flags};
 pub use draft::Contents;
-pub use reader::{WordsError, read_words};
+pub use reader::{MAGIC, VERSION, WordsError, read_words};

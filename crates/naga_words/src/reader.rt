@@ -1,12 +1,12 @@
 //! The items of words, and the module and settings that they say.
 
-ghost use Rattle.naga_words.specs.Words.{AreItems, CanBegin, IsFirstUnreadable, IsItemBefore, IsWords, NamesItem};
+ghost use Rattle.naga_words.specs.Words.{CanBegin, IsFirstUnreadable, IsItemBefore, IsWords, NamesItem};
 ghost use Rattle.naga_words.specs.declared.draft.Contents.{Contents as ContentsType};
 ghost use Rattle.naga_words.specs.declared.item.Item.{Item};
 ghost use Rattle.naga_words.specs.declared.reader.WordsError.TheVariants as error;
 ghost use Rattle.naga_words.specs.declared.unread.Unread.TheVariants as unread;
 ghost use Rattle.naga_words.specs.steps.Drafts.{AreAdded};
-ghost use Rattle.naga_words.specs.steps.ReadItems.{AreAllAdded, IsOneMore, error_of};
+ghost use Rattle.naga_words.specs.steps.ReadItems.{AreAllAdded, IsAfterHeader, IsOneMore, error_of};
 ghost use Rattle.naga_arena.specs.Memory.{UnlessOutOfMemory};
 ghost use Rattle.std.specs.Prelude.{◌≡◌, ◌<◌, ◌++◌, ◌∷◌, ◌⊎◌, ℕ, [], IfErr, IfOk, List, length};
 
@@ -17,6 +17,15 @@ use std::alloc::Global;
 
 /// How many opcodes there may be: the number of operands stands above the opcode in the head of an item.
 const OPCODES: u32 = 256;
+
+/// The magic word: `NAGW` as the four bytes of a file.
+pub const MAGIC: u32 = 0x5747_414e;
+
+/// The version of the words that are read.
+pub const VERSION: u32 = 1;
+
+/// The item that may stand first, by which a file of words can be told from others.
+const HEADER: [u32; 3] = [2 << 8 | 15, MAGIC, VERSION];
 
 /// Why words were not read.
 #[derive(Clone, Copy, Debug, PartialEq)]
@@ -59,13 +68,23 @@ fn read_item<'a>(alloc: Global, draft: &mut Draft, words: &'a [u32]) -> Result<&
     Ok(rest)
 }
 
-/// Reads the items of words in order, after none.
+/// The words after the header, or all of them if they begin with none.
+fn after_header(words: &[u32]) -> &[u32]
+    ensures { IsAfterHeader words.now result.now }
+{
+    match words.strip_prefix(&HEADER) {
+        Some(rest) => rest,
+        None => words,
+    }
+}
+
+/// Reads the items of words in order, after the header if they begin with one.
 fn read_items(alloc: Global, draft: &mut Draft, words: &[u32]) -> Result<(), WordsError>
     requires { AreAdded [] draft.old }
     ensures all { IfOk result (λ _. AreAllAdded words.now draft.new) }
     ensures stuck { IfErr result (λ e. (e ≡ error.OutOfMemory) ⊎ NamesItem e (IsFirstUnreadable words.now)) }
 {
-    let mut left = words;
+    let mut left = after_header(words);
     'items: while !left.is_empty() {
         match read_item(alloc, draft, left) {
             Ok(rest) => left = rest,

@@ -1,6 +1,6 @@
 //! Words that are read, and words that can't be.
 
-use naga_words::{WordsError, read_words};
+use naga_words::{MAGIC, VERSION, WordsError, read_words};
 use std::alloc::Global;
 
 /// How many types the module of words has.
@@ -53,6 +53,66 @@ fn the_first_item_that_cannot_be_read_is_named(rt: HostRuntime) {
 }
 
 #[test]
+fn a_header_may_stand_first(rt: HostRuntime) {
+    let alloc = rt.alloc();
+    assert_eq!(rt; HEADER, [0x20f, MAGIC, VERSION]);
+    assert_eq!(rt; u32::from_le_bytes(*b"NAGW"), MAGIC);
+    assert_eq!(rt; count_types(alloc, &HEADER), Ok(0));
+    let mut example = [0; 28];
+    example[..3].copy_from_slice(&HEADER);
+    example[3..].copy_from_slice(&EXAMPLE);
+    assert_eq!(rt; count_types(alloc, &example), Ok(3));
+    example[7] = 0;
+    assert_eq!(rt; count_types(alloc, &example), Err(WordsError::Item(7)));
+}
+
+#[test]
+fn another_header_cannot_be_read(rt: HostRuntime) {
+    let alloc = rt.alloc();
+    for head in [0x00f, 0x10f, 0x30f, 0x20e] {
+        assert_eq!(rt;
+            count_types(alloc, &[head, MAGIC, 1, 0]),
+            Err(WordsError::Item(0))
+        );
+    }
+    for version in [0, 2, u32::MAX] {
+        assert_eq!(rt;
+            count_types(alloc, &[0x20f, MAGIC, version]),
+            Err(WordsError::Item(0))
+        );
+    }
+    for magic in [0, MAGIC - 1, MAGIC.swap_bytes()] {
+        assert_eq!(rt;
+            count_types(alloc, &[0x20f, magic, 1]),
+            Err(WordsError::Item(0))
+        );
+    }
+    for length in 1..HEADER.len() {
+        assert_eq!(rt;
+            count_types(alloc, &HEADER[..length]),
+            Err(WordsError::Item(0))
+        );
+    }
+}
+
+#[test]
+fn a_header_cannot_stand_later(rt: HostRuntime) {
+    let alloc = rt.alloc();
+    let twice = [0x20f, MAGIC, 1, 0x20f, MAGIC, 1];
+    assert_eq!(rt; count_types(alloc, &twice), Err(WordsError::Item(3)));
+    let after_setting = [0x003, 0x20f, MAGIC, 1];
+    assert_eq!(rt;
+        count_types(alloc, &after_setting),
+        Err(WordsError::Item(1))
+    );
+    let open_at_the_end = [0x20f, MAGIC, 1, 0x123, u32::MAX, 0x0c1];
+    assert_eq!(rt;
+        count_types(alloc, &open_at_the_end),
+        Err(WordsError::Item(6))
+    );
+}
+
+#[test]
 fn each_beginning_is_read_or_names_an_item(rt: HostRuntime) {
     for length in 0..ALL.len() {
         if let Err(error) = count_types(rt.alloc(), &ALL[..length]) {
@@ -73,6 +133,9 @@ fn words_with_one_replaced_are_read_or_name_an_item(rt: HostRuntime) {
         }
     }
 }
+
+/// The header of docs/WORDS.md.
+const HEADER: [u32; 3] = [527, 0x5747414e, 1];
 
 /// The example of docs/WORDS.md.
 const EXAMPLE: [u32; 25] = [

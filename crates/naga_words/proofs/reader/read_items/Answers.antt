@@ -1,12 +1,21 @@
-use Rattle.std.proofs.Common.{◌≡◌, ◌⊎◌, ◌<◌, ◌^◌, ◌-◌, ◌++◌, ◌∷◌, [], ap, append_assoc, arith, length, length-append, refl, rules, subst, sym, ◌∙◌}
+use Rattle.std.proofs.Common.{◌≡◌, ◌⊎◌, ◌<◌, ◌^◌, ◌-◌, ◌++◌, ◌∷◌, [], ap, append_assoc, arith, length, length-append, rules, subst, sym, ◌∙◌}
 use Rattle.naga_words.specs.Words.{IsFirstUnreadable, NamesItem}
 use Rattle.naga_words.specs.declared.reader.WordsError.TheVariants as error
-use Rattle.naga_words.proofs.ItemWords.{items_then, own_words}
+use Rattle.naga_words.proofs.HeaderLaws.{empty_list, words_then}
+use Rattle.naga_words.proofs.ItemWords.{own_words}
 use Rattle.naga_words.proofs.Unreadable.{names, stuck_at}
 use Rattle.naga_words.proofs.reader.read_items.Goals as goal
 
 pub items-init : goal.items-init
-items-init c = record { front = []; items = []; words = refl; are = refl; added = c.requires }
+items-init c =
+    let h = c.after_header-left.ensures in record {
+      front = h.front;
+      items = [];
+      words = h.words_are;
+      are = h.front_is;
+      whole = h.whole;
+      added = c.requires;
+    }
 
 pub items-preserved : goal.items-preserved
 items-preserved c =
@@ -16,7 +25,8 @@ items-preserved c =
       front = i.front ++ own.0;
       items = i.items ++ one.item ∷ [];
       words = i.words ∙ ap (λ ws. i.front ++ ws) own.1 ∙ sym (append_assoc i.front own.0 c.in-Ok.rest.now);
-      are = items_then i.front i.items own.0 one.item i.are own.2;
+      are = words_then i.front i.items own.0 one.item i.are own.2;
+      whole = λ others is none. i.whole others is (empty_list i.front (let split = length-append i.front own.0 in let all = ap length none in omega (arith, split, all)));
       added = one.added;
     }
 
@@ -28,4 +38,4 @@ returns-in-Err-clause-stuck c =
     let all = ap length i.words in let split = length-append i.front c.items.left.now in omega (arith, all, split) in
     let some : ¬ (c.items.left.now ≡ []) = search rules in
     subst (λ e. (e ≡ error.OutOfMemory) ⊎ NamesItem e (IsFirstUnreadable c.args.words.now)) (sym c.error_at.ensures)
-    (names c.args.words.now c.in-Err.unread _ (λ item. stuck_at c.args.words.now i.front c.items.left.now i.items c.items.draft _ i.words i.are i.added few at some (c.in-Err.ensures.refused i.items i.added item)))
+    (names c.args.words.now c.in-Err.unread _ (λ item. stuck_at c.args.words.now i.front c.items.left.now i.items c.items.draft _ i.words i.are i.added few at i.whole some (c.in-Err.ensures.refused i.items i.added item)))
