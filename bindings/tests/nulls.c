@@ -28,6 +28,7 @@ static void try_nulls(void) {
   require(naga_check_slots(NULL, 0, NULL, 0, 0, NULL, NULL) == NAGA_CHECK_NO_TYPE, "slots");
   require(naga_check_text(NULL, 0, NULL, NULL, 0, NULL) == NAGA_CHECK_OK, "text");
   require(naga_check_report(NULL, 0, NULL, 0, NULL) == NAGA_CHECK_ROOM, "report");
+  require(naga_check_error_text(NULL, NULL, 0) == 0, "text of errors");
 }
 
 static void try_closed(void) {

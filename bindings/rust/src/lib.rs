@@ -46,6 +46,8 @@
 #![deny(unsafe_code)]
 
 mod calls;
+#[cfg(test)]
+mod error_texts;
 mod errors;
 mod expression_error;
 mod expressions;

@@ -35,6 +35,14 @@ pub(crate) fn report(text: &[u8], report: &mut [u8]) -> (NagaCheckStatus, usize)
     (status, length)
 }
 
+/// Writes naga's text of the errors of an outcome, as far as the buffer reaches, and returns the length of it all.
+#[cfg(test)]
+pub(crate) fn error_text(outcome: &NagaCheckOutcome, buffer: &mut [u8]) -> usize {
+    version::require();
+    // SAFETY: the buffer is a slice, and the outcome a reference.
+    unsafe { sys::naga_check_error_text_with(outcome, buffer.as_mut_ptr(), buffer.len()) }
+}
+
 /// Validates a module in a text, and writes the infos of its types.
 pub(crate) fn check_text(
     text: &[u8],

@@ -1,0 +1,123 @@
+//! The texts of the library are those of this crate's errors.
+
+use crate::errors::Refusal;
+use crate::raw;
+use crate::sys::{self, NagaCheckOutcome};
+use std::collections::BTreeSet;
+use std::error::Error;
+
+/// What errors hold: small numbers, most of which stand for something, bits of capabilities, and others.
+const VALUES: [u64; 12] = [
+    0,
+    0,
+    1,
+    1,
+    2,
+    3,
+    4,
+    8,
+    57,
+    0x1_0000,
+    0x0400_0000,
+    0xFFFF_FFFE,
+];
+
+/// What is in texts that no call's outcome has: scalars that need no capability, capabilities without a name, several of
+/// them at once, and the address space whose pointers may lead to types of no fixed size.
+const UNHEARD_OF: [&str; 5] = [
+    "`scalar`",
+    "::capability`",
+    "Capabilities(0x",
+    " | ",
+    "not `Storage {",
+];
+
+/// The text of a refusal, and of the errors within it.
+fn text_of(refusal: &Refusal) -> String {
+    let mut text = refusal.to_string();
+    let mut within = refusal.source();
+    while let Some(error) = within {
+        text = format!("{text}: {error}");
+        within = error.source();
+    }
+    text
+}
+
+/// The text that the library has of an outcome.
+fn library_text_of(outcome: &NagaCheckOutcome) -> String {
+    let mut buffer = vec![0; raw::error_text(outcome, &mut [])];
+    assert_eq!(raw::error_text(outcome, &mut buffer), buffer.len());
+    String::from_utf8(buffer).expect("texts are ASCII")
+}
+
+/// Compares the texts of an outcome. Returns whether it has one in this crate.
+fn compare(outcome: &NagaCheckOutcome) -> bool {
+    let Some(refusal) = Refusal::from_outcome(outcome) else {
+        return false;
+    };
+    let text = text_of(&refusal);
+    if UNHEARD_OF.iter().any(|it| text.contains(it)) {
+        return false;
+    }
+    assert_eq!(library_text_of(outcome), text, "{outcome:?}");
+    true
+}
+
+/// Values in each place, the same ones each time.
+fn values_of_round(round: u32) -> [u64; 5] {
+    let mut state = u64::from(round);
+    [(); 5].map(|()| {
+        state = state
+            .wrapping_mul(6_364_136_223_846_793_005)
+            .wrapping_add(1_442_695_040_888_963_407);
+        VALUES[(state >> 33) as usize % VALUES.len()]
+    })
+}
+
+#[test]
+fn each_error_has_the_text_of_the_crate() {
+    let mut compared = BTreeSet::new();
+    for numbers in 0..10 * 64 * 7 * 4 * 4 {
+        let errors = [
+            numbers / 10 % 64,
+            numbers / 640 % 7,
+            numbers / 4480 % 4,
+            numbers / 17920,
+        ];
+        for round in 0..100 {
+            let outcome = NagaCheckOutcome {
+                index: round.into(),
+                values: values_of_round(round),
+                stage: numbers % 10,
+                kind: round % 10,
+                errors,
+                expression: 7,
+                ..NagaCheckOutcome::default()
+            };
+            if compare(&outcome) {
+                compared.insert((outcome.stage, errors[0]));
+            }
+        }
+    }
+    // The errors of each stage: of expressions those of functions, and again of entry points.
+    assert_eq!(compared.len(), 3 + 2 + 20 + 7 + 3 + 9 + 62 + 62 + 2);
+}
+
+#[test]
+fn each_name_is_that_of_the_crate() {
+    let mut compared = 0;
+    for numbers in 0..64 * 64 {
+        let (error, value) = (numbers / 64, u64::from(numbers % 64));
+        for (kind, first) in [(1, value), (2, 1 << value), (3, value)] {
+            let outcome = NagaCheckOutcome {
+                values: [first, value % 8, value / 4 % 8, value % 2, value / 2 % 2],
+                stage: sys::NAGA_CHECK_STAGE_FUNCTION,
+                kind,
+                errors: [error, 0, 0, 0],
+                ..NagaCheckOutcome::default()
+            };
+            compared += u32::from(compare(&outcome));
+        }
+    }
+    assert!(compared > 6000, "{compared}");
+}

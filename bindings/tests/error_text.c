@@ -1,0 +1,56 @@
+/* The text of an outcome's errors is written as far as there is room for it and for the 0 after it, and no further. */
+#include <naga_check.h>
+#include <stdio.h>
+#include <string.h>
+
+#define MOST 256
+
+/* A scalar of half a width, and an array whose elements don't fit its stride. */
+static const naga_check_outcome refused[] = {
+    {3, 4, 0, 0, 0, {NAGA_CHECK_KIND_FLOAT, 2, NAGA_CHECK_CAPABILITY_SHADER_FLOAT16, 0, 0}, NAGA_CHECK_STAGE_TYPE,
+     NAGA_CHECK_ITEM_KIND_TYPE,
+     {NAGA_CHECK_TYPE_ERROR_WIDTH_ERROR, NAGA_CHECK_WIDTH_ERROR_MISSING_CAPABILITY, 0, 0}, 3, 0},
+    {12, 13, 0, 0, 0, {8, 16, 0, 0, 0}, NAGA_CHECK_STAGE_TYPE, NAGA_CHECK_ITEM_KIND_TYPE,
+     {NAGA_CHECK_TYPE_ERROR_INVALID_ARRAY_STRIDE, 0, 0, 0}, 2, 0},
+    {0, 1, 2, 1, 0, {UINT64_MAX, 0, 0, 0, 0}, NAGA_CHECK_STAGE_ENTRY_POINT, NAGA_CHECK_ITEM_KIND_EXPRESSION,
+     {NAGA_CHECK_EXPRESSION_ERROR_LITERAL, 7, 0, 0}, 0, 5},
+    {0, 0, 0, 0, 0, {0, 0, 0, 0, 0}, 77, 0, {0, 0, 0, 0}, 0, 0},
+    {9, 0, 0, 0, 0, {0, 0, 0, 0, 0}, NAGA_CHECK_STAGE_NONE, 0, {3, 0, 0, 0}, 0, 0},
+};
+static const char *const texts[] = {
+    "Type [3] is invalid: Using `f16` values requires the `naga::valid::Capabilities::SHADER_FLOAT16` flag",
+    "Type [12] is invalid: Array stride 8 does not match the expected 16",
+    "Expression [5] of entry point [0] is invalid: unknown error",
+    "unknown error",
+    "",
+};
+
+static int failed;
+
+static void require(int holds, const char *what, size_t room) {
+  if (holds) return;
+  printf("error_text: %s, with room for %u\n", what, (unsigned)room);
+  failed = 1;
+}
+
+/* Writes a text with some room, between bytes that have to stay as they are. */
+static void try_room(const naga_check_outcome *outcome, const char *text, size_t room) {
+  char buffer[MOST];
+  const size_t length = strlen(text), written = length < room ? length : room ? room - 1 : 0;
+  size_t at = room ? written + 1 : 0;
+  memset(buffer, '#', sizeof buffer);
+  require(naga_check_error_text(outcome, buffer, room) == length, "another length", room);
+  require(memcmp(buffer, text, written) == 0, "another text", room);
+  require(!room || buffer[written] == 0, "no 0 at the end", room);
+  for (; at < MOST; at++) require(buffer[at] == '#', "more than the text and a 0", room);
+}
+
+int main(void) {
+  size_t each, room;
+  for (each = 0; each < sizeof texts / sizeof *texts; each++)
+    for (room = 0; room < MOST; room++) try_room(&refused[each], texts[each], room);
+  require(naga_check_error_text(&refused[1], NULL, 0) == strlen(texts[1]), "another length to a null pointer", 0);
+  require(naga_check_error_text(&refused[1], NULL, 9) == strlen(texts[1]), "another length to a null pointer", 9);
+  require(naga_check_error_text(NULL, NULL, 0) == 0, "a text of a null pointer", 0);
+  return failed;
+}
