@@ -26,6 +26,13 @@ ERRORS = {"InvalidHandleError": "HANDLE_ERROR", "LayoutErrorInner": "LAYOUT_ERRO
 TABLES = {"ScalarKind": "KIND", "CooperativeRole": "ROLE", "ImageDimension": "DIMENSION",
           "SwizzleComponent": "COMPONENT", "UnaryOperator": "UNARY", "BinaryOperator": "BINARY",
           "RelationalFunction": "RELATIONAL", "MathFunction": "MATH", "SubgroupOperation": "SUBGROUP"}
+# How the header calls the enums of the crate of texts, and what its tables name.
+TEXTS = {**{name: prefix for name, prefix in ERRORS.items() if prefix not in ("HANDLE_ERROR", "LAYOUT_ERROR")},
+         "HandleError": "HANDLE_ERROR", "LayoutError": "LAYOUT_ERROR", "ModuleError": "MODULE_ERROR", "Stage": "STAGE"}
+del TEXTS["Disalignment"]
+NAMES = {"ItemKinds": "ITEM_KIND", "ScalarKinds": "KIND", "Components": "COMPONENT", "Dimensions": "DIMENSION",
+         "Spaces": "SPACE", "UnaryOperators": "UNARY", "BinaryOperators": "BINARY", "MathFunctions": "MATH",
+         "Capabilities": "CAPABILITY"}
 # How the header calls the sets of flags.
 FLAGS = {"ValidationFlags": "VALIDATE", "Capabilities": "CAPABILITY", "TypeFlags": "TYPE",
          "ShaderStages": "SHADER_STAGE"}
@@ -34,6 +41,13 @@ SETTINGS = ("VALIDATE", "CAPABILITY")
 RENAMED = {"D1": "1D", "D2": "2D", "D3": "3D"}
 # What no value of the crate stands for.
 UNUSED = {"NAGA_CHECK_STAGE_NONE", "NAGA_CHECK_NOT_OPEN"}
+
+# Words of texts that no literal of the sources has: what derives write, what says of which item an error is, and what
+# stands for a name that is left out or for an unknown number.
+OWN_WORDS = {"Capability Capabilities(", "Shader requires capability Capabilities(", ") is required",
+             "Sampled { kind", ", multi", "Depth { multi", "Storage { format", ", access", "External",
+             "Handle or range", "of function", "of entry point", "The module is invalid",
+             "A field can't be dynamically-sized, has type", "unknown"}
 
 differences = []
 
@@ -241,6 +255,38 @@ def compare_consts(constants, prefix, path):
          {name: int(value) for name, value in re.findall(r"const (\w+): u32 = (\d+);", read(path))})
 
 
+def compare_texts(constants, text):
+    """Compares the numbers of the crate of texts, which count from 1 in its lists, and its tables of names."""
+    numbers = {}
+    for listed in re.findall(r"\[\s*((?:\w+::\w+,?\s*)+)\]", text):
+        for at, (name, variant) in enumerate(re.findall(r"(\w+)::(\w+?)_?\b", listed), 1):
+            numbers.setdefault(name, {})[variant.upper()] = at
+    same("enum of texts", set(numbers), set(TEXTS))
+    for name, prefix in TEXTS.items():
+        ours = {name: value for name, value in numbers_of_prefix(constants, prefix).items() if value}
+        same(f"{prefix} of texts", ours, numbers.get(name, {}))
+    tables = dict(re.findall(r"Names::(\w+) => &\[(.*?)\]", text, re.DOTALL))
+    for name, prefix in NAMES.items():
+        rows = re.findall(r'\(\s*(\w+),\s*"(\w+)",?\s*\)', tables.get(name, ""))
+        named = {RENAMED.get(row, row).upper().replace("_", ""): int(number, 0) for number, row in rows}
+        ours = {name: value for name, value in numbers_of_prefix(constants, prefix).items()
+                if name not in ("NONE", "DEFAULT", "ALL")}
+        same(f"{prefix} of names", ours, named)
+
+
+def words_of_texts(text):
+    """The words of texts: those between what they show."""
+    return {words.strip(' []"\\:') for words in re.findall(r'Words\("((?:[^"\\]|\\.)*)"\)', text)}
+
+
+def compare_words_of_texts(texts, others):
+    """Notes words of the crate of texts that no literal of the other crates has."""
+    literals = "\n".join(re.findall(r'"((?:[^"\\]|\\.)*)"', others))
+    for words in sorted(words_of_texts(texts)):
+        if words not in OWN_WORDS and not re.search(rf"(?<!\w){re.escape(words)}(?!\w)", literals):
+            differences.append(f"words of a text: {words}")
+
+
 def compare_crates(constants, functions, structs, crates):
     """Compares with the crates in Rattle, as far as they are there."""
     exports, reader = sources_of(crates, "naga_c"), sources_of(crates, "naga_words")
@@ -250,6 +296,10 @@ def compare_crates(constants, functions, structs, crates):
         compare_numbers(constants, ERRORS, numbers_of_errors(exports))
         compare_consts(constants, "ITEM_KIND", f"{crates}/naga_c/src/kinds.rt")
         compare_consts(constants, "STAGE", f"{crates}/naga_c/src/refusal.rt")
+        compare_texts(constants, sources_of(crates, "naga_error_text"))
+        others = "".join(read(path) for path in sorted(glob.glob(f"{crates}/naga_*/src/*.rt"))
+                         if "naga_error_text" not in path and "/naga_c/" not in path)
+        compare_words_of_texts(sources_of(crates, "naga_error_text"), others)
     if reader:
         compare_numbers(constants, TABLES, numbers_of_tables(reader))
     if not exports or not reader:
