@@ -14,7 +14,8 @@ use Rattle.naga_error_text.specs.declared.pieces.Place.{Place}
 use Rattle.naga_error_text.specs.declared.pieces.Place.TheVariants as place
 use Rattle.naga_error_text.specs.declared.pieces.Values.{Values}
 use Rattle.naga_error_text.specs.Names.{name_in, named, names}
-use Rattle.naga_error_text.specs.Pieces.{are_short, image_class_of, image_class_parts, is_short, piece_text, place_value, two_values}
+use Rattle.naga_error_text.specs.Classes.{image_class_of, image_class_parts, two_values}
+use Rattle.naga_error_text.specs.steps.Pieces.{are_short, is_short, piece_text, place_value}
 
 -- the values are numbers of 64 bits
 abbrev pub Fit : Values → Type 0

@@ -7,7 +7,7 @@ use Rattle.naga_error_text.specs.declared.families.Family.TheVariants.{Stage}
 use Rattle.naga_error_text.specs.declared.pieces.Values.{Values}
 use Rattle.naga_error_text.specs.Errors.{cause_of, error_of, error_parts, values_within}
 use Rattle.naga_error_text.specs.Texts.{chain_text, refusal_text, text_of, text_within}
-use Rattle.naga_error_text.specs.Writing.{written_at}
+use Rattle.naga_error_text.specs.steps.Writing.{written_at}
 use Rattle.naga_error_text.proofs.WritingLaws.{written_after}
 
 -- it is its own text and that of the error within it

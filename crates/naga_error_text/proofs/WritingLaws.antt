@@ -2,7 +2,8 @@
 use Rattle.std.proofs.Common.{arith, ◌≡◌, ◌∙◌, ap, sym, ℕ, List, ◌+◌, ◌-◌, ◌++◌, ◌<◌, ◌≤◌, take, drop, length, get_or, inl, inr}
 use Rattle.std.proofs.lemmas.Bool.{cases_lt}
 use Rattle.std.proofs.lemmas.List.{same_lists, places}
-use Rattle.naga_error_text.specs.Writing.{overwritten, written_at}
+use Rattle.naga_error_text.specs.Writing.{overwritten}
+use Rattle.naga_error_text.specs.steps.Writing.{written_at}
 
 -- a buffer keeps its length
 pub length_written : (at : ℕ) (text old : List ℕ) → length (written_at at text old) ≡ length old

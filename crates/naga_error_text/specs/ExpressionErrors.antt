@@ -7,7 +7,7 @@ use Rattle.naga_error_text.specs.declared.pieces.Values.{Values}
 use Rattle.naga_error_text.specs.declared.expression_errors.ExpressionError.{ExpressionError}
 use Rattle.naga_error_text.specs.declared.expression_errors.ExpressionError.TheVariants as expression_error
 use Rattle.naga_error_text.specs.Names.{named}
-use Rattle.naga_error_text.specs.Pieces.{image_class}
+use Rattle.naga_error_text.specs.Classes.{image_class}
 
 -- the errors `ExpressionError` in the order of their numbers, which begin at 1
 abbrev pub expression_errors : List ExpressionError

@@ -7,12 +7,12 @@ use Rattle.naga_error_text.specs.declared.families.Family.TheVariants as family
 use Rattle.naga_error_text.specs.declared.pieces.Values.{Values}
 use Rattle.naga_error_text.specs.Errors.{cause_of, error_of, error_parts, values_within}
 
--- the text of the error within another, if there is one, of the values `v`, as `within` gives the text of one of a family
+-- the text of the error within another, if there is one, of the values `v`: `within` is the text of one of a family
 abbrev pub text_within : Option Family → (v : Values) → (within : Family → Values → List ℕ) → List ℕ
 text_within None v within = []
 text_within (Some family) v within = within family v
 
--- the text of an error of the values `v`, if its number is that of one, as `within` gives the text of the error in it
+-- the text of an error of the values `v`, if its number is one's: `within` is the text of the error in it, of a family
 abbrev pub text_of : Option Error → (v : Values) → (within : Family → Values → List ℕ) → List ℕ
 text_of None v within = codes "unknown error"
 text_of (Some e) v within = concat (error_parts e v) ++ text_within (cause_of e) (values_within e v) within

@@ -7,7 +7,7 @@ use Rattle.naga_error_text.specs.declared.pieces.Values.{Values}
 use Rattle.naga_error_text.specs.declared.type_errors.TypeError.{TypeError}
 use Rattle.naga_error_text.specs.declared.type_errors.TypeError.TheVariants as type_error
 use Rattle.naga_error_text.specs.Names.{named}
-use Rattle.naga_error_text.specs.Pieces.{image_class}
+use Rattle.naga_error_text.specs.Classes.{image_class}
 
 -- the errors `TypeError` in the order of their numbers, which begin at 1
 abbrev pub type_errors : List TypeError

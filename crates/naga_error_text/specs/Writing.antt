@@ -1,9 +1,5 @@
 -- What a text leaves in a buffer that may be too short for it.
-use Rattle.std.specs.Prelude.{ℕ, List, ◌+◌, ◌-◌, ◌++◌, take, drop, length}
-
--- `old` with a text in place of what it has from the place `at` on, as far as it reaches
-abbrev pub written_at : ℕ → (text old : List ℕ) → List ℕ
-written_at at text old = take at old ++ (take (length old - at) text ++ drop (at + length text) old)
+use Rattle.std.specs.Prelude.{ℕ, List, ◌++◌, take, drop, length}
 
 -- `old` with a text in place of its beginning, as far as it reaches: the rest is as before
 abbrev pub overwritten : (text old : List ℕ) → List ℕ

@@ -2,7 +2,7 @@
 
 ghost use Rattle.naga_error_text.specs.Causes.{compose_error_parts, compose_errors, indexable_length_error_parts, indexable_length_errors, literal_error_cause, literal_error_parts, literal_errors, resolve_error_parts, resolve_errors, varying_error_parts, varying_errors, width_error_parts, width_errors};
 ghost use Rattle.naga_error_text.specs.Numbers.{numbered};
-ghost use Rattle.naga_error_text.specs.Pieces.{are_short, piece_text};
+ghost use Rattle.naga_error_text.specs.steps.Pieces.{are_short, piece_text};
 ghost use Rattle.std.specs.Prelude.{◌≡◌, IsTrue, map};
 
 use crate::families::Family;

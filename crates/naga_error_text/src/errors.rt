@@ -1,7 +1,7 @@
 //! An error of any family.
 
 ghost use Rattle.naga_error_text.specs.Errors.{cause_of, error_of, error_parts, values_within};
-ghost use Rattle.naga_error_text.specs.Pieces.{are_short, piece_text};
+ghost use Rattle.naga_error_text.specs.steps.Pieces.{are_short, piece_text};
 ghost use Rattle.std.specs.Prelude.{◌≡◌, IsTrue, map};
 
 use crate::causes::{

@@ -2,7 +2,7 @@
 
 ghost use Rattle.naga_error_text.specs.ExpressionErrors.{expression_error_cause, expression_error_parts, expression_errors};
 ghost use Rattle.naga_error_text.specs.Numbers.{numbered};
-ghost use Rattle.naga_error_text.specs.Pieces.{are_short, piece_text};
+ghost use Rattle.naga_error_text.specs.steps.Pieces.{are_short, piece_text};
 ghost use Rattle.std.specs.Prelude.{◌≡◌, IsTrue, map};
 
 use crate::families::Family;

@@ -2,7 +2,7 @@
 
 ghost use Rattle.naga_error_text.specs.ModuleErrors.{const_expression_error_cause, const_expression_error_parts, const_expression_errors, constant_error_parts, constant_errors, handle_error_parts, handle_errors, layout_error_parts, layout_errors, module_error_parts, module_errors, override_error_cause, override_error_parts, override_errors};
 ghost use Rattle.naga_error_text.specs.Numbers.{numbered};
-ghost use Rattle.naga_error_text.specs.Pieces.{are_short, piece_text};
+ghost use Rattle.naga_error_text.specs.steps.Pieces.{are_short, piece_text};
 ghost use Rattle.std.specs.Prelude.{◌≡◌, IsTrue, map};
 
 use crate::families::Family;

@@ -1,6 +1,7 @@
 //! The pieces of texts.
 
-ghost use Rattle.naga_error_text.specs.Pieces.{are_short_parts, image_class_of, image_class_parts, part_text, place_value};
+ghost use Rattle.naga_error_text.specs.Classes.{image_class_of, image_class_parts};
+ghost use Rattle.naga_error_text.specs.steps.Pieces.{are_short_parts, part_text, place_value};
 ghost use Rattle.std.specs.Prelude.{◌≡◌, IsTrue, map};
 
 use crate::names::Names;

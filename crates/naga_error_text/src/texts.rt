@@ -2,7 +2,8 @@
 
 ghost use Rattle.naga_error_text.specs.Errors.{error_parts};
 ghost use Rattle.naga_error_text.specs.Texts.{chain_text, refusal_text};
-ghost use Rattle.naga_error_text.specs.Writing.{overwritten, written_at};
+ghost use Rattle.naga_error_text.specs.Writing.{overwritten};
+ghost use Rattle.naga_error_text.specs.steps.Writing.{written_at};
 ghost use Rattle.std.specs.List.{concat};
 ghost use Rattle.std.specs.Prelude.{◌≡◌, ◌+◌, ◌*◌, ◌<◌, ◌≤◌, ◌^◌, length};
 

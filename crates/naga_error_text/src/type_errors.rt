@@ -2,7 +2,7 @@
 
 ghost use Rattle.naga_error_text.specs.TypeErrors.{type_error_cause, type_error_parts, type_errors};
 ghost use Rattle.naga_error_text.specs.Numbers.{numbered};
-ghost use Rattle.naga_error_text.specs.Pieces.{are_short, piece_text};
+ghost use Rattle.naga_error_text.specs.steps.Pieces.{are_short, piece_text};
 ghost use Rattle.std.specs.Prelude.{◌≡◌, IsTrue, map};
 
 use crate::families::Family;

@@ -1,7 +1,8 @@
 //! Writing pieces into a buffer that may be too short for them.
 
-ghost use Rattle.naga_error_text.specs.Pieces.{image_class, part_text, piece_text, two_values};
-ghost use Rattle.naga_error_text.specs.Writing.{written_at};
+ghost use Rattle.naga_error_text.specs.Classes.{image_class, two_values};
+ghost use Rattle.naga_error_text.specs.steps.Pieces.{part_text, piece_text};
+ghost use Rattle.naga_error_text.specs.steps.Writing.{written_at};
 ghost use Rattle.std.specs.List.{concat};
 ghost use Rattle.std.specs.Prelude.{◌≡◌, ◌+◌, ◌<◌, ◌^◌, decimal, length, map};
 

@@ -1,6 +1,6 @@
 use Rattle.std.proofs.Common.{◌≡◌, ◌+◌, drop, length, map}
-use Rattle.naga_error_text.specs.Pieces.{part_text}
-use Rattle.naga_error_text.specs.Writing.{written_at}
+use Rattle.naga_error_text.specs.steps.Pieces.{part_text}
+use Rattle.naga_error_text.specs.steps.Writing.{written_at}
 use Rattle.std.specs.List.{concat}
 use Rattle.naga_error_text.proofs.write.write_parts.Given as goal
 

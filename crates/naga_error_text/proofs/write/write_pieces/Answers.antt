@@ -1,7 +1,7 @@
 use Rattle.std.proofs.Common.{map}
 use Rattle.std.proofs.lemmas.List.{at_drop_more}
 use Rattle.std.specs.List.{concat}
-use Rattle.naga_error_text.specs.Pieces.{piece_text}
+use Rattle.naga_error_text.specs.steps.Pieces.{piece_text}
 use Rattle.naga_error_text.proofs.WritingLaws.{written_step}
 use Rattle.naga_error_text.proofs.write.write_pieces.Goals as goal
 
