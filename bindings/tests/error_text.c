@@ -1,9 +1,12 @@
-/* The text of an outcome's errors is written as far as there is room for it and for the 0 after it, and no further. */
+/* The text of an outcome's errors is written as far as there is room for it and for the 0 after it, and no further. Any
+ * outcome has one, also such as no call writes. */
 #include <naga_check.h>
 #include <stdio.h>
 #include <string.h>
 
 #define MOST 256
+#define MOST_OF_ANY 1024
+#define ROUNDS 100000
 
 /* A scalar of half a width, and an array whose elements don't fit its stride. */
 static const naga_check_outcome refused[] = {
@@ -45,10 +48,44 @@ static void try_room(const naga_check_outcome *outcome, const char *text, size_t
   for (; at < MOST; at++) require(buffer[at] == '#', "more than the text and a 0", room);
 }
 
+/* The next of many numbers, which are the same each time. */
+static uint64_t next_number(void) {
+  static uint64_t state = 1;
+  state ^= state << 13;
+  state ^= state >> 7;
+  state ^= state << 17;
+  return state;
+}
+
+/* An outcome of any numbers: mostly such as some error has, or holds. */
+static naga_check_outcome any_outcome(void) {
+  naga_check_outcome outcome = {0, 0, 0, 0, 0, {0, 0, 0, 0, 0}, 0, 0, {0, 0, 0, 0}, 0, 0};
+  size_t each;
+  outcome.index = next_number();
+  outcome.stage = (uint32_t)(next_number() % 11);
+  outcome.kind = (uint32_t)(next_number() % 11);
+  outcome.expression = (uint32_t)next_number();
+  for (each = 0; each < 5; each++) outcome.values[each] = next_number() >> (next_number() % 4 ? 60 : 0);
+  for (each = 0; each < 4; each++) outcome.errors[each] = (uint32_t)(next_number() % (each ? 8 : 66));
+  return outcome;
+}
+
+/* The text of any outcome, whole and cut. */
+static void try_any_outcome(void) {
+  const naga_check_outcome outcome = any_outcome();
+  char whole[MOST_OF_ANY], cut[MOST];
+  const size_t length = naga_check_error_text(&outcome, whole, sizeof whole);
+  require(length < sizeof whole && strlen(whole) == length, "no text of any outcome", sizeof whole);
+  require(naga_check_error_text(&outcome, cut, sizeof cut) == length, "another length", sizeof cut);
+  require(strlen(cut) == (length < MOST ? length : MOST - 1), "a text of another length", sizeof cut);
+  require(strncmp(cut, whole, strlen(cut)) == 0, "another text", sizeof cut);
+}
+
 int main(void) {
   size_t each, room;
   for (each = 0; each < sizeof texts / sizeof *texts; each++)
     for (room = 0; room < MOST; room++) try_room(&refused[each], texts[each], room);
+  for (each = 0; each < ROUNDS; each++) try_any_outcome();
   require(naga_check_error_text(&refused[1], NULL, 0) == strlen(texts[1]), "another length to a null pointer", 0);
   require(naga_check_error_text(&refused[1], NULL, 9) == strlen(texts[1]), "another length to a null pointer", 9);
   require(naga_check_error_text(NULL, NULL, 0) == 0, "a text of a null pointer", 0);
