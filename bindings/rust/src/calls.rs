@@ -223,7 +223,7 @@ fn buffer_of<T: Clone + Default>(count: u64) -> Result<Vec<T>, Error> {
 }
 
 /// How many items have an opcode that is looked for: of a module that can be read, or the first ones of another.
-pub(crate) fn count_items(words: &[u32], is_counted: impl Fn(u32) -> bool) -> usize {
+fn count_items(words: &[u32], is_counted: impl Fn(u32) -> bool) -> usize {
     let mut left = words;
     let mut count = 0;
     while let [head, rest @ ..] = left {
@@ -231,6 +231,17 @@ pub(crate) fn count_items(words: &[u32], is_counted: impl Fn(u32) -> bool) -> us
         left = rest.get((head >> 8) as usize..).unwrap_or_default();
     }
     count
+}
+
+/// How many structs there are.
+fn count_structs(words: &[u32]) -> usize {
+    count_items(words, |opcode| opcode == sys::NAGA_CHECK_OP_STRUCT)
+}
+
+/// Whether structs may be nested deeper than the stack allows that every caller has.
+pub(crate) fn may_be_deep(words: &[u32]) -> bool {
+    const MOST_STRUCTS: usize = 1000;
+    count_structs(words) > MOST_STRUCTS
 }
 
 /// The error of a status that is none of success, with what was found out.
@@ -534,30 +545,20 @@ pub fn slots(
     ty: Handle<Type>,
     offset: u32,
 ) -> Result<u64, Error> {
-    let subject = Subject { words, options };
-    let structs = count_items(words, |opcode| opcode == sys::NAGA_CHECK_OP_STRUCT);
-    slots_of(structs, || raw::slots(subject, ty.index(), offset))
-}
-
-/// The slots that a call returns on a module of so many structs.
-pub(crate) fn slots_of(
-    structs: usize,
-    call: impl FnOnce() -> (NagaCheckStatus, u64, NagaCheckOutcome) + Send,
-) -> Result<u64, Error> {
-    /// How deep structs may be nested on the stack that every caller has.
-    const MOST_STRUCTS: usize = 1000;
     /// More than the library needs for a struct within a struct.
     const STACK_OF_STRUCT: usize = 1024;
-    let (status, slots, outcome) = if structs <= MOST_STRUCTS {
-        call()
-    } else {
+    let subject = Subject { words, options };
+    let (status, slots, outcome) = if may_be_deep(words) {
         // All structs may be nested, and the library calls itself for each.
-        let stack = structs.saturating_mul(STACK_OF_STRUCT);
+        let stack = count_structs(words).saturating_mul(STACK_OF_STRUCT);
         thread::scope(|scope| {
             let thread = thread::Builder::new().stack_size(stack);
-            thread.spawn_scoped(scope, call).ok()?.join().ok()
+            let call = thread.spawn_scoped(scope, || raw::slots(subject, ty.index(), offset));
+            call.ok()?.join().ok()
         })
         .ok_or(Error::OutOfMemory)?
+    } else {
+        raw::slots(subject, ty.index(), offset)
     };
     match status {
         sys::NAGA_CHECK_OK => Ok(slots),

@@ -1,8 +1,8 @@
 //! A module that is read and validated once.
 
 use crate::calls::{
-    count_items, error_of, infos_of, leaves_of, slots_of, stages_of, FunctionStages,
-    FunctionsError, Leaves, TypeInfo,
+    error_of, infos_of, leaves_of, may_be_deep, slots, stages_of, FunctionStages, FunctionsError,
+    Leaves, TypeInfo,
 };
 use crate::errors::Error;
 use crate::operands::Handle;
@@ -13,7 +13,7 @@ use crate::types::Type;
 use std::cell::RefCell;
 
 /// A module that is accepted, and kept by the library with what is known of it: it is read and validated once, and then
-/// asked as often as a host wants. It may be handed to another thread, and is used by one at a time.
+/// asked as often as a host wants. It stays on the thread that opened it.
 ///
 /// ```
 /// use naga_check::{Module, Options, Scalar, StructMember, TypeInner, Words};
@@ -38,7 +38,8 @@ pub struct Module {
     /// Each call writes it.
     open: RefCell<OpenModule>,
     infos: Vec<TypeInfo>,
-    structs: usize,
+    /// The words of a module whose structs may be nested deeper than every stack allows, and its options.
+    deep: Option<(Vec<u32>, Options)>,
 }
 
 impl Module {
@@ -56,7 +57,7 @@ impl Module {
         Ok(Module {
             infos: infos_of(count, |infos| open.types(infos))?,
             open: RefCell::new(open),
-            structs: count_items(words, |opcode| opcode == sys::NAGA_CHECK_OP_STRUCT),
+            deep: may_be_deep(words).then(|| (words.to_vec(), *options)),
         })
     }
 
@@ -94,8 +95,14 @@ impl Module {
     ///
     /// `NoType`, `NotShareable`, and `OutOfMemory`.
     pub fn slots(&self, ty: Handle<Type>, offset: u32) -> Result<u64, Error> {
-        let open = &mut *self.open.borrow_mut();
-        slots_of(self.structs, move || open.slots(ty.index(), offset))
+        // An open module stays on its thread, and nested structs may need the stack of another.
+        if let Some((words, options)) = &self.deep {
+            return slots(words, options, ty, offset);
+        }
+        match self.open.borrow_mut().slots(ty.index(), offset) {
+            (sys::NAGA_CHECK_OK, slots, _) => Ok(slots),
+            (status, _, outcome) => Err(error_of(status, &outcome)),
+        }
     }
 
     /// Validates the expressions of the functions and entry points, as [`check_functions`](crate::check_functions) does.

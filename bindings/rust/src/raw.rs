@@ -191,9 +191,6 @@ pub(crate) fn slots(
 #[derive(Debug)]
 pub(crate) struct OpenModule(NagaCheckModule);
 
-// SAFETY: the library is proved to keep nothing of a thread in an open module.
-unsafe impl Send for OpenModule {}
-
 impl Drop for OpenModule {
     fn drop(&mut self) {
         // SAFETY: the module is as a call left it.

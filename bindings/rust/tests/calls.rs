@@ -536,11 +536,12 @@ fn an_open_module_says_what_the_calls_say() {
     assert_eq!(module.leaves(pair, 0), leaves(&words, &DEFAULT, &[pair], 0));
     assert_eq!(module.slots(pair, 4), slots(&words, &DEFAULT, pair, 4));
     assert_eq!(module.functions(), check_functions(&words, &DEFAULT));
-    // It stands on its own, and other threads may have it.
+    // It stands on its own.
     drop(words);
-    let count =
-        std::thread::spawn(move || module.leaves(pair, 0).map(|leaves| leaves.iter().len()));
-    assert_eq!(count.join().expect("the thread ends"), Ok(2));
+    assert_eq!(
+        module.leaves(pair, 0).map(|leaves| leaves.iter().len()),
+        Ok(2)
+    );
 }
 
 #[test]

@@ -5,6 +5,8 @@ pub mod CursorLaws
 pub mod Fronts
 pub mod LeafCountLaws
 pub mod LeafLaws
+pub mod LimitLaws
+pub mod OpenModuleLaws
 pub mod OpenModuleValues
 pub mod RowLaws
 pub mod SlotLaws

@@ -57,15 +57,15 @@ pub extern "C" fn naga_check_open_with(
     alloc: Global,
     words: &[u32],
     options: &Options,
-    open: &mut OpenModule,
+    opened: &mut OpenModule,
     outcome: &mut Outcome,
 ) -> u32
     ensures { Returns result (OfWords options.now words.now
-        (λ subject. Opens subject options.now.most_leaves open.new.held outcome.new)
-        (λ found. (open.new.held ≡ None) × (outcome.new ≡ found))) }
+        (λ subject. Opens subject options.now.most_leaves opened.new.held outcome.new)
+        (λ found. (opened.new.held ≡ None) × (outcome.new ≡ found))) }
 {
-    let (opened, found, status) = open_words(alloc, words, options);
-    *open = opened;
+    let (module, found, status) = open_words(alloc, words, options);
+    *opened = module;
     *outcome = found;
     status.code()
 }
@@ -74,22 +74,22 @@ pub extern "C" fn naga_check_open_with(
 #[unsafe(no_mangle)]
 pub extern "C" fn naga_check_module_types_with(
     alloc: Global,
-    open: &mut OpenModule,
+    opened: &mut OpenModule,
     infos: &mut [TypeRow],
     outcome: &mut Outcome,
 ) -> u32
-    requires { IsOpenModule open.old.held }
-    ensures kept { open.new.held ≡ open.old.held }
-    ensures written { Returns result (OfOpenModule open.old.held
+    requires { IsOpenModule opened.old.held }
+    ensures kept { opened.new.held ≡ opened.old.held }
+    ensures written { Returns result (OfOpenModule opened.old.held
         (λ (accepted : Accepted). ChecksTypes accepted.subject infos.old infos.new outcome.new)
         (LeavesBuffer infos.old infos.new outcome.new)) }
 {
-    let Some(accepted) = open.take(alloc) else {
+    let Some(accepted) = opened.take(alloc) else {
         *outcome = no_outcome();
         return Status::NotOpen.code();
     };
     let status = report_types(alloc, &accepted, infos, outcome);
-    *open = OpenModule::of(accepted);
+    *opened = OpenModule::of(accepted);
     status.code()
 }
 
@@ -98,22 +98,22 @@ pub extern "C" fn naga_check_module_types_with(
 #[unsafe(no_mangle)]
 pub extern "C" fn naga_check_module_functions_with(
     alloc: Global,
-    open: &mut OpenModule,
+    opened: &mut OpenModule,
     stages: &mut [u32],
     outcome: &mut Outcome,
 ) -> u32
-    requires { IsOpenModule open.old.held }
-    ensures kept { open.new.held ≡ open.old.held }
-    ensures written { Returns result (OfOpenModule open.old.held
+    requires { IsOpenModule opened.old.held }
+    ensures kept { opened.new.held ≡ opened.old.held }
+    ensures written { Returns result (OfOpenModule opened.old.held
         (λ (accepted : Accepted). ChecksFunctions accepted.subject stages.old stages.new outcome.new)
         (LeavesBuffer stages.old stages.new outcome.new)) }
 {
-    let Some(accepted) = open.take(alloc) else {
+    let Some(accepted) = opened.take(alloc) else {
         *outcome = no_outcome();
         return Status::NotOpen.code();
     };
     let status = check_functions(alloc, &accepted.subject, stages, outcome);
-    *open = OpenModule::of(accepted);
+    *opened = OpenModule::of(accepted);
     status.code()
 }
 
@@ -121,7 +121,7 @@ pub extern "C" fn naga_check_module_functions_with(
 #[unsafe(no_mangle)]
 pub extern "C" fn naga_check_module_leaves_with(
     alloc: Global,
-    open: &mut OpenModule,
+    opened: &mut OpenModule,
     types: &[u32],
     length: u32,
     leaves: &mut [LeafRow],
@@ -129,11 +129,11 @@ pub extern "C" fn naga_check_module_leaves_with(
     counts: &mut Counts,
     outcome: &mut Outcome,
 ) -> u32
-    requires { IsOpenModule open.old.held }
-    ensures kept { open.new.held ≡ open.old.held }
+    requires { IsOpenModule opened.old.held }
+    ensures kept { opened.new.held ≡ opened.old.held }
     ensures written { let old = buffers leaves.old paths.old no_counts in
         let new = buffers leaves.new paths.new counts.new in
-        Returns result (OfOpenModule open.old.held
+        Returns result (OfOpenModule opened.old.held
         (λ (accepted : Accepted). ChecksLeaves accepted.subject types.now length accepted.most_leaves old new outcome.new)
         (λ found. LeavesBuffers old new × (outcome.new ≡ found))) }
 {
@@ -141,7 +141,7 @@ pub extern "C" fn naga_check_module_leaves_with(
         leaves: 0,
         paths: 0,
     };
-    let Some(accepted) = open.take(alloc) else {
+    let Some(accepted) = opened.take(alloc) else {
         *outcome = no_outcome();
         return Status::NotOpen.code();
     };
@@ -151,7 +151,7 @@ pub extern "C" fn naga_check_module_leaves_with(
         length,
     };
     let (found, status) = report_leaves(alloc, queries, leaves, paths, counts);
-    *open = OpenModule::of(accepted);
+    *opened = OpenModule::of(accepted);
     *outcome = found;
     status.code()
 }
@@ -161,15 +161,15 @@ pub extern "C" fn naga_check_module_leaves_with(
 #[unsafe(no_mangle)]
 pub extern "C" fn naga_check_module_count_leaves_with(
     alloc: Global,
-    open: &mut OpenModule,
+    opened: &mut OpenModule,
     types: &[u32],
     length: u32,
     counts: &mut Counts,
     outcome: &mut Outcome,
 ) -> u32
-    requires { IsOpenModule open.old.held }
-    ensures kept { open.new.held ≡ open.old.held }
-    ensures written { Returns result (OfOpenModule open.old.held
+    requires { IsOpenModule opened.old.held }
+    ensures kept { opened.new.held ≡ opened.old.held }
+    ensures written { Returns result (OfOpenModule opened.old.held
         (λ (accepted : Accepted). ChecksCounts accepted.subject types.now length accepted.most_leaves counts.new
         outcome.new)
         (λ found. (counts.new ≡ no_counts) × (outcome.new ≡ found))) }
@@ -178,7 +178,7 @@ pub extern "C" fn naga_check_module_count_leaves_with(
         leaves: 0,
         paths: 0,
     };
-    let Some(accepted) = open.take(alloc) else {
+    let Some(accepted) = opened.take(alloc) else {
         *outcome = no_outcome();
         return Status::NotOpen.code();
     };
@@ -188,7 +188,7 @@ pub extern "C" fn naga_check_module_count_leaves_with(
         length,
     };
     let (found, status) = report_counts(alloc, queries, counts);
-    *open = OpenModule::of(accepted);
+    *opened = OpenModule::of(accepted);
     *outcome = found;
     status.code()
 }
@@ -198,33 +198,33 @@ pub extern "C" fn naga_check_module_count_leaves_with(
 #[unsafe(no_mangle)]
 pub extern "C" fn naga_check_module_slots_with(
     alloc: Global,
-    open: &mut OpenModule,
+    opened: &mut OpenModule,
     ty: u32,
     offset: u32,
     slots: &mut u64,
     outcome: &mut Outcome,
 ) -> u32
-    requires { IsOpenModule open.old.held }
-    ensures kept { open.new.held ≡ open.old.held }
-    ensures written { Returns result (OfOpenModule open.old.held
+    requires { IsOpenModule opened.old.held }
+    ensures kept { opened.new.held ≡ opened.old.held }
+    ensures written { Returns result (OfOpenModule opened.old.held
         (λ (accepted : Accepted). ChecksSlots accepted.subject ty offset slots.new outcome.new)
         (λ found. (slots.new ≡ 0) × (outcome.new ≡ found))) }
 {
     *slots = 0;
-    let Some(accepted) = open.take(alloc) else {
+    let Some(accepted) = opened.take(alloc) else {
         *outcome = no_outcome();
         return Status::NotOpen.code();
     };
     let (found, status) = report_slots(&accepted, ty, offset, slots);
-    *open = OpenModule::of(accepted);
+    *opened = OpenModule::of(accepted);
     *outcome = found;
     status.code()
 }
 
 /// Closes an open module, and gives back its memory. One that is closed already stays so.
 #[unsafe(no_mangle)]
-pub extern "C" fn naga_check_close_with(alloc: Global, open: &mut OpenModule)
-    ensures { open.new.held ≡ None }
+pub extern "C" fn naga_check_close_with(alloc: Global, opened: &mut OpenModule)
+    ensures { opened.new.held ≡ None }
 {
-    *open = OpenModule::null(alloc);
+    *opened = OpenModule::null(alloc);
 }

@@ -95,5 +95,3 @@ impl Drop for OpenModule {
         let _accepted = self.into_box();
     }
 }
-
-unsafe impl Send for OpenModule {}

@@ -1,13 +1,9 @@
-use Rattle.std.proofs.Common.{Err, Ok, refl, sym}
-use Rattle.naga_c.proofs.CallLaws.{accepted_as, ends_refused, settings_as}
+use Rattle.std.proofs.Common.{Ok, sym}
+use Rattle.naga_c.proofs.CallLaws.{ends_refused, settings_as}
 use Rattle.naga_c.proofs.accepted.accept.Goals as goal
 
-pub returns-in-Ok : goal.returns-in-Ok
-returns-in-Ok c =
-    let subject = c.subject.value in
+pub returns-in-Err-validate : goal.returns-in-Err-validate
+returns-in-Err-validate c =
+    let subject = c.in-Ok.subject in
     let same = settings_as subject subject.flags c.validator_for-validator.result c.validator_for-validator.ensures in
-    (refl, refl, record {
-      lists = _;
-      accepted = accepted_as subject.«module» _ _ _ _ same c.in-Ok.ensures.result;
-      references = c.in-Ok.ensures.references;
-    })
+    (Ok subject, sym c.in-Ok.is, ends_refused subject.«module» _ _ _ _ c.as_inner-inner.result.now _ same c.in-Err-validate.ensures.result c.as_inner-inner.ensures c.refused_outcome.ensures c.refused_status.ensures)

@@ -7,4 +7,4 @@ pub returns-in-Ok : goal.returns-in-Ok
 returns-in-Ok c = (Ok c.in-Ok.accepted.subject, c.in-Ok.ensures.0, c.report_types.ensures)
 
 pub returns-in-Err : goal.returns-in-Err
-returns-in-Err c = let h = c.in-Err.ensures in (h.0, h.1.0, ends_without h.0 c.in-Err.not _ _ h.1.1 (λ subject e. not_accepted e) (refl, refl))
+returns-in-Err c = let h = c.in-Err.ensures in (h.0, h.1, ends_without h.0 c.in-Err.not _ _ h.2 (λ subject e. not_accepted e) (refl, refl))

@@ -11,7 +11,7 @@ returns-in_default c =
 
 pub new-requires : goal.new-requires
 new-requires c =
-    let within : get_or c.args.queries.types.now c.loop-index.index 0 < length c.args.queries.subject.now.«module».types = c.has_types.ensures.all.0 c.if-not-has_types.false c.loop-index.index 0 c.loop-index-test.true in
+    let within : get_or c.args.queries.types.now c.loop-index.index 0 < length c.args.queries.accepted.now.subject.«module».types = c.has_types.ensures.all.0 c.if-not-has_types.false c.loop-index.index 0 c.loop-index-test.true in
     omega (arith, c.has_types.ensures.bound)
 
 pub returns-in_default-write_leaves : goal.returns-in_default-write_leaves

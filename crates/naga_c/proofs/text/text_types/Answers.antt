@@ -14,5 +14,5 @@ returns-in-Ok c =
 pub returns-in-Err : goal.returns-in-Err
 returns-in-Err c =
     let h = c.in-Err.ensures in
-    let is = subst (λ (g : Result Subject NoSubject). IsSubjectOfText c.args.options.now c.args.text.now g) (sym h.1.0) c.subject_of_text-given.ensures in
-    (h.0, is, ends_without h.0 c.in-Err.not _ _ h.1.1 (λ subject e. not_accepted e) (refl, refl))
+    let is = subst (λ (g : Result Subject NoSubject). IsSubjectOfText c.args.options.now c.args.text.now g) (sym h.1) c.subject_of_text-given.ensures in
+    (h.0, is, ends_without h.0 c.in-Err.not _ _ h.2 (λ subject e. not_accepted e) (refl, refl))
