@@ -1,7 +1,6 @@
 //! The numbers that words have for what errors hold.
 
 ghost use Rattle.naga_words.specs.Tables.{accesses, binary_operators, components, dimensions, kinds, math_functions, unary_operators};
-ghost use Rattle.naga_words.specs.steps.Operands.{class_of, space_of};
 ghost use Rattle.naga_c.specs.Numbers.{access_number, binary_operator_number, bool_number, class_first, class_number, class_second, component_number, dimension_number, math_function_number, scalar_kind_number, space_access, space_number, unary_operator_number};
 ghost use Rattle.std.specs.Prelude.{◌≡◌, Some, slice_get};
 

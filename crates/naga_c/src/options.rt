@@ -1,7 +1,7 @@
 //! How hosts want modules to be validated, and how much calls may take.
 
 ghost use Rattle.naga_c.specs.Options.{AreKnown};
-ghost use Rattle.std.specs.Prelude.{◌≡◌, ◌↔◌, IsTrue};
+ghost use Rattle.std.specs.Prelude.{◌↔◌, IsTrue};
 
 use naga_words::{all_capabilities, all_flags};
 

@@ -1,7 +1,6 @@
 //! Which item a refusal is about, and why, in numbers.
 
 ghost use Rattle.naga_c.specs.Refusals.{handle_error_index, handle_error_kind, refusal, refusal_of};
-ghost use Rattle.naga_c.specs.Values.{counted};
 ghost use Rattle.std.specs.Prelude.{◌≡◌, [], ◌∷◌};
 
 use crate::codes::{

@@ -1,9 +1,8 @@
 //! What a call validates: the module of words or of a text, and the settings in force.
 
-ghost use Rattle.naga_c.specs.Options.{Allow, AreKnown, AreWithin, IsTextWithin, capabilities_of_both, flags_of_both, item_count, line_ends, nothing_said, subject_of};
+ghost use Rattle.naga_c.specs.Options.{Allow, AreKnown, AreWithin, IsTextWithin, capabilities_of_both, flags_of_both, item_count, line_ends, subject_of};
 ghost use Rattle.naga_c.specs.Subjects.{IsSubjectOfText, IsSubjectOfWords};
 ghost use Rattle.naga_c.specs.steps.Subjects.{IsTaken};
-ghost use Rattle.naga_c.specs.declared.subject.NoSubject.TheVariants as none;
 ghost use Rattle.std.specs.Prelude.{◌≡◌, ◌↔◌, ◌<◌, IsTrue, drop};
 
 use crate::options::{NARROW, Options};

@@ -1,13 +1,13 @@
 //! Writing pieces into a buffer that may be too short for them.
 
-ghost use Rattle.naga_error_text.specs.Classes.{image_class, two_values};
+ghost use Rattle.naga_error_text.specs.Classes.{image_class};
 ghost use Rattle.naga_error_text.specs.steps.Pieces.{part_text, piece_text};
 ghost use Rattle.naga_error_text.specs.steps.Writing.{written_at};
 ghost use Rattle.std.specs.List.{concat};
 ghost use Rattle.std.specs.Prelude.{◌≡◌, ◌+◌, ◌<◌, ◌^◌, decimal, length, map};
 
 use crate::names::shown_name;
-use crate::pieces::{Part, Piece, Place, Values, image_class_of, image_class_pieces};
+use crate::pieces::{Part, Piece, Values, image_class_of, image_class_pieces};
 use itoa::Buffer;
 
 /// Writes words at a place of a text, as far as the buffer reaches. Returns the place after them.
