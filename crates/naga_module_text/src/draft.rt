@@ -4,7 +4,7 @@ use crate::declarations::{Callable, Declarations};
 use crate::forms::expression;
 use crate::functions::{Finished, OpenFunction, Part, part_of};
 use crate::items::{MOST_ITEMS, MOST_WORDS, append, known, only_handle, only_word};
-use crate::settings::Settings;
+use crate::settings::{Settings, capabilities_of, flags_of};
 use crate::unread::Unread;
 use bitflags::Flags;
 use naga_flags::flags::ShaderStages;
@@ -23,6 +23,8 @@ use std::alloc::Global;
 /// What a line with a fixed number of words adds to a module, if the line text doesn't have it.
 #[derive(Clone, Copy)]
 enum Keyword {
+    Flags,
+    Capabilities,
     Name,
     GlobalVariable,
     Function,
@@ -46,6 +48,8 @@ enum Commented {
 /// The keyword of a word.
 fn keyword_of(word: &[u8]) -> Option<Keyword> {
     let keywords = [
+        ("flags", Keyword::Flags),
+        ("caps", Keyword::Capabilities),
         ("name", Keyword::Name),
         ("global", Keyword::GlobalVariable),
         ("fn", Keyword::Function),
@@ -60,6 +64,15 @@ fn keyword_of(word: &[u8]) -> Option<Keyword> {
         ("docglobal", Keyword::Comment(Commented::GlobalVariable)),
     ];
     chosen(&keywords, word)
+}
+
+/// The one word that there has to be, as text.
+fn only_text<'a>(words: &[&'a [u8]]) -> Result<&'a str, Unread> {
+    let word = known(only_word(words))?;
+    match str::from_utf8(word) {
+        Ok(text) => Ok(text),
+        Err(_) => Err(Unread::Line),
+    }
 }
 
 /// What a setting becomes by a line, which may not set it again.
@@ -113,12 +126,23 @@ impl Draft {
         }
     }
 
+    /// `flags F`
+    fn set_flags(&mut self, words: &[&[u8]]) -> Result<(), Unread> {
+        let flags = known(flags_of(only_text(words)?))?;
+        self.settings.flags = set_once(self.settings.flags, flags)?;
+        Ok(())
+    }
+
+    /// `caps C`
+    fn set_capabilities(&mut self, words: &[&[u8]]) -> Result<(), Unread> {
+        let capabilities = known(capabilities_of(only_text(words)?))?;
+        self.settings.capabilities = set_once(self.settings.capabilities, capabilities)?;
+        Ok(())
+    }
+
     /// `name WORD`
     fn set_name(&mut self, words: &[&[u8]]) -> Result<(), Unread> {
-        let word = known(only_word(words))?;
-        let Ok(name) = str::from_utf8(word) else {
-            return Err(Unread::Line);
-        };
+        let name = only_text(words)?;
         self.unfinished.name = Some(Text::from_string(String::from_str(self.alloc, name)?));
         Ok(())
     }
@@ -328,6 +352,8 @@ impl Draft {
     /// Adds what a line of the module says that begins with a keyword.
     fn add(&mut self, keyword: Keyword, words: &[&[u8]]) -> Result<(), Unread> {
         match keyword {
+            Keyword::Flags => self.set_flags(words),
+            Keyword::Capabilities => self.set_capabilities(words),
             Keyword::Name => self.set_name(words),
             Keyword::GlobalVariable => self.add_global_variable(words),
             Keyword::Function => self.open_function(words),

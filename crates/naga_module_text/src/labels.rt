@@ -6,7 +6,7 @@ use std::collections::HashMap;
 
 /// The items that one sequence of indices numbers.
 #[derive(Clone, Copy)]
-enum Space {
+pub enum Space {
     Type,
     GlobalExpression,
     Constant,
@@ -21,7 +21,7 @@ enum Space {
 }
 
 /// The space of the item that a line makes, by its first word.
-fn space_of(word: &[u8]) -> Option<Space> {
+pub fn space_of(word: &[u8]) -> Option<Space> {
     let spaces = [
         ("type", Space::Type),
         ("expr", Space::GlobalExpression),
@@ -39,20 +39,20 @@ fn space_of(word: &[u8]) -> Option<Space> {
     chosen(&spaces, word)
 }
 
-/// How many items of each space the lines so far make.
+/// How many items of each space the lines so far make. Those of functions and entry points are of the last of these.
 #[derive(Clone, Copy, Default)]
-struct Counts {
-    types: usize,
-    global_expressions: usize,
-    constants: usize,
-    overrides: usize,
-    global_variables: usize,
-    functions: usize,
-    entry_points: usize,
-    diagnostic_filters: usize,
-    arguments: usize,
-    local_variables: usize,
-    expressions: usize,
+pub struct Counts {
+    pub types: usize,
+    pub global_expressions: usize,
+    pub constants: usize,
+    pub overrides: usize,
+    pub global_variables: usize,
+    pub functions: usize,
+    pub entry_points: usize,
+    pub diagnostic_filters: usize,
+    pub arguments: usize,
+    pub local_variables: usize,
+    pub expressions: usize,
 }
 
 impl Counts {
@@ -74,7 +74,7 @@ impl Counts {
     }
 
     /// Counts one item more, and returns its index.
-    fn add(&mut self, space: Space) -> usize {
+    pub fn add(&mut self, space: Space) -> usize {
         if matches!(space, Space::Function | Space::EntryPoint) {
             self.arguments = 0;
             self.local_variables = 0;
@@ -96,7 +96,7 @@ fn is_label(text: &str) -> bool {
 }
 
 /// The label of a line, and what stands behind it.
-fn labelled(line: &str) -> (Option<&str>, &str) {
+pub fn labelled(line: &str) -> (Option<&str>, &str) {
     match line.split_once(": ") {
         Some((label, rest)) if is_label(label) => (Some(label), rest),
         _ => (None, line),
