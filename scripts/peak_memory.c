@@ -1,6 +1,6 @@
 // Runs a program, and writes its exit status and the most memory that it took, in bytes, into a file:
 //
-//   peak_memory FILE PROGRAM
+//   peak_memory FILE PROGRAM [ARGUMENT..]
 //
 // Until a program is begun, the memory of the process that begins it counts as its own. So this is a small program,
 // linked statically, which takes next to nothing itself.
@@ -12,11 +12,11 @@
 #include <unistd.h>
 
 int main(int count, char **words) {
-  if (count != 3)
+  if (count < 3)
     return 2;
   pid_t child = fork();
   if (child == 0) {
-    execl(words[2], words[2], (char *)NULL);
+    execv(words[2], words + 2);
     _exit(127);
   }
   int status;

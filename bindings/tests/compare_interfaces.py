@@ -302,6 +302,10 @@ def compare_crates(constants, functions, structs, crates):
         compare_words_of_texts(sources_of(crates, "naga_error_text"), others)
     if reader:
         compare_numbers(constants, TABLES, numbers_of_tables(reader))
+        named = re.findall(r"pub const (MAGIC|VERSION): u32 = (\w+);", reader)
+        same("word of the header", {"MAGIC": constants["NAGA_CHECK_MAGIC"],
+                                    "VERSION": constants["NAGA_CHECK_WORDS_VERSION"]},
+             {name: int(value, 0) for name, value in named})
     if not exports or not reader:
         print(f"compare_interfaces: naga_c or naga_words is not in {crates}")
 
