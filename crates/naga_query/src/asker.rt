@@ -266,7 +266,7 @@ fn add_on_changed_text(
     query: ChangeQuery,
     text: &str,
 ) -> Result<(), OutOfMemory> {
-    let draft = Draft::of_text(sessions.alloc, text, needs_stand_ins(query))?;
+    let draft = sessions.draft(text, needs_stand_ins(query))?;
     add_on_changed(sessions, answer, query, &draft)
 }
 

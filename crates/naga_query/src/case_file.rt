@@ -2,8 +2,8 @@
 
 use crate::asker::{Case, add_answer};
 use crate::session::Sessions;
-use naga_module_text::draft::Draft;
 use naga_module_text::labels::Labels;
+use naga_module_text::settings::Settings;
 use naga_valid::OutOfMemory;
 use std::alloc::{AllocError, Global};
 
@@ -18,6 +18,15 @@ pub struct Answered {
     pub passed: usize,
     /// The number of all other queries.
     pub failed: usize,
+    /// The number of each line of a module that can't be read.
+    pub unreadable: String,
+}
+
+impl Answered {
+    /// Whether there is nothing that a query, a result or a case could be right or wrong about.
+    pub fn asks_nothing(&self) -> bool {
+        self.passed == 0 && self.failed == 0
+    }
 }
 
 /// Whether a line is a part of a longer result.
@@ -44,10 +53,10 @@ fn is_of_module(line: &str) -> bool {
 }
 
 /// Some of a file's lines, with line feeds between them, or none of its lines.
-type Lines<'a> = Option<&'a str>;
+pub type Lines<'a> = Option<&'a str>;
 
 /// The lines of a file before its first title, and the cases, without the mark of the first title.
-fn head_and_cases(text: &str) -> (Lines, Option<&str>) {
+pub fn head_and_cases(text: &str) -> (Lines, Option<&str>) {
     if text.is_empty() {
         return (None, None);
     }
@@ -62,7 +71,7 @@ fn head_and_cases(text: &str) -> (Lines, Option<&str>) {
 }
 
 /// The title of a case, and its lines below.
-fn title_and_lines(case: &str) -> (&str, Lines) {
+pub fn title_and_lines(case: &str) -> (&str, Lines) {
     match case.split_once('\n') {
         Some((title, lines)) => (title, Some(lines)),
         None => (case, None),
@@ -70,7 +79,7 @@ fn title_and_lines(case: &str) -> (&str, Lines) {
 }
 
 /// A line without the carriage return before its line feed.
-fn plain(line: &str) -> &str {
+pub fn plain(line: &str) -> &str {
     line.strip_suffix('\r').unwrap_or(line)
 }
 
@@ -88,7 +97,7 @@ fn add_lines(text: &mut String, labels: &mut Labels, lines: Lines) -> Result<(),
 }
 
 /// The shared lines of a file and then the lines of a case, with indices in place of labels.
-fn resolved(
+pub fn resolved(
     alloc: Global,
     labels: &mut Labels,
     shared: Lines,
@@ -101,10 +110,11 @@ fn resolved(
 }
 
 /// The case of its own lines, behind the shared ones.
-fn case_of(alloc: Global, shared: Lines, own: Lines) -> Result<Case, OutOfMemory> {
+fn case_of(sessions: &Sessions, shared: Lines, own: Lines) -> Result<Case, OutOfMemory> {
+    let alloc = sessions.alloc;
     let mut labels = Labels::new(alloc);
     let text = resolved(alloc, &mut labels, shared, own)?;
-    let draft = Draft::of_text(alloc, text.as_str(), false)?;
+    let draft = sessions.draft(text.as_str(), false)?;
     Ok(Case {
         text,
         labels,
@@ -113,7 +123,7 @@ fn case_of(alloc: Global, shared: Lines, own: Lines) -> Result<Case, OutOfMemory
 }
 
 /// The lines after the comments and empty lines at the head of a file.
-fn without_head(lines: Lines) -> Lines {
+pub fn without_head(lines: Lines) -> Lines {
     let lines = lines?;
     let mut first = 0usize;
     for line in lines.split('\n') {
@@ -125,6 +135,41 @@ fn without_head(lines: Lines) -> Lines {
         first = after;
     }
     None
+}
+
+/// How many of the lines are a module's.
+pub fn count_of_module(lines: Lines) -> usize {
+    match lines {
+        Some(lines) => lines
+            .split('\n')
+            .filter(|line| is_of_module(plain(line)))
+            .count(),
+        None => 0,
+    }
+}
+
+/// How many line feeds stand before the lines that are left of others.
+fn count_before(lines: Lines, left: Lines) -> usize {
+    let all = lines.unwrap_or("");
+    let end = all.len().saturating_sub(left.unwrap_or("").len());
+    all.bytes().take(end).filter(|byte| *byte == b'\n').count()
+}
+
+/// Where one of a module's lines stands in its file, by its number among them, from 1. The first of all lines has the
+/// number `first` in the file.
+pub fn number_in_file(lines: Lines, first: usize, number: usize) -> usize {
+    let mut left = number;
+    let mut at = first;
+    for line in lines.unwrap_or("").split('\n') {
+        if is_of_module(plain(line)) {
+            left = left.saturating_sub(1);
+        }
+        if left == 0 {
+            return at;
+        }
+        at = at.saturating_add(1);
+    }
+    at
 }
 
 /// Whether one of the lines is a query.
@@ -295,10 +340,32 @@ impl Answering {
         }
     }
 
-    /// Answers the queries of lines about the case of its own lines, behind the shared ones.
-    fn add_case(&mut self, shared: Lines, own: Lines, lines: Lines) -> Result<(), OutOfMemory> {
-        let case = case_of(self.sessions.alloc, shared, own)?;
-        self.add_queries(&case, lines)
+    /// Notes a line that can't be read.
+    fn add_unreadable(&mut self, line: usize) -> Result<(), AllocError> {
+        write!(self.answered.unreadable, "line {line} can't be read\n")
+    }
+
+    /// Answers the queries before the first title about the shared lines alone.
+    fn add_head(&mut self, head: Lines, shared: Lines) -> Result<(), OutOfMemory> {
+        let case = case_of(&self.sessions, shared, None)?;
+        if let Some(number) = case.draft.unreadable {
+            let first = self.line.saturating_add(count_before(head, shared));
+            self.add_unreadable(number_in_file(shared, first, number))?;
+        }
+        self.add_queries(&case, head)
+    }
+
+    /// Answers the queries of a case about its own lines, behind the shared ones.
+    fn add_case(&mut self, shared: Lines, own: Lines) -> Result<(), OutOfMemory> {
+        let case = case_of(&self.sessions, shared, own)?;
+        if let Some(number) = case.draft.unreadable {
+            let own_number = number.saturating_sub(count_of_module(shared));
+            // A shared line was noted before the first title.
+            if own_number > 0 {
+                self.add_unreadable(number_in_file(own, self.line, own_number))?;
+            }
+        }
+        self.add_queries(&case, own)
     }
 
     /// Writes the title of a case back, and notes if no line of the case is a query.
@@ -318,30 +385,31 @@ impl Answering {
     fn add_sections(&mut self, text: &str) -> Result<(), OutOfMemory> {
         let (head, cases) = head_and_cases(text);
         let shared = without_head(head);
-        self.add_case(shared, None, head)?;
+        self.add_head(head, shared)?;
         let Some(cases) = cases else { return Ok(()) };
         for case in cases.split("\n== ") {
             let (title, own) = title_and_lines(case);
             self.add_title(title, own)?;
-            self.add_case(shared, own, own)?;
+            self.add_case(shared, own)?;
         }
         Ok(())
     }
 }
 
-/// Answers all queries of a file.
+/// Answers all queries of a file, by the settings of its cases and of a host.
 ///
 /// # Errors
 ///
 /// `AllocError` if a request for memory was refused.
-pub fn answer_file(alloc: Global, text: &str) -> Result<Answered, AllocError> {
+pub fn answer_file(alloc: Global, text: &str, host: Settings) -> Result<Answered, AllocError> {
     let mut answering = Answering {
-        sessions: Sessions::new(alloc),
+        sessions: Sessions::new(alloc, host),
         answered: Answered {
             text: String::new(alloc),
             differences: String::new(alloc),
             passed: 0,
             failed: 0,
+            unreadable: String::new(alloc),
         },
         line: 1,
         is_noted: false,

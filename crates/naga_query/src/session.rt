@@ -1,12 +1,12 @@
 //! The validators that serve all cases of a file.
 
-ghost use Rattle.std.specs.Prelude.{◌≡◌, IfOk};
+ghost use Rattle.std.specs.Prelude.{IfOk};
 ghost use Rattle.naga_query.specs.Accepted.{IsAcceptedBy, IsAcceptedModule};
 
 use naga_module_text::draft::Draft;
 use naga_module_text::settings::Settings;
 use naga_valid::{
-    Capabilities, FullTyping, FunctionsError, Module, ModuleInfo, PlainTyping, Typing,
+    Capabilities, FullTyping, FunctionsError, Module, ModuleInfo, OutOfMemory, PlainTyping, Typing,
     ValidationError, ValidationFlags, Validator, WithSpan, laws,
 };
 use std::alloc::Global;
@@ -104,17 +104,28 @@ impl<T: Typing + Copy> Session<T> {
 #[derive(Drop)]
 pub struct Sessions {
     pub alloc: Global,
+    /// What the host sets beside the settings of each case.
+    pub host: Settings,
     pub plain: Session<PlainTyping>,
     pub full: Session<FullTyping>,
 }
 
 impl Sessions {
-    /// Sessions with the default settings.
-    pub fn new(alloc: Global) -> Sessions {
+    /// Sessions of a host with these settings.
+    pub fn new(alloc: Global, host: Settings) -> Sessions {
         Sessions {
             alloc,
+            host,
             plain: Session::new(alloc, PlainTyping),
             full: Session::new(alloc, FullTyping),
         }
+    }
+
+    /// The module of a text, with its settings and the host's. If `has_stand_ins`, literals stand for arguments that a
+    /// function doesn't have.
+    pub fn draft(&self, text: &str, has_stand_ins: bool) -> Result<Draft, OutOfMemory> {
+        let mut draft = Draft::of_text(self.alloc, text, has_stand_ins)?;
+        draft.settings = draft.settings.and(self.host);
+        Ok(draft)
     }
 }

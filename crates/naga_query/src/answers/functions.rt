@@ -1,6 +1,6 @@
 //! Answers about the expressions of functions: the stages that may use each.
 
-ghost use Rattle.std.specs.Prelude.{◌≡◌, ◌<◌, ◌≤◌, ℕ, IfOk, IsTrue, OnOk, Some, [], length, slice_get};
+ghost use Rattle.std.specs.Prelude.{◌≡◌, ◌<◌, ◌≤◌, ℕ, IfOk, IsTrue, OnOk, Some, [], length};
 ghost use Rattle.naga_ir.specs.ItemReferences.{global_lists};
 ghost use Rattle.naga_ir.specs.declared.expression.Expression.TheVariants as form;
 ghost use Rattle.naga_query.specs.Accepted.{AreFunctionsKnown, ArgumentsAreThere, CanValidateIn, IsAcceptedModule, IsFunctionAt, IsKnownBefore, IsThereOrArgument};

@@ -1,9 +1,9 @@
 //! Answers about whole functions: the types of their expressions by the full typing, and the stages that may
 //! use them.
 
-ghost use Rattle.std.specs.Prelude.{◌≡◌, ◌≤◌, IfOk, IfSome, OnOk, [], length};
-ghost use Rattle.naga_ir.specs.Handles.{FunctionReferencesOk, HandlesAccepted};
-ghost use Rattle.naga_valid.specs.Functions.{CallsBefore, IsFunctionReady, AreFunctionsReadyInOrder};
+ghost use Rattle.std.specs.Prelude.{◌≡◌, ◌≤◌, OnOk, [], length};
+ghost use Rattle.naga_ir.specs.Handles.{HandlesAccepted};
+ghost use Rattle.naga_valid.specs.Functions.{IsFunctionReady, AreFunctionsReadyInOrder};
 
 use crate::answers::modules::{add_error, add_not_applicable};
 use crate::callable::{FunctionAt, function_of};
