@@ -1,124 +1,87 @@
 -- Leaves of a type that a cursor comes to, and that are written one after another.
-use Rattle.std.proofs.Common.{◌≡◌, ◌+◌, ◌<◌, ◌≤◌, ℕ, List, [], ◌∷◌, ◌++◌, Some, ap, arith, length, length-append, map, refl, slice_get, subst, sym, take, ◌∙◌}
+use Rattle.std.proofs.Common.{◌≡◌, ◌+◌, ◌<◌, ◌≤◌, ℕ, List, [], ◌∷◌, ◌++◌, Some, arith, length, length-append, map, refl, slice_get, subst, sym, take}
 use Rattle.std.proofs.lemmas.List.{take_all}
-use Rattle.std.proofs.lemmas.Option.{same_Some}
 use Rattle.naga_arena.specs.Numbers.{largest_u32}
-use Rattle.naga_ir.specs.ItemReferences.{GlobalLists, global_lists}
+use Rattle.naga_ir.specs.ItemReferences.{global_lists}
 use Rattle.naga_ir.specs.declared.ir.Module.{Module}
-use Rattle.naga_leaves.specs.Cursor.{IsAtEnd, IsCursor, IsNext, IsOverSame, IsRemaining, YieldsAll, elements_for, lists_under, path_of, start_of}
-use Rattle.naga_leaves.specs.LeavesFrom.{HasLeafFrom}
+use Rattle.naga_leaves.proofs.FoundLaws.{IsUpTo, Remains, are_first, cursor_end, cursor_first, cursor_more, cursor_start, found_at}
+use Rattle.naga_leaves.specs.Cursor.{IsAtEnd, IsCursor, IsNext, YieldsAll, path_of}
+use Rattle.naga_leaves.specs.Found.{AreAll, Found, IsLeafOf}
 use Rattle.naga_leaves.specs.declared.cursor.Leaves.{Leaves}
-use Rattle.naga_typing.specs.Leaves.{LeafBytes, elements, leaf_at}
-use Rattle.naga_c.specs.Leaves.{Answer, AreAll, AreLeavesOfEach, Buffers, Found, HasNoRoom, HasTypes, IsLeafOf, StopsAfter, all, answer_to, answers_from, full, no_memory, over, some, too_many}
+use Rattle.naga_typing.specs.Leaves.{LeafBytes, elements}
+use Rattle.naga_c.specs.Leaves.{Answer, AreLeavesOfEach, Buffers, HasNoRoom, HasTypes, StopsAfter, all, answer_to, answers_from, full, no_memory, over, some, too_many}
 use Rattle.naga_c.specs.steps.Leaves.{AddsAnswers, EndsAfter, WritesAll, WritesType, done, stopped}
 use Rattle.naga_c.specs.declared.status.Status.{Status}
 use Rattle.naga_c.specs.declared.status.Status.TheVariants.{Done, Limit, OutOfMemory, Room}
-use Rattle.naga_c.proofs.LeafLaws.{IsUpTo, adds_more, adds_none, answers_more, answers_push, are_all, are_first, from_start, one_more, zip_more}
+use Rattle.naga_c.proofs.LeafLaws.{adds_more, adds_none, answers_more, answers_push, zip_more}
 
--- a cursor has still to come to a leaf
-abbrev pub Remains : Leaves → Found → Type 0
-Remains cursor f = IsRemaining cursor f.path f.leaf
+module _ (m : Module) (n ty most query : ℕ) (old : Buffers) where
+  -- the leaves before a cursor are written
+  pub record IsWriting (cursor : Leaves) (new : Buffers) : Type 0 where
+    pub is_cursor : IsCursor cursor
+    pub found : List Found
+    pub up_to : IsUpTo (IsLeafOf (global_lists m) n ty) (Remains cursor) found
+    pub added : AddsAnswers (map (answer_to query) found) old new
 
-module _ (before now : Leaves) (over : IsOverSame before now) (start path : List ℕ) (leaf : LeafBytes) where
-  -- what is a leaf for a cursor is one for a cursor that goes over the same
-  same_then : HasLeafFrom (lists_under before) (elements_for before) before.place.ty start path leaf → HasLeafFrom (lists_under now) (elements_for now) now.place.ty start path leaf
-  same_then h =
-      subst (λ (t : ℕ). HasLeafFrom (lists_under now) (elements_for now) t start path leaf) (sym over.ty)
-      (subst (λ (n : ℕ). HasLeafFrom (lists_under now) (elements (lists_under now) n) before.place.ty start path leaf) (sym over.length)
-      (subst (λ (g : GlobalLists). HasLeafFrom g (elements g before.length) before.place.ty start path leaf) (sym over.lists) h))
+  -- before the first leaf nothing is written
+  pub writing_start : (cursor : Leaves) → IsCursor cursor → YieldsAll (global_lists m) (elements (global_lists m) n) ty cursor → IsWriting cursor old
+  writing_start cursor is yields = record {
+    is_cursor = is;
+    found = [];
+    up_to = cursor_start (global_lists m) n ty cursor yields;
+    added = adds_none old;
+  }
 
-  -- and the other way round
-  same_before : HasLeafFrom (lists_under now) (elements_for now) now.place.ty start path leaf → HasLeafFrom (lists_under before) (elements_for before) before.place.ty start path leaf
-  same_before h =
-      subst (λ (g : GlobalLists). HasLeafFrom g (elements g before.length) before.place.ty start path leaf) over.lists
-      (subst (λ (n : ℕ). HasLeafFrom (lists_under now) (elements (lists_under now) n) before.place.ty start path leaf) over.length
-      (subst (λ (t : ℕ). HasLeafFrom (lists_under now) (elements_for now) t start path leaf) over.ty h))
+  -- one leaf more is written
+  pub writing_more : (before now : Leaves) (between new : Buffers) (path : List ℕ) (leaf : LeafBytes) → IsWriting before between → IsCursor now → IsNext before now leaf → path ≡ path_of now
+      → AddsAnswers (answer_to query (found_at path leaf) ∷ []) between new → IsWriting now new
+  writing_more before now between new path leaf w is next same adds = record {
+    is_cursor = is;
+    found = w.found ++ found_at (path_of now) leaf ∷ [];
+    up_to = cursor_more (global_lists m) n ty before now w.found leaf w.up_to next;
+    added =
+        let one = subst (λ (p : List ℕ). AddsAnswers (answer_to query (found_at p leaf) ∷ []) between new) same adds in
+        subst (λ (answers : List Answer). AddsAnswers answers old new) (sym (answers_more query w.found (found_at (path_of now) leaf)))
+        (adds_more (map (answer_to query) w.found) (answer_to query (found_at (path_of now) leaf) ∷ []) old between new w.added one);
+  }
 
--- a leaf at a path
-abbrev pub found_at : List ℕ → LeafBytes → Found
-found_at path leaf = record { path = path; leaf = leaf }
+  -- there is no room for the next leaf
+  pub writing_full : (before now : Leaves) (between new : Buffers) (path : List ℕ) (leaf : LeafBytes) → IsWriting before between → IsNext before now leaf → path ≡ path_of now
+      → between.counts.leaves < most → HasNoRoom between path → new ≡ between → WritesType m n ty most query old new Room
+  writing_full before now between new path leaf w next same few room unmoved =
+      subst (λ (b : Buffers). WritesType m n ty most query old b Room) (sym unmoved)
+      (record {
+        found = w.found;
+        added = w.added;
+        ends = stopped (full (found_at (path_of now) leaf)
+            (cursor_first (global_lists m) n ty before now w.found leaf w.up_to next)
+            few (subst (λ (p : List ℕ). HasNoRoom between p) same room) refl);
+      })
 
-module _ (m : Module) (n ty : ℕ) where
-  -- a cursor came to one leaf more
-  pub cursor_more : (before now : Leaves) (found : List Found) (leaf : LeafBytes) → IsUpTo (IsLeafOf m n ty) (Remains before) found → IsNext before now leaf
-      → IsUpTo (IsLeafOf m n ty) (Remains now) (found ++ found_at (path_of now) leaf ∷ [])
-  cursor_more before now found leaf u next =
-      one_more (IsLeafOf m n ty) (Remains before) (Remains now) found (found_at (path_of now) leaf) u next.first.has
-      (λ f r. next.first.first f.path f.leaf r)
-      (λ f r ne. same_then before now next.over (start_of now) f.path f.leaf (next.first.others f.path f.leaf r ne))
-      (λ f l. next.first.no_more f.path f.leaf (same_before before now next.over (start_of now) f.path f.leaf l))
-      (λ f h e.
-      let here = (u.later (found_at (path_of now) leaf) next.first.has).0 in
-      let same : leaf ≡ f.leaf = same_Some leaf f.leaf (sym here.there ∙ (ap (λ (p : List ℕ). leaf_at (global_lists m) (elements (global_lists m) n) ty p) (sym e) ∙ h.there)) in
-      ap (λ (p : List ℕ). found_at p leaf) (sym e) ∙ ap (λ (l : LeafBytes). found_at f.path l) same)
+  -- with the next leaf there are more than may be written
+  pub writing_over : (before now : Leaves) (new : Buffers) (leaf : LeafBytes) → IsWriting before new → IsNext before now leaf → most ≤ new.counts.leaves → WritesType m n ty most query old new Limit
+  writing_over before now new leaf w next many = record {
+    found = w.found;
+    added = w.added;
+    ends = stopped (over (found_at (path_of now) leaf)
+        (cursor_first (global_lists m) n ty before now w.found leaf w.up_to next) many refl);
+  }
 
-  module _ (most query : ℕ) (old : Buffers) where
-    -- the leaves before a cursor are written
-    pub record IsWriting (cursor : Leaves) (new : Buffers) : Type 0 where
-      pub is_cursor : IsCursor cursor
-      pub found : List Found
-      pub up_to : IsUpTo (IsLeafOf m n ty) (Remains cursor) found
-      pub added : AddsAnswers (map (answer_to query) found) old new
+  -- all leaves are written
+  pub writing_done : (before now : Leaves) (new : Buffers) → IsWriting before new → IsAtEnd before now → WritesType m n ty most query old new Done
+  writing_done before now new w end = record {
+    found = w.found;
+    added = w.added;
+    ends = done (cursor_end (global_lists m) n ty before now w.found w.up_to end) refl;
+  }
 
-    -- before the first leaf nothing is written
-    pub writing_start : (cursor : Leaves) → IsCursor cursor → YieldsAll (global_lists m) (elements (global_lists m) n) ty cursor → IsWriting cursor old
-    writing_start cursor is yields = record {
-      is_cursor = is;
-      found = [];
-      up_to = from_start (IsLeafOf m n ty) (Remains cursor) (λ f h. yields.all f.path f.leaf h) (λ f r. yields.only f.path f.leaf r);
-      added = adds_none old;
-    }
-
-    -- one leaf more is written
-    pub writing_more : (before now : Leaves) (between new : Buffers) (path : List ℕ) (leaf : LeafBytes) → IsWriting before between → IsCursor now → IsNext before now leaf → path ≡ path_of now
-        → AddsAnswers (answer_to query (found_at path leaf) ∷ []) between new → IsWriting now new
-    writing_more before now between new path leaf w is next same adds = record {
-      is_cursor = is;
-      found = w.found ++ found_at (path_of now) leaf ∷ [];
-      up_to = cursor_more before now w.found leaf w.up_to next;
-      added =
-          let one = subst (λ (p : List ℕ). AddsAnswers (answer_to query (found_at p leaf) ∷ []) between new) same adds in
-          subst (λ (answers : List Answer). AddsAnswers answers old new) (sym (answers_more query w.found (found_at (path_of now) leaf)))
-          (adds_more (map (answer_to query) w.found) (answer_to query (found_at (path_of now) leaf) ∷ []) old between new w.added one);
-    }
-
-    -- there is no room for the next leaf
-    pub writing_full : (before now : Leaves) (between new : Buffers) (path : List ℕ) (leaf : LeafBytes) → IsWriting before between → IsNext before now leaf → path ≡ path_of now
-        → between.counts.leaves < most → HasNoRoom between path → new ≡ between → WritesType m n ty most query old new Room
-    writing_full before now between new path leaf w next same few room unmoved =
-        subst (λ (b : Buffers). WritesType m n ty most query old b Room) (sym unmoved)
-        (record {
-          found = w.found;
-          added = w.added;
-          ends = stopped (full (found_at (path_of now) leaf)
-              (are_first (IsLeafOf m n ty) (Remains now) (w.found ++ found_at (path_of now) leaf ∷ []) (cursor_more before now w.found leaf w.up_to next))
-              few (subst (λ (p : List ℕ). HasNoRoom between p) same room) refl);
-        })
-
-    -- with the next leaf there are more than may be written
-    pub writing_over : (before now : Leaves) (new : Buffers) (leaf : LeafBytes) → IsWriting before new → IsNext before now leaf → most ≤ new.counts.leaves → WritesType m n ty most query old new Limit
-    writing_over before now new leaf w next many = record {
-      found = w.found;
-      added = w.added;
-      ends = stopped (over (found_at (path_of now) leaf)
-          (are_first (IsLeafOf m n ty) (Remains now) (w.found ++ found_at (path_of now) leaf ∷ []) (cursor_more before now w.found leaf w.up_to next)) many refl);
-    }
-
-    -- all leaves are written
-    pub writing_done : (before now : Leaves) (new : Buffers) → IsWriting before new → IsAtEnd before now → WritesType m n ty most query old new Done
-    writing_done before now new w end = record {
-      found = w.found;
-      added = w.added;
-      ends = done (are_all (IsLeafOf m n ty) (Remains before) w.found w.up_to (λ f r. end.none f.path f.leaf r)) refl;
-    }
-
-    -- memory was refused
-    pub writing_undecided : (before : Leaves) (new : Buffers) → IsWriting before new → WritesType m n ty most query old new OutOfMemory
-    writing_undecided before new w = record {
-      found = w.found;
-      added = w.added;
-      ends = stopped (no_memory (are_first (IsLeafOf m n ty) (Remains before) w.found w.up_to) refl);
-    }
+  -- memory was refused
+  pub writing_undecided : (before : Leaves) (new : Buffers) → IsWriting before new → WritesType m n ty most query old new OutOfMemory
+  writing_undecided before new w = record {
+    found = w.found;
+    added = w.added;
+    ends = stopped (no_memory (are_first (IsLeafOf (global_lists m) n ty) (Remains before) w.found w.up_to) refl);
+  }
 
 module _ (m : Module) (types : List ℕ) (n most : ℕ) (old : Buffers) where
   -- the leaves of the first `k` of some types are written
@@ -157,7 +120,7 @@ module _ (m : Module) (types : List ℕ) (n most : ℕ) (old : Buffers) where
   answering_more k place ty between new w there same wrote = record {
     found = w.found ++ wrote.found ∷ [];
     as_many = let e : length (w.found ++ wrote.found ∷ []) ≡ length w.found + 1 = simp length-append in omega (arith, e, w.as_many);
-    each = zip_more (λ (t : ℕ) (f : List Found). AreAll (IsLeafOf m n t) f) types w.found ty wrote.found k w.as_many w.each there (ended (IsLeafOf m n ty) wrote.found new Done refl wrote.ends);
+    each = zip_more (λ (t : ℕ) (f : List Found). AreAll (IsLeafOf (global_lists m) n t) f) types w.found ty wrote.found k w.as_many w.each there (ended (IsLeafOf (global_lists m) n ty) wrote.found new Done refl wrote.ends);
     added = adds_type k between new w.found wrote.found w.as_many w.added (subst (λ (q : ℕ). AddsAnswers (map (answer_to q) wrote.found) between new) same wrote.added);
   }
 
@@ -175,7 +138,7 @@ module _ (m : Module) (types : List ℕ) (n most : ℕ) (old : Buffers) where
     answers = answers_from 0 (w.found ++ wrote.found ∷ []);
     added = adds_type k between new w.found wrote.found w.as_many w.added (subst (λ (q : ℕ). AddsAnswers (map (answer_to q) wrote.found) between new) same wrote.added);
     reported = some has w.found ty wrote.found (subst (λ (j : ℕ). AreLeavesOfEach m n (take j types) w.found) (sym w.as_many) w.each) (subst (λ (j : ℕ). slice_get types j ≡ Some ty) (sym w.as_many) there) refl
-        (not_ended (IsLeafOf m n ty) wrote.found new s is_not wrote.ends);
+        (not_ended (IsLeafOf (global_lists m) n ty) wrote.found new s is_not wrote.ends);
   }
 
   -- there are more types than a row can say

@@ -3,17 +3,18 @@ use Rattle.std.proofs.Common.{◌≡◌, ◌+◌, ◌≤◌, ℕ, List, [], ◌�
 use Rattle.std.proofs.lemmas.List.{take_all}
 use Rattle.naga_ir.specs.ItemReferences.{global_lists}
 use Rattle.naga_ir.specs.declared.ir.Module.{Module}
+use Rattle.naga_leaves.proofs.FoundLaws.{IsUpTo, Remains, cursor_end, cursor_first, cursor_more, cursor_start, found_at}
 use Rattle.naga_leaves.specs.Cursor.{IsAtEnd, IsCursor, IsNext, YieldsAll, path_of}
+use Rattle.naga_leaves.specs.Found.{AreAll, Found, IsLeafOf}
 use Rattle.naga_leaves.specs.declared.cursor.Leaves.{Leaves}
 use Rattle.naga_typing.specs.Leaves.{LeafBytes, elements}
-use Rattle.naga_c.specs.LeafCounts.{CannotCount, CannotCountType, CountsAll, IsTooMuch, at_type, over, path_total, with_each, with_found}
+use Rattle.naga_c.specs.LeafCounts.{CannotCountType, CountsAll, IsTooMuch, at_type, over, path_total, with_each, with_found}
 use Rattle.naga_c.specs.steps.LeafCounts.{CountsType}
-use Rattle.naga_c.specs.Leaves.{AreAll, AreLeavesOfEach, Found, HasTypes, IsLeafOf, no_counts}
+use Rattle.naga_c.specs.Leaves.{AreLeavesOfEach, HasTypes, no_counts}
 use Rattle.naga_c.specs.declared.results.Counts.{Counts}
 use Rattle.naga_c.specs.declared.status.Status.{Status}
 use Rattle.naga_c.specs.declared.status.Status.TheVariants.{Limit}
-use Rattle.naga_c.proofs.CursorLaws.{Remains, cursor_more, found_at}
-use Rattle.naga_c.proofs.LeafLaws.{IsUpTo, are_all, are_first, from_start, zip_more}
+use Rattle.naga_c.proofs.LeafLaws.{zip_more}
 
 -- counts are equal if both their numbers are
 same_counts : (a b : Counts) → a.leaves ≡ b.leaves → a.paths ≡ b.paths → a ≡ b
@@ -42,7 +43,7 @@ module _ (m : Module) (n ty most : ℕ) (before : Counts) where
   pub record IsCounting (cursor : Leaves) (counts : Counts) : Type 0 where
     pub is_cursor : IsCursor cursor
     pub found : List Found
-    pub up_to : IsUpTo (IsLeafOf m n ty) (Remains cursor) found
+    pub up_to : IsUpTo (IsLeafOf (global_lists m) n ty) (Remains cursor) found
     pub counts_are : counts ≡ with_found before found
 
   -- before the first leaf nothing is counted
@@ -50,7 +51,7 @@ module _ (m : Module) (n ty most : ℕ) (before : Counts) where
   counting_start cursor is yields = record {
     is_cursor = is;
     found = [];
-    up_to = from_start (IsLeafOf m n ty) (Remains cursor) (λ f h. yields.all f.path f.leaf h) (λ f r. yields.only f.path f.leaf r);
+    up_to = cursor_start (global_lists m) n ty cursor yields;
     counts_are = same_counts _ _ (omega arith) (omega arith);
   }
 
@@ -60,7 +61,7 @@ module _ (m : Module) (n ty most : ℕ) (before : Counts) where
   counting_more last now counts more path leaf w is next same added = record {
     is_cursor = is;
     found = w.found ++ found_at (path_of now) leaf ∷ [];
-    up_to = cursor_more m n ty last now w.found leaf w.up_to next;
+    up_to = cursor_more (global_lists m) n ty last now w.found leaf w.up_to next;
     counts_are = found_more before w.found (found_at (path_of now) leaf) more
         (added ∙ ap (λ (p : List ℕ). let c : Counts = record { leaves = counts.leaves + 1; paths = counts.paths + length p } in c) same
         ∙ ap (λ (k : Counts). let c : Counts = record { leaves = k.leaves + 1; paths = k.paths + length (path_of now) } in c) w.counts_are);
@@ -69,12 +70,12 @@ module _ (m : Module) (n ty most : ℕ) (before : Counts) where
   -- with the next leaf there are too many
   pub counting_over : (last now : Leaves) (counts : Counts) (path : List ℕ) (leaf : LeafBytes) → IsCounting last counts → IsNext last now leaf → path ≡ path_of now → IsTooMuch most counts (length path) → CannotCountType m n ty most before Limit
   counting_over last now counts path leaf w next same much =
-      over w.found (found_at (path_of now) leaf) (are_first (IsLeafOf m n ty) (Remains now) (w.found ++ found_at (path_of now) leaf ∷ []) (cursor_more m n ty last now w.found leaf w.up_to next))
+      over w.found (found_at (path_of now) leaf) (cursor_first (global_lists m) n ty last now w.found leaf w.up_to next)
       (subst (λ (p : List ℕ). IsTooMuch most (with_found before w.found) (length p)) same (subst (λ (c : Counts). IsTooMuch most c (length path)) w.counts_are much)) refl
 
   -- all leaves are counted
   pub counting_done : (last now : Leaves) (counts : Counts) → IsCounting last counts → IsAtEnd last now → CountsType m n ty most before (Ok counts)
-  counting_done last now counts w end = (w.found, are_all (IsLeafOf m n ty) (Remains last) w.found w.up_to (λ f r. end.none f.path f.leaf r), w.counts_are)
+  counting_done last now counts w end = (w.found, cursor_end (global_lists m) n ty last now w.found w.up_to end, w.counts_are)
 
 module _ (m : Module) (types : List ℕ) (n most : ℕ) where
   -- the leaves of the first `k` types are counted
@@ -93,7 +94,7 @@ module _ (m : Module) (types : List ℕ) (n most : ℕ) where
   counted_more k ty counts more w there counted = record {
     found = w.found ++ counted.0 ∷ [];
     as_many = let e : length (w.found ++ counted.0 ∷ []) ≡ length w.found + 1 = simp length-append in omega (arith, e, w.as_many);
-    each = zip_more (λ (t : ℕ) (f : List Found). AreAll (IsLeafOf m n t) f) types w.found ty counted.0 k w.as_many w.each there counted.1;
+    each = zip_more (λ (t : ℕ) (f : List Found). AreAll (IsLeafOf (global_lists m) n t) f) types w.found ty counted.0 k w.as_many w.each there counted.1;
     counts_are = counted.2 ∙ ap (λ (c : Counts). with_found c counted.0) w.counts_are ∙ sym (each_more no_counts w.found counted.0);
   }
 

@@ -1,85 +1,14 @@
 -- Leaves that are found and written one after another.
-use Rattle.std.proofs.Common.{◌≡◌, ◌≢◌, ◌⊎◌, ℕ, ◌+◌, ◌-◌, ◌<◌, suc, Bool, true, false, List, [], ◌∷◌, ◌++◌, Some, ap, append_assoc, arith, drop, drop-drop, inl, inr, length, length-append, length-drop, map, refl, slice_get, slice_set, subst, sym, take, ◌∙◌}
-use Rattle.std.specs.List.{All, AllPairs, AllZip, Contains}
-use Rattle.std.specs.Bool.{Decides}
-use Rattle.std.proofs.lemmas.List.Elements.{All-push, All-nil, Contains-append_left, Contains-append_right}
+use Rattle.std.proofs.Common.{◌≡◌, ℕ, ◌+◌, ◌-◌, ◌<◌, suc, List, [], ◌∷◌, ◌++◌, Some, ap, append_assoc, arith, drop, drop-drop, length, length-append, length-drop, map, refl, slice_get, slice_set, subst, sym, take, ◌∙◌}
+use Rattle.std.specs.List.{AllZip}
 use Rattle.std.proofs.lemmas.List.{append-nil}
-use Rattle.std.proofs.lemmas.List.Kept.{AllPairs-cons}
-use Rattle.std.proofs.lemmas.Slice.Eq.{bytes_eq-Decides}
 use Rattle.std.proofs.lemmas.Option.{none-some, same_Some}
-use mathlib.Core.Logic.{⊎_elim}
-use Rattle.naga_leaves.specs.Order.{IsAtOrAfter}
+use Rattle.naga_leaves.specs.Found.{Found}
 use Rattle.naga_c.specs.Buffers.{BeginsWith}
 use Rattle.naga_c.specs.declared.results.Counts.{Counts}
 use Rattle.naga_c.specs.declared.results.LeafRow.{LeafRow}
-use Rattle.naga_c.specs.Leaves.{Answer, AreAll, AreFirst, AreWritten, Buffers, ComesAfter, Found, answer_to, answers_from, paths_of, row_of, rows_from}
+use Rattle.naga_c.specs.Leaves.{Answer, AreWritten, Buffers, answer_to, answers_from, paths_of, row_of, rows_from}
 use Rattle.naga_c.specs.steps.Leaves.{AddsAnswers}
-
--- a test that decides says which
-decided : {P : Type 0} (b : Bool) → Decides b P → P ⊎ ¬ P
-decided true d = inl (d.0 refl)
-decided false d = inr (λ p. let e : false ≡ true = d.1 p in cc)
-
--- two paths are the same, or not
-same_or_not : (p q : List ℕ) → (p ≡ q) ⊎ (p ≢ q)
-same_or_not p q = decided _ (bytes_eq-Decides p q)
-
--- pairs of a list and of one more
-pairs_push : {X : Type 0} (R : X → X → Type 0) (xs : List X) (x : X) → AllPairs R xs → All (λ y. R y x) xs → AllPairs R (xs ++ x ∷ [])
-pairs_push R [] x h a = λ i j d lt within. absurd (omega arith)
-pairs_push R (y ∷ xs) x h a =
-    AllPairs-cons R y (xs ++ x ∷ []) (All-push (R y) xs x (λ k d lt. h 0 (suc k) d (omega arith) (omega arith)) (a 0 y (omega arith)))
-    (pairs_push R xs x (λ i j d lt within. h (suc i) (suc j) d (omega arith) (omega arith)) (λ k d lt. a (suc k) d (omega arith)))
-
-module _ (IsLeaf : Found → Type 0) where
-  -- leaves were found up to a place: those of which `Remains` holds are left, and come after all that were found
-  pub record IsUpTo (Remains : Found → Type 0) (found : List Found) : Type 0 where
-    pub leaves : All IsLeaf found
-    pub in_order : AllPairs ComesAfter found
-    pub left : (other : Found) → IsLeaf other → Contains found other ⊎ Remains other
-    pub later : (other : Found) → Remains other → IsLeaf other × All (λ f. ComesAfter f other) found
-
-  -- before the first all are left
-  pub from_start : (Remains : Found → Type 0) → ((f : Found) → IsLeaf f → Remains f) → ((f : Found) → Remains f → IsLeaf f) → IsUpTo Remains []
-  from_start Remains all only = record {
-    leaves = All-nil IsLeaf;
-    in_order = λ i j d lt within. absurd (omega arith);
-    left = λ f h. inr (all f h);
-    later = λ f r. (only f r, All-nil (λ g. ComesAfter g f));
-  }
-
-  -- what was found so far is first
-  pub are_first : (Remains : Found → Type 0) (found : List Found) → IsUpTo Remains found → AreFirst IsLeaf found
-  are_first Remains found u = record {
-    leaves = u.leaves;
-    in_order = u.in_order;
-    first = λ f h. ⊎_elim (λ (c : Contains found f). inl c) (λ (r : Remains f). inr (u.later f r).1) (u.left f h);
-  }
-
-  -- if none is left, all were found
-  pub are_all : (Remains : Found → Type 0) (found : List Found) → IsUpTo Remains found → ((f : Found) → Remains f → ⊥) → AreAll IsLeaf found
-  are_all Remains found u none = record {
-    first = are_first Remains found u;
-    all = λ f h. ⊎_elim (λ (c : Contains found f). c) (λ (r : Remains f). absurd (none f r)) (u.left f h);
-  }
-
-  -- the first of those that are left is found, and those after it are left then
-  pub one_more : (Remains Later : Found → Type 0) (found : List Found) (next : Found) → IsUpTo Remains found → Remains next
-      → ((f : Found) → Remains f → IsAtOrAfter next.path f.path) → ((f : Found) → Remains f → f.path ≢ next.path → Later f) → ((f : Found) → Later f → Remains f × (f.path ≢ next.path))
-      → ((f : Found) → IsLeaf f → f.path ≡ next.path → next ≡ f) → IsUpTo Later (found ++ next ∷ [])
-  one_more Remains Later found next u there first others no_more same =
-      let is_next = u.later next there in
-      record {
-        leaves = All-push IsLeaf found next u.leaves is_next.0;
-        in_order = pairs_push ComesAfter found next u.in_order is_next.1;
-        left = λ f h. ⊎_elim (λ (c : Contains found f). inl (Contains-append_left found (next ∷ []) f c))
-            (λ (r : Remains f). ⊎_elim (λ (e : f.path ≡ next.path). inl (Contains-append_right found (next ∷ []) f (0, omega arith, same f h e))) (λ (ne : f.path ≢ next.path). inr (others f r ne)) (same_or_not f.path next.path))
-            (u.left f h);
-        later = λ f l.
-            let r = no_more f l in
-            let is = u.later f r.0 in
-            (is.0, All-push (λ g. ComesAfter g f) found next is.1 (first f r.0, λ e. r.1 (sym e)));
-      }
 
 -- the rows of one answer more
 rows_push : (at : ℕ) (answers : List Answer) (a : Answer) → rows_from at (answers ++ a ∷ []) ≡ rows_from at answers ++ row_of (at + length (paths_of answers)) a ∷ []

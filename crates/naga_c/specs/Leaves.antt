@@ -1,15 +1,13 @@
 -- What a call on the leaves of types writes.
-use Rattle.std.specs.Prelude.{◌≡◌, ◌≢◌, ◌⊎◌, ◌+◌, ◌<◌, ◌≤◌, ℕ, List, [], ◌∷◌, ◌++◌, Some, length, map, slice_get, take}
-use Rattle.std.specs.List.{All, AllPairs, AllZip, Contains, flat_map}
+use Rattle.std.specs.Prelude.{◌≡◌, ◌+◌, ◌<◌, ◌≤◌, ℕ, List, [], ◌∷◌, ◌++◌, Some, length, map, slice_get, take}
+use Rattle.std.specs.List.{All, AllZip, flat_map}
 use Rattle.naga_arena.specs.Numbers.{largest_u32}
 use Rattle.naga_info.specs.ModuleInfo.{ModuleInfoLists}
 use Rattle.naga_ir.specs.ItemReferences.{global_lists}
 use Rattle.naga_ir.specs.declared.ir.Module.{Module}
-use Rattle.naga_leaves.specs.LeavesFrom.{HasLeaf}
-use Rattle.naga_leaves.specs.Order.{IsAtOrAfter}
+use Rattle.naga_leaves.specs.Found.{AreAll, AreFirst, Found, IsLeafOf}
 use Rattle.naga_types.specs.declared.info.TypeInfo.{TypeInfo}
 use Rattle.naga_typing.specs.FullTyping.{full_resolves}
-use Rattle.naga_typing.specs.Leaves.{LeafBytes, elements}
 use Rattle.naga_valid.specs.Accepted.{Accepts}
 use Rattle.naga_c.specs.declared.subject.Subject.{Subject}
 use Rattle.naga_c.specs.Buffers.{BeginsWith}
@@ -20,30 +18,6 @@ use Rattle.naga_c.specs.declared.results.LeafRow.{LeafRow}
 use Rattle.naga_c.specs.declared.results.Outcome.{Outcome}
 use Rattle.naga_c.specs.declared.status.Status.{Status}
 use Rattle.naga_c.specs.declared.status.Status.TheVariants.{Done, OutOfMemory, NoType, Room, Limit}
-
--- a leaf that was found: the indexes that lead to it, and its bytes
-pub record Found : Type 0 where
-  pub path : List ℕ
-  pub leaf : LeafBytes
-
--- the second of two that were found comes after the first, in the order of paths
-abbrev pub ComesAfter : Found → Found → Type 0
-ComesAfter a b = IsAtOrAfter a.path b.path × (a.path ≢ b.path)
-
--- `found` are the first of all of which `IsLeaf` holds, in the order of paths
-pub record AreFirst (IsLeaf : Found → Type 0) (found : List Found) : Type 0 where
-  pub leaves : All IsLeaf found
-  pub in_order : AllPairs ComesAfter found
-  pub first : (other : Found) → IsLeaf other → Contains found other ⊎ All (λ f. ComesAfter f other) found
-
--- `found` are all of which `IsLeaf` holds, in the order of paths
-pub record AreAll (IsLeaf : Found → Type 0) (found : List Found) : Type 0 where
-  pub first : AreFirst IsLeaf found
-  pub all : (other : Found) → IsLeaf other → Contains found other
-
--- `found` is a leaf of the type of index `ty` of the module `m`, if a runtime-sized array has `n` elements
-abbrev pub IsLeafOf : Module → ℕ → ℕ → Found → Type 0
-IsLeafOf m n ty found = HasLeaf (global_lists m) (elements (global_lists m) n) ty found.path found.leaf
 
 -- a leaf of the type that was asked about at the place `query`
 pub record Answer : Type 0 where
@@ -61,7 +35,14 @@ answers_from query (found ∷ others) = map (answer_to query) found ++ answers_f
 
 -- the row of an answer whose path begins at the place `at` of the buffer of paths
 abbrev pub row_of : ℕ → Answer → LeafRow
-row_of at a = record { first = a.found.leaf.first; path_at = at; path_length = length a.found.path; size = a.found.leaf.size; alignment = a.found.leaf.alignment; query = a.query }
+row_of at a = record {
+  first = a.found.leaf.first;
+  path_at = at;
+  path_length = length a.found.path;
+  size = a.found.leaf.size;
+  alignment = a.found.leaf.alignment;
+  query = a.query;
+}
 
 -- the rows of answers whose paths follow one another from the place `at` on
 abbrev pub rows_from : ℕ → List Answer → List LeafRow
@@ -94,11 +75,13 @@ pub data HasNoRoom (buffers : Buffers) (path : List ℕ) : Type 0 where
   no_path : length buffers.paths < buffers.counts.paths + length path → HasNoRoom buffers path
   too_long : largest_u32 < length path → HasNoRoom buffers path
 
--- not all leaves of which `IsLeaf` holds were written: `found` were, and with the next one there are more than `most`, or
--- the buffers have no room for it, or memory was refused
+-- not all leaves of which `IsLeaf` holds were written: `found` were, and with the next one there are more than
+-- `most`, or the buffers have no room for it, or memory was refused
 pub data StopsAfter (most : ℕ) (IsLeaf : Found → Type 0) (found : List Found) (buffers : Buffers) (status : Status) : Type 0 where
-  over : (next : Found) → AreFirst IsLeaf (found ++ next ∷ []) → most ≤ buffers.counts.leaves → status ≡ Limit → StopsAfter most IsLeaf found buffers status
-  full : (next : Found) → AreFirst IsLeaf (found ++ next ∷ []) → buffers.counts.leaves < most → HasNoRoom buffers next.path → status ≡ Room → StopsAfter most IsLeaf found buffers status
+  over : (next : Found) → AreFirst IsLeaf (found ++ next ∷ []) → most ≤ buffers.counts.leaves → status ≡ Limit
+      → StopsAfter most IsLeaf found buffers status
+  full : (next : Found) → AreFirst IsLeaf (found ++ next ∷ []) → buffers.counts.leaves < most
+      → HasNoRoom buffers next.path → status ≡ Room → StopsAfter most IsLeaf found buffers status
   no_memory : AreFirst IsLeaf found → status ≡ OutOfMemory → StopsAfter most IsLeaf found buffers status
 
 -- all types of these indexes are in the module `m`
@@ -107,17 +90,22 @@ HasTypes m types = All (λ ty. ty < length m.types) types
 
 -- of each of `types` of the module `m` all leaves were found
 abbrev pub AreLeavesOfEach : Module → ℕ → List ℕ → List (List Found) → Type 0
-AreLeavesOfEach m n types found = AllZip (λ ty f. AreAll (IsLeafOf m n ty) f) types found
+AreLeavesOfEach m n types found = AllZip (λ ty f. AreAll (IsLeafOf (global_lists m) n ty) f) types found
 
 -- a call on an accepted module `m` wrote `answers`, and left `buffers` and a status: all leaves of `types`, in their
 -- order, where a runtime-sized array has `n` elements; or those of the first types and the first ones of the next, as
 -- there is no room for more, or more than `most` leaves
 pub data ReportsLeaves (m : Module) (types : List ℕ) (n most : ℕ) (answers : List Answer) (buffers : Buffers) (status : Status) : Type 0 where
   no_type : ¬ (HasTypes m types) → answers ≡ [] → status ≡ NoType → ReportsLeaves m types n most answers buffers status
-  all : HasTypes m types → (found : List (List Found)) → AreLeavesOfEach m n types found → answers ≡ answers_from 0 found → status ≡ Done → ReportsLeaves m types n most answers buffers status
-  some : HasTypes m types → (found : List (List Found)) (ty : ℕ) (last : List Found) → AreLeavesOfEach m n (take (length found) types) found → slice_get types (length found) ≡ Some ty
-      → answers ≡ answers_from 0 (found ++ last ∷ []) → StopsAfter most (IsLeafOf m n ty) last buffers status → ReportsLeaves m types n most answers buffers status
-  too_many : HasTypes m types → (found : List (List Found)) → AreLeavesOfEach m n (take (length found) types) found → largest_u32 < length found → length found < length types
+  all : HasTypes m types → (found : List (List Found)) → AreLeavesOfEach m n types found
+      → answers ≡ answers_from 0 found → status ≡ Done → ReportsLeaves m types n most answers buffers status
+  some : HasTypes m types → (found : List (List Found)) (ty : ℕ) (last : List Found)
+      → AreLeavesOfEach m n (take (length found) types) found → slice_get types (length found) ≡ Some ty
+      → answers ≡ answers_from 0 (found ++ last ∷ [])
+      → StopsAfter most (IsLeafOf (global_lists m) n ty) last buffers status
+      → ReportsLeaves m types n most answers buffers status
+  too_many : HasTypes m types → (found : List (List Found)) → AreLeavesOfEach m n (take (length found) types) found
+      → largest_u32 < length found → length found < length types
       → answers ≡ answers_from 0 found → status ≡ Room → ReportsLeaves m types n most answers buffers status
 
 -- nothing is written
@@ -131,7 +119,11 @@ LeavesBuffers old new = new ≡ record old { counts = no_counts }
 -- a call on a module found the buffers `old` and left `new`, which begin with what it found of the leaves of
 -- `types`, if the module is accepted, and else are as they were; and it left an outcome and a status
 pub data ChecksLeaves (subject : Subject) (types : List ℕ) (n most : ℕ) (old new : Buffers) (outcome : Outcome) (status : Status) : Type 0 where
-  accepted : (infos : List TypeInfo) (lists : ModuleInfoLists) → Accepts full_resolves subject.«module» (settings_in subject) infos lists
-      → (answers : List Answer) → AreWritten answers old new → ReportsLeaves subject.«module» types n most answers new status → outcome ≡ counts_of subject.«module»
+  accepted : (infos : List TypeInfo) (lists : ModuleInfoLists)
+      → Accepts full_resolves subject.«module» (settings_in subject) infos lists
+      → (answers : List Answer) → AreWritten answers old new
+      → ReportsLeaves subject.«module» types n most answers new status → outcome ≡ counts_of subject.«module»
       → ChecksLeaves subject types n most old new outcome status
-  not_accepted : IsNotAccepted subject.«module» (settings_in subject) (λ refused. LeavesBuffers old new × (outcome ≡ refused)) status → ChecksLeaves subject types n most old new outcome status
+  not_accepted : IsNotAccepted subject.«module» (settings_in subject)
+      (λ refused. LeavesBuffers old new × (outcome ≡ refused)) status
+      → ChecksLeaves subject types n most old new outcome status

@@ -1,3 +1,4 @@
+pub mod FoundLaws
 pub mod HasLeaves
 pub mod NextLeaves
 pub mod Members

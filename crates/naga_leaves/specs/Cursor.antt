@@ -31,7 +31,8 @@ fuel leaves = if leaves.is_begun then place_left leaves.place else suc (place_le
 
 -- a cursor has still to come to `leaf`, which is at `path`
 abbrev pub IsRemaining : Leaves → List ℕ → LeafBytes → Type 0
-IsRemaining leaves path leaf = HasLeafFrom (lists_under leaves) (elements_for leaves) leaves.place.ty (start_of leaves) path leaf
+IsRemaining leaves path leaf =
+    HasLeafFrom (lists_under leaves) (elements_for leaves) leaves.place.ty (start_of leaves) path leaf
 
 -- a cursor is at a part of a value, before its first step at the whole, and what it knows of leaves of types is right
 pub record IsCursor (leaves : Leaves) : Type 0 where
@@ -54,7 +55,8 @@ pub record IsOverSame (before now : Leaves) : Type 0 where
 -- a cursor came to `leaf`, the first leaf to which it had still to come, and has now still to come to all others
 pub record IsNext (before now : Leaves) (leaf : LeafBytes) : Type 0 where
   pub over : IsOverSame before now
-  pub first : IsFirstLeaf (lists_under before) (elements_for before) before.place.ty (start_of before) (path_of now) (start_of now) leaf
+  pub first : IsFirstLeaf (lists_under before) (elements_for before) before.place.ty (start_of before) (path_of now)
+      (start_of now) leaf
   pub fewer : fuel now < fuel before
 
 -- the cursor `now` has still to come to the leaves to which `before` had still to come

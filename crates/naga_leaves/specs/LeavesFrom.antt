@@ -22,12 +22,16 @@ HasNoneFrom g elements_of t start = (path : List ℕ) (leaf : LeafBytes) → Has
 
 -- the type of index `t` has the same leaves from the path `a` on as from the path `b` on
 pub record HasSameFrom (g : GlobalLists) (elements_of : Elements) (t : ℕ) (a b : List ℕ) : Type 0 where
-  pub into : (path : List ℕ) (leaf : LeafBytes) → HasLeafFrom g elements_of t a path leaf → HasLeafFrom g elements_of t b path leaf
-  pub back : (path : List ℕ) (leaf : LeafBytes) → HasLeafFrom g elements_of t b path leaf → HasLeafFrom g elements_of t a path leaf
+  pub into : (path : List ℕ) (leaf : LeafBytes) → HasLeafFrom g elements_of t a path leaf
+      → HasLeafFrom g elements_of t b path leaf
+  pub back : (path : List ℕ) (leaf : LeafBytes) → HasLeafFrom g elements_of t b path leaf
+      → HasLeafFrom g elements_of t a path leaf
 
 -- `leaf`, at `path`, is the first of the leaves from `start` on, and all others are the leaves from `rest` on
 pub record IsFirstLeaf (g : GlobalLists) (elements_of : Elements) (t : ℕ) (start path rest : List ℕ) (leaf : LeafBytes) : Type 0 where
   pub has : HasLeafFrom g elements_of t start path leaf
   pub first : (other : List ℕ) (l : LeafBytes) → HasLeafFrom g elements_of t start other l → IsAtOrAfter path other
-  pub others : (other : List ℕ) (l : LeafBytes) → HasLeafFrom g elements_of t start other l → other ≢ path → HasLeafFrom g elements_of t rest other l
-  pub no_more : (other : List ℕ) (l : LeafBytes) → HasLeafFrom g elements_of t rest other l → HasLeafFrom g elements_of t start other l × (other ≢ path)
+  pub others : (other : List ℕ) (l : LeafBytes) → HasLeafFrom g elements_of t start other l → other ≢ path
+      → HasLeafFrom g elements_of t rest other l
+  pub no_more : (other : List ℕ) (l : LeafBytes) → HasLeafFrom g elements_of t rest other l
+      → HasLeafFrom g elements_of t start other l × (other ≢ path)

@@ -5,9 +5,11 @@
 -- Cursor.YieldsAll: a cursor has still to come to all leaves of a type
 -- Cursor.IsNext, IsAtEnd: a cursor came to the first leaf of those still to come, or there is none
 -- Order.IsAtOrAfter: the order of paths
+-- Found.AreAll, AreFirst: leaves that were found in the order of paths are all, or the first ones
 pub mod LeavesFrom
 pub mod HasLeaves
 pub mod Cursor
+pub mod Found
 pub mod Leaf
 pub mod Order
 pub mod Places

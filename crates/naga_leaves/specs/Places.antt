@@ -15,8 +15,10 @@ part_of_type g elements_of t i = option_and_then (λ inner. spec.part_at element
 pub data LeadsTo (g : GlobalLists) (elements_of : Elements) (whole : ℕ) : List Part → List ℕ → Part → Type 0 where
   itself : LeadsTo g elements_of whole [] [] (record { ty = whole; first = 0 })
   further : (outer : List Part) (path : List ℕ) (part : Part) (i : ℕ) (child : spec.Part)
-      → LeadsTo g elements_of whole outer path part → part_of_type g elements_of part.ty i ≡ Some child → i ≤ largest_u32
-      → LeadsTo g elements_of whole (outer ++ part ∷ []) (path ++ i ∷ []) (record { ty = child.ty; first = part.first + child.first })
+      → LeadsTo g elements_of whole outer path part → part_of_type g elements_of part.ty i ≡ Some child
+      → i ≤ largest_u32
+      → LeadsTo g elements_of whole (outer ++ part ∷ []) (path ++ i ∷ [])
+      (record { ty = child.ty; first = part.first + child.first })
 
 -- the path of `place` leads to its part, and the next index is at most one above the greatest index in a path
 pub record IsPlace (g : GlobalLists) (elements_of : Elements) (place : Place) : Type 0 where

@@ -16,7 +16,8 @@ use Rattle.naga_typing.specs.Leaves.{Elements, LeafBytes, leaf_at, moved}
 
 -- the type of index `t` has no leaf in its parts from the index `next` on
 abbrev pub HasNoLeafFrom : GlobalLists → Elements → ℕ → ℕ → Type 0
-HasNoLeafFrom g elements_of t next = (m : ℕ) (rest : List ℕ) → next ≤ m → m ≤ largest_u32 → leaf_at g elements_of t (m ∷ rest) ≡ None
+HasNoLeafFrom g elements_of t next =
+    (m : ℕ) (rest : List ℕ) → next ≤ m → m ≤ largest_u32 → leaf_at g elements_of t (m ∷ rest) ≡ None
 
 -- all parts of the type of index `t` from the index `i` to before `next` have the type of the part at `i`, and none
 -- begins before it
@@ -24,7 +25,8 @@ pub record IsIndexAfter (g : GlobalLists) (elements_of : Elements) (t i next : �
   pub above : i < next
   pub within : next ≤ suc largest_u32
   pub alike : (k : ℕ) (part : spec.Part) → i ≤ k → k < next → part_of_type g elements_of t k ≡ Some part
-      → (first : spec.Part) × (part_of_type g elements_of t i ≡ Some first) × (first.ty ≡ part.ty) × (first.first ≤ part.first)
+      → (first : spec.Part) × (part_of_type g elements_of t i ≡ Some first) × (first.ty ≡ part.ty)
+      × (first.first ≤ part.first)
 
 -- a place went on to `part`, another part of the part around its part, at `index`
 pub record IsTurned (before now : Place) (index : ℕ) (part : Part) : Type 0 where
@@ -52,7 +54,8 @@ pub record IsFollowing (g : GlobalLists) (elements_of : Elements) (place : Place
 -- in the part around the part of `place`, there is no leaf between the part of `place` and the part at the index `next`
 abbrev pub HasNoLeafBefore : GlobalLists → Elements → Place → ℕ → Type 0
 HasNoLeafBefore g elements_of place next = (path : List ℕ) (last : ℕ) → place.path.items ≡ path ++ last ∷ []
-    → (last + 1 ≤ next) × (next ≤ suc largest_u32) × HasSameFrom g elements_of place.ty (path ++ (last + 1) ∷ []) (path ++ next ∷ [])
+    → (last + 1 ≤ next) × (next ≤ suc largest_u32)
+    × HasSameFrom g elements_of place.ty (path ++ (last + 1) ∷ []) (path ++ next ∷ [])
 
 -- what follows the part of `place` is a part, or no leaf is before an index
 abbrev pub Follows : GlobalLists → Elements → Place → Following → Type 0
@@ -65,7 +68,9 @@ leaf_of_part g elements_of place = option_map (moved place.part.first) (leaf_at 
 
 -- what a visit of a part comes to: the part as a leaf, which has no parts, or no leaf
 abbrev pub Visits : GlobalLists → Elements → Place → Place → Step → Type 0
-Visits g elements_of before now (Leaf leaf) = (leaf_of_part g elements_of before ≡ Some (bytes_of leaf)) × (leaf.first ≡ before.part.first) × (now.next ≡ suc largest_u32)
+Visits g elements_of before now (Leaf leaf) =
+    (leaf_of_part g elements_of before ≡ Some (bytes_of leaf)) × (leaf.first ≡ before.part.first)
+    × (now.next ≡ suc largest_u32)
 Visits g elements_of before now Other = (leaf_of_part g elements_of before ≡ None) × (now.next ≡ before.next)
 Visits g elements_of before now End = ⊥
 
@@ -86,12 +91,16 @@ Leaves before now next End = (before.path.items ≡ []) × IsUnmoved before now
 -- a part was left for the index after it and all parts of its type that follow it, or the whole has ended
 pub record Skips (g : GlobalLists) (before now : Place) (step : Step) : Type 0 where
   pub next : ℕ
-  pub after : (elements_of : Elements) (outer : List Part) (around : Part) (path : List ℕ) (last : ℕ) → before.outer.items ≡ outer ++ around ∷ []
+  pub after : (elements_of : Elements) (outer : List Part) (around : Part) (path : List ℕ) (last : ℕ)
+      → before.outer.items ≡ outer ++ around ∷ []
       → before.path.items ≡ path ++ last ∷ [] → IsIndexAfter g elements_of around.ty last next
   pub leaves : Leaves before now next step
 
 -- a step came to the next leaf, or past no leaf, or there is no leaf any more
 abbrev pub Steps : GlobalLists → Elements → Place → Place → Step → Type 0
-Steps g elements_of before now (Leaf leaf) = IsFirstLeaf g elements_of before.ty (place_start before) now.path.items (place_start now) (bytes_of leaf) × (place_left now < place_left before)
-Steps g elements_of before now Other = HasSameFrom g elements_of before.ty (place_start before) (place_start now) × (place_left now < place_left before)
+Steps g elements_of before now (Leaf leaf) =
+    IsFirstLeaf g elements_of before.ty (place_start before) now.path.items (place_start now) (bytes_of leaf)
+    × (place_left now < place_left before)
+Steps g elements_of before now Other =
+    HasSameFrom g elements_of before.ty (place_start before) (place_start now) × (place_left now < place_left before)
 Steps g elements_of before now End = HasNoneFrom g elements_of before.ty (place_start before) × IsUnmoved before now
