@@ -1,9 +1,8 @@
 -- Rows that have all bytes up to an end.
-use Rattle.std.proofs.Common.{◌≡◌, ℕ, ◌+◌, ◌<◌, ◌≤◌, max, List, [], ◌∷◌, ◌++◌, inl, inr, arith, rules}
-use Rattle.std.specs.List.{Contains}
+use Rattle.std.proofs.Common.{◌≡◌, ℕ, ◌+◌, ◌≤◌, max, List, [], ◌∷◌, ◌++◌, inl, inr, arith, rules}
 use Rattle.std.proofs.lemmas.Bool.{cases_lt}
 use Rattle.std.proofs.lemmas.List.Elements.{Contains-append_left, Contains-append_right}
-use Rattle.naga_cli.specs.Rows.{Cover, HasByte}
+use Rattle.naga_cli.specs.Rows.{Cover}
 use Rattle.naga_cli.specs.declared.rows.Row.{Row}
 
 -- there is no byte before the first

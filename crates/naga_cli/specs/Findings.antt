@@ -39,7 +39,9 @@ settings_in subject = record { flags = subject.flags; capabilities = subject.cap
 
 -- how the functions of a module are validated by the settings in force
 abbrev pub validation_of : Subject → Validation
-validation_of subject = function_surroundings full_resolves (math_typing accepts (λ fun types. argument_count fun)) (new_state {T = Unit {0}} subject.flags subject.capabilities tt) subject.resolved subject.«module»
+validation_of subject =
+    function_surroundings full_resolves (math_typing accepts (λ fun types. argument_count fun))
+    (new_state {T = Unit {0}} subject.flags subject.capabilities tt) subject.resolved subject.«module»
 
 -- a module and all its functions and entry points are accepted, and `infos` are those of its types
 pub record IsAccepted (subject : Subject) (infos : List TypeInfo) : Type 0 where
@@ -57,11 +59,14 @@ pub record Says (the_stage : Stage) (the_item : Option Item) (the_error : List �
 
 -- a refusal says that a module has this error; which item a fault of handles is said of is left open
 abbrev pub SaysModuleError : ValidationError → Refusal → Type 0
-SaysModuleError (module_error.InvalidHandle e) = λ refusal. (at : Option Item) × Says stage.Handles at (handle_error_name e) refusal
+SaysModuleError (module_error.InvalidHandle e) =
+    λ refusal. (at : Option Item) × Says stage.Handles at (handle_error_name e) refusal
 SaysModuleError (module_error.Layouter e) = Says stage.Layout (Some (item.Type_ e.ty)) (layout_error_name e.inner)
 SaysModuleError (module_error.Type_ i name e) = Says stage.Type_ (Some (item.Type_ i)) (type_error_name e)
-SaysModuleError (module_error.ConstExpression i e) = Says stage.Expression (Some (item.GlobalExpression i)) (const_expression_error_name e)
-SaysModuleError (module_error.ArraySizeError i) = Says stage.Expression (Some (item.GlobalExpression i)) (validation_error_name (module_error.ArraySizeError i))
+SaysModuleError (module_error.ConstExpression i e) =
+    Says stage.Expression (Some (item.GlobalExpression i)) (const_expression_error_name e)
+SaysModuleError (module_error.ArraySizeError i) =
+    Says stage.Expression (Some (item.GlobalExpression i)) (validation_error_name (module_error.ArraySizeError i))
 SaysModuleError (module_error.Constant i name e) = Says stage.Constant (Some (item.Constant i)) (constant_error_name e)
 SaysModuleError (module_error.Override i name e) = Says stage.Override (Some (item.Override i)) (override_error_name e)
 SaysModuleError module_error.Corrupted = Says stage.Module None (validation_error_name module_error.Corrupted)
@@ -69,16 +74,20 @@ SaysModuleError module_error.OutOfMemory = λ refusal. ⊥
 
 -- a refusal says that a function or an entry point has this error
 abbrev pub SaysFunctionError : Callable → FunctionError → Refusal → Type 0
-SaysFunctionError (callable.Function f) (function_error.Expression i e) = Says stage.Function (Some (item.Expression (owner.Function f) i)) (expression_error_name e)
-SaysFunctionError (callable.EntryPoint n) (function_error.Expression i e) = Says stage.EntryPoint (Some (item.Expression (owner.EntryPoint n) i)) (expression_error_name e)
+SaysFunctionError (callable.Function f) (function_error.Expression i e) =
+    Says stage.Function (Some (item.Expression (owner.Function f) i)) (expression_error_name e)
+SaysFunctionError (callable.EntryPoint n) (function_error.Expression i e) =
+    Says stage.EntryPoint (Some (item.Expression (owner.EntryPoint n) i)) (expression_error_name e)
 SaysFunctionError at function_error.OutOfMemory = λ refusal. ⊥
 
 -- a module is refused: by an error of its own, or by one of a function or an entry point
 pub data IsRefused (subject : Subject) (refusal : Refusal) : Type 0 where
-  by_module : (e : ValidationError) → Refuses full_resolves subject.«module» (settings_in subject) e → SaysModuleError e refusal → IsRefused subject refusal
+  by_module : (e : ValidationError) → Refuses full_resolves subject.«module» (settings_in subject) e
+      → SaysModuleError e refusal → IsRefused subject refusal
   by_function : (infos : List TypeInfo) (before after : ModuleInfoLists) (e : FunctionsError)
       → Accepts full_resolves subject.«module» (settings_in subject) infos before
-      → ValidatesFunctions (validation_of subject) subject.«module» before after (Err e) → SaysFunctionError e.at e.source refusal → IsRefused subject refusal
+      → ValidatesFunctions (validation_of subject) subject.«module» before after (Err e)
+      → SaysFunctionError e.at e.source refusal → IsRefused subject refusal
 
 -- what is found of a module: it is accepted, or refused
 abbrev pub IsFound : Subject → Checked → Type 0

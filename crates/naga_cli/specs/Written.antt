@@ -20,4 +20,5 @@ IsWritten options finding Nothing = (options.quiet ≡ true) × (accepts finding
 IsWritten options finding (Output text) = ((options.quiet && accepts finding) ≡ false)
     × (((options.json ≡ true) × IsObject finding (string_bytes text))
     ⊎ ((options.json ≡ false) × (accepts finding ≡ true) × (string_bytes text ≡ lines_text finding)))
-IsWritten options finding (Error text) = (options.json ≡ false) × (accepts finding ≡ false) × (string_bytes text ≡ lines_text finding)
+IsWritten options finding (Error text) =
+    (options.json ≡ false) × (accepts finding ≡ false) × (string_bytes text ≡ lines_text finding)

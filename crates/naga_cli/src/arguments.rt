@@ -1,5 +1,8 @@
 //! What the words of a command line ask for.
 
+ghost use Rattle.naga_cli.specs.declared.arguments.UsageError.TheVariants as usage;
+ghost use Rattle.std.specs.Prelude.{◌≡◌};
+
 use naga_module_text::settings::{Settings, capabilities_of, flags_of};
 use naga_source::source::TextKind;
 use naga_text::number::number;
@@ -76,12 +79,16 @@ pub enum UsageError {
 }
 
 impl From<AllocError> for UsageError {
+    ghost from_gives = { λ _ e. e ≡ usage.OutOfMemory };
+
     fn from(_: AllocError) -> UsageError {
         UsageError::OutOfMemory
     }
 }
 
 impl<T: Drop> From<AllocFailed<T>> for UsageError {
+    ghost from_gives = { λ _ e. e ≡ usage.OutOfMemory };
+
     fn from(_: AllocFailed<T>) -> UsageError {
         UsageError::OutOfMemory
     }

@@ -1,6 +1,6 @@
 //! Where the leaves of a type are, and which address spaces take it.
 
-ghost use Rattle.naga_cli.specs.Rows.{Cover};
+ghost use Rattle.naga_cli.specs.Rows.{Cover, ShowLeaves};
 ghost use Rattle.std.specs.Prelude.{◌≡◌, ◌<◌, IfOk, false, length as length_of};
 ghost use Rattle.naga_ir.specs.Handles.{GlobalReferencesOk};
 ghost use Rattle.naga_ir.specs.ItemReferences.{global_lists};
@@ -18,7 +18,7 @@ use naga_verdict::item::Item;
 use naga_verdict::verdict::Named;
 use std::alloc::{AllocError, Global};
 
-/// How many leaves of a type are shown.
+/// How many leaves of a type are shown at most.
 const MOST_LEAVES: usize = 1000;
 
 /// Whether an address space takes a type.
@@ -92,7 +92,9 @@ fn leaf_row(
     ty: Handle<TypeTag>,
     path: &[u32],
     leaf: Leaf,
-) -> Result<LeafRow, AllocError> {
+) -> Result<LeafRow, AllocError>
+    ensures { IfOk result (λ row. row.alignment ≡ leaf.alignment) }
+{
     let mut text = String::new(alloc);
     let at = add_path(&mut text, &subject.module, &subject.places, ty, path)?;
     let inner = at.and_then(|ty| inner_of(&subject.module, ty));
@@ -112,7 +114,7 @@ fn leaf_row(
     })
 }
 
-/// The rows of a type: its leaves in order, up to `MOST_LEAVES`, and whether these are all.
+/// The rows of a type: its leaves in order, up to `MOST_LEAVES`, and whether there are more.
 fn rows_of(
     alloc: Global,
     subject: &Subject,
@@ -121,18 +123,22 @@ fn rows_of(
 ) -> Result<(Rows, bool), OutOfMemory>
     requires exists { ty < length_of subject.now.«module».types }
     requires references { GlobalReferencesOk (global_lists subject.now.«module») }
-    ensures { IfOk result (λ found. Cover found.0.rows.items found.0.end) }
+    ensures covered { IfOk result (λ found. Cover found.0.rows.items found.0.end) }
+    ensures leaves { IfOk result (λ found.
+        ShowLeaves (global_lists subject.now.«module») length ty found.1 found.0.rows.items) }
 {
     let mut rows = Rows::new(alloc);
     let mut leaves = leaves_of(alloc, &subject.module, ty, length);
-    for _ in 0..MOST_LEAVES {
-        let Some(leaf) = leaves.next()? else {
-            return Ok((rows, false));
-        };
+    let mut shown = 0;
+    while let Some(leaf) = leaves.next()? {
+        if shown == MOST_LEAVES {
+            return Ok((rows, true));
+        }
         let row = leaf_row(alloc, subject, ty, leaves.path(), leaf)?;
         rows.add(leaf.first, u64::from(leaf.size), row)?;
+        shown += 1;
     }
-    Ok((rows, true))
+    Ok((rows, false))
 }
 
 /// The layouts of the types of an accepted module.
@@ -169,7 +175,9 @@ pub fn layout_of(
 ) -> Result<LayoutOf, OutOfMemory>
     requires exists { ty < length_of subject.now.«module».types }
     requires references { GlobalReferencesOk (global_lists subject.now.«module») }
-    ensures { IfOk result (λ layout. layout.is_cut ≡ false → Cover layout.rows.items layout.size) }
+    ensures covered { IfOk result (λ layout. layout.is_cut ≡ false → Cover layout.rows.items layout.size) }
+    ensures leaves { IfOk result (λ layout.
+        ShowLeaves (global_lists subject.now.«module») shown.length ty layout.is_cut layout.rows.items) }
 {
     let (layout, info) = known;
     let end = dynamic_end(&subject.module, &subject.module.types[ty].inner);

@@ -1,8 +1,8 @@
 //! The bytes of a type, row by row: leaves, and the padding between them.
 
 ghost use Rattle.naga_arena.specs.Numbers.{largest_u64};
-ghost use Rattle.naga_cli.specs.Rows.{Cover};
-ghost use Rattle.std.specs.Prelude.{◌≡◌, ◌+◌, ◌≤◌, IfOk, OnOk, false, max, min};
+ghost use Rattle.naga_cli.specs.Rows.{Cover, padding};
+ghost use Rattle.std.specs.Prelude.{◌≡◌, ◌+◌, ◌≤◌, ◌++◌, ◌∷◌, [], IfOk, OnOk, Some, false, if◌then◌else◌, max, min};
 
 use std::alloc::{AllocError, Global};
 
@@ -36,7 +36,8 @@ pub struct Rows {
 impl Rows {
     /// No row.
     pub fn new(alloc: Global) -> Rows
-        ensures { Cover result.rows.items result.end }
+        ensures covered { Cover result.rows.items result.end }
+        ensures rows { result.rows.items ≡ [] }
     {
         Rows {
             rows: Vec::new(alloc),
@@ -48,6 +49,7 @@ impl Rows {
     fn push(&mut self, row: Row) -> Result<(), AllocError>
         requires covered { Cover self.old.rows.items self.old.end }
         requires next { row.offset ≤ self.old.end }
+        ensures rows { OnOk result (self.new.rows.items ≡ self.old.rows.items ++ row ∷ []) }
         ensures covered { OnOk result (Cover self.new.rows.items self.new.end) }
         ensures end { OnOk result (self.new.end ≡ max (min (row.offset + row.size) largest_u64) self.old.end) }
     {
@@ -60,6 +62,7 @@ impl Rows {
     /// Adds a row for the bytes from the end of the rows so far up to an offset, if there are some.
     pub fn pad(&mut self, offset: u64) -> Result<(), AllocError>
         requires { Cover self.old.rows.items self.old.end }
+        ensures rows { OnOk result (self.new.rows.items ≡ self.old.rows.items ++ padding self.old.end offset) }
         ensures covered { OnOk result (Cover self.new.rows.items self.new.end) }
         ensures end { OnOk result (offset ≤ self.new.end) }
     {
@@ -77,7 +80,9 @@ impl Rows {
     /// Adds the row of a leaf, behind padding if it needs some.
     pub fn add(&mut self, offset: u64, size: u64, leaf: LeafRow) -> Result<(), AllocError>
         requires { Cover self.old.rows.items self.old.end }
-        ensures { OnOk result (Cover self.new.rows.items self.new.end) }
+        ensures rows { OnOk result (self.new.rows.items ≡ self.old.rows.items ++ (padding self.old.end offset
+            ++ record { offset = offset; size = size; leaf = Some leaf } ∷ [])) }
+        ensures covered { OnOk result (Cover self.new.rows.items self.new.end) }
     {
         self.pad(offset)?;
         self.push(Row {
@@ -91,7 +96,9 @@ impl Rows {
     #[tactic(auto, using(crate::proofs::Covered::fewer))]
     pub fn finish(mut self, size: u64, is_cut: bool) -> Result<Vec<Row>, AllocError>
         requires { Cover self.rows.items self.end }
-        ensures { IfOk result (λ rows. is_cut ≡ false → Cover rows.items size) }
+        ensures rows { IfOk result (λ rows.
+            rows.items ≡ self.rows.items ++ (if is_cut then [] else padding self.end size)) }
+        ensures covered { IfOk result (λ rows. is_cut ≡ false → Cover rows.items size) }
     {
         if !is_cut {
             self.pad(size)?;

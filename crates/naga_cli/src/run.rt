@@ -3,6 +3,7 @@
 ghost use Rattle.std.specs.Prelude.{◌≡◌, length};
 ghost use Rattle.naga_ir.specs.Handles.{GlobalReferencesOk};
 ghost use Rattle.naga_ir.specs.ItemReferences.{global_lists};
+ghost use Rattle.naga_cli.specs.declared.run.Fault.TheVariants as fault;
 
 use crate::arguments::{Command, Options, Subcommand, UsageError, command_of, subcommand_of};
 use crate::checking::{Checked, check};
@@ -35,18 +36,24 @@ enum Fault {
 }
 
 impl From<AllocError> for Fault {
+    ghost from_gives = { λ _ e. e ≡ fault.OutOfMemory };
+
     fn from(_: AllocError) -> Fault {
         Fault::OutOfMemory
     }
 }
 
 impl From<OutOfMemory> for Fault {
+    ghost from_gives = { λ _ e. e ≡ fault.OutOfMemory };
+
     fn from(_: OutOfMemory) -> Fault {
         Fault::OutOfMemory
     }
 }
 
 impl From<io::Error> for Fault {
+    ghost from_gives = { λ _ e. e ≡ fault.Write };
+
     fn from(_: io::Error) -> Fault {
         Fault::Write
     }
