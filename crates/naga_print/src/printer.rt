@@ -1,5 +1,8 @@
 //! The items of a module, while they are printed.
 
+ghost use Rattle.naga_print.specs.declared.printer.PrintError.TheVariants as error;
+ghost use Rattle.std.specs.Prelude.{◌≡◌};
+
 use naga_ir::expression::MathFunction;
 use naga_ir::handle::Handle;
 use naga_ir::memory::OutOfMemory;
@@ -25,18 +28,24 @@ pub enum PrintError {
 }
 
 impl From<AllocError> for PrintError {
+    ghost from_gives = { λ _ e. e ≡ error.OutOfMemory };
+
     fn from(_: AllocError) -> PrintError {
         PrintError::OutOfMemory
     }
 }
 
 impl<T: Drop> From<AllocFailed<T>> for PrintError {
+    ghost from_gives = { λ _ e. e ≡ error.OutOfMemory };
+
     fn from(_: AllocFailed<T>) -> PrintError {
         PrintError::OutOfMemory
     }
 }
 
 impl From<OutOfMemory> for PrintError {
+    ghost from_gives = { λ _ e. e ≡ error.OutOfMemory };
+
     fn from(_: OutOfMemory) -> PrintError {
         PrintError::OutOfMemory
     }
