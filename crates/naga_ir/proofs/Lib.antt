@@ -3,6 +3,7 @@ pub mod Handles
 pub mod ListLaws
 pub mod ModuleItems
 pub mod OneMore
+pub mod Origins
 pub mod PartLemmas
 pub mod Powers
 pub mod ReferencesOfItems

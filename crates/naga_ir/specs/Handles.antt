@@ -46,7 +46,8 @@ module_counts m = record {
 
 -- the counts of a function, which sees its own expressions and variables
 abbrev pub function_counts : Module → Function → Counts
-function_counts m f = record (module_counts m) { expressions = length f.expressions; local_variables = length f.local_variables }
+function_counts m f =
+    record (module_counts m) { expressions = length f.expressions; local_variables = length f.local_variables }
 
 -- a reference is not dangling
 abbrev pub Exists : Counts → Reference → Type 0
@@ -63,7 +64,8 @@ Exists n (to.Emit range) = IsGoodRange n.expressions range
 -- the type of index `place.0` is a struct with a member of index `place.1`
 abbrev pub MemberExists : List «Type» → ℕ × ℕ → Type 0
 MemberExists types place =
-    (t : «Type») × (members : List StructMember) × (span : ℕ) × (slice_get types place.0 ≡ Some t) × (t.inner ≡ Struct members span) × (place.1 < length members)
+    (t : «Type») × (members : List StructMember) × (span : ℕ) × (slice_get types place.0 ≡ Some t)
+    × (t.inner ≡ Struct members span) × (place.1 < length members)
 
 -- everything that a module refers to exists, and so does everything that it documents
 pub record EverythingExists (m : Module) : Type 0 where
@@ -76,23 +78,32 @@ pub record EverythingExists (m : Module) : Type 0 where
 
 -- the pairs among types and global expressions of which the second has to precede the first
 pub data OrderedReference (g : GlobalLists) : Reference → Reference → Type 0 where
-  part : (t u : ℕ) (x : «Type») → slice_get g.types t ≡ Some x → Contains (parts x.inner) u → OrderedReference g (to.Type_ t) (to.Type_ u)
-  size_type : (t o : ℕ) (x : «Type») (v : Override) → slice_get g.types t ≡ Some x → size_override x.inner ≡ Some o → slice_get g.overrides o ≡ Some v → OrderedReference g (to.Type_ t) (to.Type_ v.ty)
-  operand : (e o : ℕ) (x : Expression) → slice_get g.expressions e ≡ Some x → Contains (operands x) o → OrderedReference g (to.Expression e) (to.Expression o)
-  constant : (e c : ℕ) (d : Constant) → slice_get g.expressions e ≡ Some (expression.Constant c) → slice_get g.constants c ≡ Some d → OrderedReference g (to.Expression e) (to.Expression d.init)
-  override : (e o n : ℕ) (v : Override) → slice_get g.expressions e ≡ Some (expression.Override o) → slice_get g.overrides o ≡ Some v → v.init ≡ Some n → OrderedReference g (to.Expression e) (to.Expression n)
+  part : (t u : ℕ) (x : «Type») → slice_get g.types t ≡ Some x → Contains (parts x.inner) u
+      → OrderedReference g (to.Type_ t) (to.Type_ u)
+  size_type : (t o : ℕ) (x : «Type») (v : Override) → slice_get g.types t ≡ Some x → size_override x.inner ≡ Some o
+      → slice_get g.overrides o ≡ Some v → OrderedReference g (to.Type_ t) (to.Type_ v.ty)
+  operand : (e o : ℕ) (x : Expression) → slice_get g.expressions e ≡ Some x → Contains (operands x) o
+      → OrderedReference g (to.Expression e) (to.Expression o)
+  constant : (e c : ℕ) (d : Constant) → slice_get g.expressions e ≡ Some (expression.Constant c)
+      → slice_get g.constants c ≡ Some d → OrderedReference g (to.Expression e) (to.Expression d.init)
+  override : (e o n : ℕ) (v : Override) → slice_get g.expressions e ≡ Some (expression.Override o)
+      → slice_get g.overrides o ≡ Some v → v.init ≡ Some n → OrderedReference g (to.Expression e) (to.Expression n)
 
 -- the pairs among a list of expressions: each with each of its operands
 pub data OrderedOperands (xs : List Expression) : Reference → Reference → Type 0 where
-  own_operand : (e o : ℕ) (x : Expression) → slice_get xs e ≡ Some x → Contains (operands x) o → OrderedOperands xs (to.Expression e) (to.Expression o)
+  own_operand : (e o : ℕ) (x : Expression) → slice_get xs e ≡ Some x → Contains (operands x) o
+      → OrderedOperands xs (to.Expression e) (to.Expression o)
 
 -- all pairs of a module: `OrderedReference`, `OrderedOperands` of each function, each function with each that it calls
 -- or whose result it names, and each filter with its parent
 pub data OrderedInModule (m : Module) : Reference → Reference → Type 0 where
   among_globals : (s t : Reference) → OrderedReference (global_lists m) s t → OrderedInModule m s t
-  in_function : (f : Function) (s t : Reference) → Contains (all_functions m) f → OrderedOperands f.expressions s t → OrderedInModule m s t
-  calls_function : (i j : ℕ) (f : Function) → slice_get m.functions i ≡ Some f → Contains (function_references f) (to.Function j) → OrderedInModule m (to.Function i) (to.Function j)
-  parent_filter : (i j : ℕ) (n : DiagnosticFilterNode) → slice_get m.diagnostic_filters i ≡ Some n → n.parent ≡ Some j → OrderedInModule m (to.DiagnosticFilterNode i) (to.DiagnosticFilterNode j)
+  in_function : (f : Function) (s t : Reference) → Contains (all_functions m) f → OrderedOperands f.expressions s t
+      → OrderedInModule m s t
+  calls_function : (i j : ℕ) (f : Function) → slice_get m.functions i ≡ Some f
+      → Contains (function_references f) (to.Function j) → OrderedInModule m (to.Function i) (to.Function j)
+  parent_filter : (i j : ℕ) (n : DiagnosticFilterNode) → slice_get m.diagnostic_filters i ≡ Some n → n.parent ≡ Some j
+      → OrderedInModule m (to.DiagnosticFilterNode i) (to.DiagnosticFilterNode j)
 
 -- the index that a reference names; a range is in no pair
 abbrev pub place_of : Reference → ℕ
@@ -148,12 +159,9 @@ abbrev pub ExistsGlobally : GlobalLists → Reference → Type 0
 ExistsGlobally g (to.Type_ t) = t < length g.types
 ExistsGlobally g (to.Constant c) = c < length g.constants
 ExistsGlobally g (to.Override o) = o < length g.overrides
-ExistsGlobally g (to.GlobalVariable v) = ⊤
 ExistsGlobally g (to.Expression e) = e < length g.expressions
 ExistsGlobally g (to.LocalVariable v) = ⊥
-ExistsGlobally g (to.Function f) = ⊤
-ExistsGlobally g (to.DiagnosticFilterNode d) = ⊤
-ExistsGlobally g (to.Emit range) = ⊤
+ExistsGlobally _ _ = ⊤
 
 -- among types, constants, overrides and global expressions references exist and go back
 pub record GlobalReferencesOk (g : GlobalLists) : Type 0 where

@@ -4,6 +4,7 @@
 -- Sizes.components, vector_alignment: the number of components of a vector, and their alignment
 -- Distinct.AllDistinct: no two items of a list are equal
 -- References.operands, named_type, named_item: what an expression refers to
+-- Origins.origin: where an expression has its value from
 -- Statements.block_references: what a block refers to, at any depth
 -- ItemReferences.function_references, global_references, other_references: what all other items refer to
 -- Handles.EverythingExists: no reference of a module is dangling
@@ -21,6 +22,7 @@ pub mod ItemReferences
 pub mod Literals
 pub mod OnlyTypes
 pub mod Operands
+pub mod Origins
 pub mod Parts
 pub mod Ranks
 pub mod References

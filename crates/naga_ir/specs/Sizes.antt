@@ -1,7 +1,7 @@
 -- Numbers of components and their alignment.
 use Rattle.std.specs.Prelude.{ℕ, Bool as Boolean, true, false}
 use Rattle.naga_ir.specs.declared.types.ScalarKind.{ScalarKind}
-use Rattle.naga_ir.specs.declared.types.ScalarKind.TheVariants.{Sint, Uint, Float, Bool, AbstractInt, AbstractFloat}
+use Rattle.naga_ir.specs.declared.types.ScalarKind.TheVariants.{Bool}
 use Rattle.naga_ir.specs.declared.types.CooperativeSize.{CooperativeSize}
 use Rattle.naga_ir.specs.declared.types.CooperativeSize.TheVariants.{Eight, Sixteen}
 use Rattle.naga_ir.specs.declared.types.VectorSize.{VectorSize}
@@ -9,12 +9,8 @@ use Rattle.naga_ir.specs.declared.types.VectorSize.TheVariants.{Bi, Tri, Quad}
 
 -- `kind` is a kind of numbers, that is not `Bool`
 abbrev pub is_numeric : ScalarKind → Boolean
-is_numeric Sint = true
-is_numeric Uint = true
-is_numeric Float = true
 is_numeric Bool = false
-is_numeric AbstractInt = true
-is_numeric AbstractFloat = true
+is_numeric _ = true
 
 -- how many components a vector has
 abbrev pub components : VectorSize → ℕ

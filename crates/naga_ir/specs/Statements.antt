@@ -2,7 +2,7 @@
 use Rattle.std.specs.Prelude.{ℕ, List, [], ◌∷◌, ◌++◌, map, option_to_list}
 use Rattle.std.specs.List.{flat_map}
 use Rattle.naga_ir.specs.declared.statement.AtomicFunction.{AtomicFunction}
-use Rattle.naga_ir.specs.declared.statement.AtomicFunction.TheVariants.{Add, Subtract, And, ExclusiveOr, InclusiveOr, Min, Max, Exchange}
+use Rattle.naga_ir.specs.declared.statement.AtomicFunction.TheVariants.{Exchange}
 use Rattle.naga_ir.specs.declared.statement.RayQueryFunction.{RayQueryFunction}
 use Rattle.naga_ir.specs.declared.statement.RayQueryFunction.TheVariants.{Initialize, Proceed, GenerateIntersection, ConfirmIntersection, Terminate}
 use Rattle.naga_ir.specs.declared.statement.RayPipelineFunction.{RayPipelineFunction}
@@ -21,13 +21,7 @@ use Rattle.naga_ir.specs.declared.reference.Reference.TheVariants as to
 -- what a compare-and-exchange compares with
 abbrev pub compare_operand : AtomicFunction → List ℕ
 compare_operand (Exchange compare) = option_to_list compare
-compare_operand Add = []
-compare_operand Subtract = []
-compare_operand And = []
-compare_operand ExclusiveOr = []
-compare_operand InclusiveOr = []
-compare_operand Min = []
-compare_operand Max = []
+compare_operand _ = []
 
 -- the operands of a step of a ray query
 abbrev pub ray_query_operands : RayQueryFunction → List ℕ
@@ -39,7 +33,8 @@ ray_query_operands Terminate = []
 
 -- the operands of a step of a ray tracing pipeline
 abbrev pub ray_pipeline_operands : RayPipelineFunction → List ℕ
-ray_pipeline_operands (TraceRay acceleration_structure descriptor payload) = acceleration_structure ∷ descriptor ∷ payload ∷ []
+ray_pipeline_operands (TraceRay acceleration_structure descriptor payload) =
+    acceleration_structure ∷ descriptor ∷ payload ∷ []
 
 -- the number of the invocation, if it is given by an expression
 abbrev pub gather_operand : GatherMode → List ℕ
@@ -60,9 +55,11 @@ module _ (S B C : Type 0) where
   own_operands (one.Loop body continuing break_if) = option_to_list break_if
   own_operands (one.Return value) = option_to_list value
   own_operands (one.Store pointer value) = pointer ∷ value ∷ []
-  own_operands (one.ImageStore image coordinate array_index value) = image ∷ coordinate ∷ option_to_list array_index ++ value ∷ []
+  own_operands (one.ImageStore image coordinate array_index value) =
+      image ∷ coordinate ∷ option_to_list array_index ++ value ∷ []
   own_operands (one.Atomic pointer fun value result) = pointer ∷ compare_operand fun ++ value ∷ option_to_list result
-  own_operands (one.ImageAtomic image coordinate array_index fun value) = image ∷ coordinate ∷ option_to_list array_index ++ (compare_operand fun ++ value ∷ [])
+  own_operands (one.ImageAtomic image coordinate array_index fun value) =
+      image ∷ coordinate ∷ option_to_list array_index ++ (compare_operand fun ++ value ∷ [])
   own_operands (one.WorkGroupUniformLoad pointer result) = pointer ∷ result ∷ []
   own_operands (one.Call function arguments result) = arguments ++ option_to_list result
   own_operands (one.RayQuery query fun) = query ∷ ray_query_operands fun
@@ -71,39 +68,13 @@ module _ (S B C : Type 0) where
   own_operands (one.SubgroupGather mode argument result) = gather_operand mode ++ argument ∷ result ∷ []
   own_operands (one.SubgroupCollectiveOperation op argument result) = argument ∷ result ∷ []
   own_operands (one.CooperativeStore target pointer stride) = target ∷ pointer ∷ stride ∷ []
-  own_operands (one.Emit range) = []
-  own_operands (one.Block b) = []
-  own_operands one.Break = []
-  own_operands one.Continue = []
-  own_operands one.Kill = []
-  own_operands one.ControlBarrier = []
-  own_operands one.MemoryBarrier = []
+  own_operands _ = []
 
   -- the range that a statement emits, or the function that it calls
   unfoldable pub own_target : Statement-F S B C → List Reference
   own_target (one.Emit range) = to.Emit range ∷ []
   own_target (one.Call function arguments result) = to.Function function ∷ []
-  own_target (one.Block b) = []
-  own_target (one.If condition accept reject) = []
-  own_target (one.Switch selector cases) = []
-  own_target (one.Loop body continuing break_if) = []
-  own_target one.Break = []
-  own_target one.Continue = []
-  own_target (one.Return value) = []
-  own_target one.Kill = []
-  own_target one.ControlBarrier = []
-  own_target one.MemoryBarrier = []
-  own_target (one.Store pointer value) = []
-  own_target (one.ImageStore image coordinate array_index value) = []
-  own_target (one.Atomic pointer fun value result) = []
-  own_target (one.ImageAtomic image coordinate array_index fun value) = []
-  own_target (one.WorkGroupUniformLoad pointer result) = []
-  own_target (one.RayQuery query fun) = []
-  own_target (one.RayPipelineFunction fun) = []
-  own_target (one.SubgroupBallot result predicate) = []
-  own_target (one.SubgroupGather mode argument result) = []
-  own_target (one.SubgroupCollectiveOperation op argument result) = []
-  own_target (one.CooperativeStore target pointer stride) = []
+  own_target _ = []
 
 -- what a statement itself refers to, the blocks in it aside
 abbrev pub own_references : (S B C : Type 0) → Statement-F S B C → List Reference
@@ -119,25 +90,7 @@ inner_references (one.Block b) = b
 inner_references (one.If condition accept reject) = accept ++ reject
 inner_references (one.Switch selector cases) = flat_map (λ of_case. of_case) cases.items
 inner_references (one.Loop body continuing break_if) = body ++ continuing
-inner_references (one.Emit range) = []
-inner_references one.Break = []
-inner_references one.Continue = []
-inner_references (one.Return value) = []
-inner_references one.Kill = []
-inner_references one.ControlBarrier = []
-inner_references one.MemoryBarrier = []
-inner_references (one.Store pointer value) = []
-inner_references (one.ImageStore image coordinate array_index value) = []
-inner_references (one.Atomic pointer fun value result) = []
-inner_references (one.ImageAtomic image coordinate array_index fun value) = []
-inner_references (one.WorkGroupUniformLoad pointer result) = []
-inner_references (one.Call function arguments result) = []
-inner_references (one.RayQuery query fun) = []
-inner_references (one.RayPipelineFunction fun) = []
-inner_references (one.SubgroupBallot result predicate) = []
-inner_references (one.SubgroupGather mode argument result) = []
-inner_references (one.SubgroupCollectiveOperation op argument result) = []
-inner_references (one.CooperativeStore target pointer stride) = []
+inner_references _ = []
 
 -- what a statement refers to, by what the blocks in it refer to
 abbrev pub statement_step : Statement-F References References References → References

@@ -4,8 +4,7 @@ ghost use Rattle.std.specs.Prelude.{◌≡◌, ◌++◌, map, option_to_list};
 ghost use Rattle.std.specs.List.{flat_map};
 ghost use Rattle.naga_ir.specs.Operands.{present};
 ghost use Rattle.naga_ir.specs.steps.OwnReferences.{IsListed, IsOwn};
-ghost use Rattle.naga_ir.specs.steps.StatementParts.{call_arguments, operands_of, references_of, target_of};
-ghost use Rattle.naga_ir.specs.steps.StatementParts as spec;
+ghost use Rattle.naga_ir.specs.steps.StatementParts.{IsAtomic, UsesMemory, UsesSubgroup, call_arguments, operands_of, references_of, target_of};
 ghost use Rattle.naga_ir.specs.Statements.{block_references, case_references, statement_references};
 ghost use Rattle.naga_ir.specs.Statements as of;
 ghost use Rattle.naga_ir.specs.FirstError.{ChecksEach};
@@ -82,7 +81,25 @@ fn try_for_each_in_statement<E, F: Fn(Reference) -> Result<(), E>>(
             body.try_for_each_reference(check)?;
             continuing.try_for_each_reference(check)
         }
-        _ => Ok(()),
+        Statement::Emit(_)
+        | Statement::Break
+        | Statement::Continue
+        | Statement::Return { .. }
+        | Statement::Kill
+        | Statement::ControlBarrier
+        | Statement::MemoryBarrier
+        | Statement::Store { .. }
+        | Statement::ImageStore { .. }
+        | Statement::Atomic { .. }
+        | Statement::ImageAtomic { .. }
+        | Statement::WorkGroupUniformLoad { .. }
+        | Statement::Call { .. }
+        | Statement::RayQuery { .. }
+        | Statement::RayPipelineFunction(_)
+        | Statement::SubgroupBallot { .. }
+        | Statement::SubgroupGather { .. }
+        | Statement::SubgroupCollectiveOperation { .. }
+        | Statement::CooperativeStore { .. } => Ok(()),
     }
 }
 
@@ -123,7 +140,17 @@ fn own_references(statement: &Statement) -> OwnReferences
         | Statement::Kill
         | Statement::ControlBarrier
         | Statement::MemoryBarrier => OwnReferences::Nothing,
-        _ => OwnReferences::More,
+        Statement::ImageStore { .. }
+        | Statement::Atomic { .. }
+        | Statement::ImageAtomic { .. }
+        | Statement::WorkGroupUniformLoad { .. }
+        | Statement::Call { .. }
+        | Statement::RayQuery { .. }
+        | Statement::RayPipelineFunction(_)
+        | Statement::SubgroupBallot { .. }
+        | Statement::SubgroupGather { .. }
+        | Statement::SubgroupCollectiveOperation { .. }
+        | Statement::CooperativeStore { .. } => OwnReferences::More,
     }
 }
 
@@ -219,7 +246,7 @@ fn arguments(statement: &Statement) -> &[Handle<ExpressionTag>]
 type Operands = [Option<Handle<ExpressionTag>>; 5];
 
 /// The expressions that a statement names, in order: of a call, those after the arguments.
-#[tactic(auto, unfolding(crate::specs::Statements::own_operands, crate::specs::steps::StatementParts::call_arguments, crate::specs::steps::StatementParts::memory_operands, crate::specs::steps::StatementParts::atomic_operands, crate::specs::steps::StatementParts::subgroup_operands, crate::specs::steps::OwnReferences::IsListed))]
+#[tactic(auto, unfolding(crate::specs::Statements::own_operands, crate::specs::steps::StatementParts::call_arguments, crate::specs::steps::OwnReferences::IsListed))]
 fn other_operands(statement: &Statement) -> Operands
     requires { IsListed (out-Statement statement.now) }
     ensures { call_arguments (out-Statement statement.now) ++ present result ≡ operands_of statement.now }
@@ -243,9 +270,10 @@ fn other_operands(statement: &Statement) -> Operands
 }
 
 /// The expressions that a uniform load, an image store or a cooperative store names.
-#[tactic(auto, unfolding(crate::specs::steps::StatementParts::memory_operands))]
+#[tactic(auto, unfolding(crate::specs::Statements::own_operands))]
 fn memory_operands(statement: &Statement) -> Operands
-    ensures { present result ≡ spec.memory_operands (out-Statement statement.now) }
+    requires { UsesMemory (out-Statement statement.now) }
+    ensures { present result ≡ operands_of statement.now }
 {
     match statement {
         Statement::ImageStore {
@@ -272,14 +300,15 @@ fn memory_operands(statement: &Statement) -> Operands
             pointer,
             stride,
         } => [Some(*target), Some(*pointer), Some(*stride), None, None],
-        _ => [None, None, None, None, None],
+        _ => unreachable!(),
     }
 }
 
 /// The expressions that an atomic operation names.
-#[tactic(auto, unfolding(crate::specs::steps::StatementParts::atomic_operands))]
+#[tactic(auto, unfolding(crate::specs::Statements::own_operands))]
 fn atomic_operands(statement: &Statement) -> Operands
-    ensures { present result ≡ spec.atomic_operands (out-Statement statement.now) }
+    requires { IsAtomic (out-Statement statement.now) }
+    ensures { present result ≡ operands_of statement.now }
 {
     match statement {
         Statement::Atomic {
@@ -310,7 +339,7 @@ fn atomic_operands(statement: &Statement) -> Operands
                 Some(*value),
             ]
         }
-        _ => [None, None, None, None, None],
+        _ => unreachable!(),
     }
 }
 
@@ -365,9 +394,10 @@ fn ray_pipeline_operands(fun: RayPipelineFunction) -> Operands
 }
 
 /// The expressions that an operation of a subgroup names.
-#[tactic(auto, unfolding(crate::specs::steps::StatementParts::subgroup_operands))]
+#[tactic(auto, unfolding(crate::specs::Statements::own_operands))]
 fn subgroup_operands(statement: &Statement) -> Operands
-    ensures { present result ≡ spec.subgroup_operands (out-Statement statement.now) }
+    requires { UsesSubgroup (out-Statement statement.now) }
+    ensures { present result ≡ operands_of statement.now }
 {
     match statement {
         Statement::SubgroupBallot { result, predicate } => [
@@ -393,7 +423,7 @@ fn subgroup_operands(statement: &Statement) -> Operands
             result,
             ..
         } => [Some(*argument), Some(*result), None, None, None],
-        _ => [None, None, None, None, None],
+        _ => unreachable!(),
     }
 }
 

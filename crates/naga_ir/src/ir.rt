@@ -17,6 +17,13 @@ use naga_arena::tags::{
 use naga_arena::text::Text;
 use std::alloc::Global;
 
+/// The number of items for which an arena has room.
+pub const MOST_ITEMS: usize = u32::MAX as usize;
+
+/// The most blocks that are open at a time in a body that is read, as in the texts that naga's front end for WGSL reads.
+/// So passes over a body that is read can call themselves for each block in a block.
+pub const MOST_NESTED: usize = 127;
+
 /// A value with a name, known when the shader is compiled.
 #[derive(Debug, Drop)]
 pub struct Constant {

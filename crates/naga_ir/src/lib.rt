@@ -9,6 +9,7 @@ pub mod block_references;
 pub mod expression;
 pub mod ir;
 pub mod operands;
+pub mod origin;
 pub mod parts;
 pub mod reference;
 pub mod statement;

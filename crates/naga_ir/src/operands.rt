@@ -2,7 +2,7 @@
 
 ghost use Rattle.std.specs.Prelude.{◌≡◌, [], ◌∷◌, ◌++◌, IfNone, option_to_list};
 ghost use Rattle.naga_ir.specs.Operands.{present};
-ghost use Rattle.naga_ir.specs.steps.OperandForms.{ReadsImage, listed};
+ghost use Rattle.naga_ir.specs.steps.OperandForms.{ReadsImage};
 ghost use Rattle.naga_ir.specs.References as spec;
 
 use crate::expression::{Expression, ImageQuery, SampleLevel};
@@ -191,13 +191,19 @@ impl Expression {
     pub fn operands(&self) -> Operands<'_>
         ensures { result ≡ spec.operands self.now }
     {
-        let listed = match self {
-            Self::Compose { components, .. } => components.as_slice(),
-            _ => &[],
-        };
         Operands {
             fields: self.field_operands(),
-            listed,
+            listed: self.components(),
+        }
+    }
+
+    /// The components of a composition. Other expressions have none.
+    pub fn components(&self) -> &[Handle<ExpressionTag>]
+        ensures { result.now ≡ spec.components_of self.now }
+    {
+        match self {
+            Self::Compose { components, .. } => components.as_slice(),
+            _ => &[],
         }
     }
 
@@ -212,7 +218,17 @@ impl Expression {
             | Self::AtomicResult { ty, .. }
             | Self::WorkGroupUniformLoadResult { ty }
             | Self::SubgroupOperationResult { ty } => Some(ty),
-            _ => None,
+            Self::Literal(_) | Self::Constant(_) | Self::Override(_) => None,
+            Self::Access { .. } | Self::AccessIndex { .. } | Self::Splat { .. } => None,
+            Self::Swizzle { .. } | Self::FunctionArgument(_) | Self::GlobalVariable(_) => None,
+            Self::LocalVariable(_) | Self::Load { .. } | Self::ImageSample { .. } => None,
+            Self::ImageLoad { .. } | Self::ImageQuery { .. } | Self::Unary { .. } => None,
+            Self::Binary { .. } | Self::Select { .. } | Self::Derivative { .. } => None,
+            Self::Relational { .. } | Self::Math { .. } | Self::As { .. } => None,
+            Self::CallResult(_) | Self::ArrayLength(_) | Self::RayQueryProceedResult => None,
+            Self::RayQueryGetIntersection { .. } | Self::RayQueryVertexPositions { .. } => None,
+            Self::SubgroupBallotResult | Self::CooperativeLoad { .. } => None,
+            Self::CooperativeMultiplyAdd { .. } => None,
         }
     }
 
@@ -227,14 +243,24 @@ impl Expression {
             Self::GlobalVariable(variable) => Some(Reference::GlobalVariable(variable)),
             Self::LocalVariable(variable) => Some(Reference::LocalVariable(variable)),
             Self::CallResult(function) => Some(Reference::Function(function)),
-            _ => None,
+            Self::Literal(_) | Self::ZeroValue(_) | Self::Compose { .. } => None,
+            Self::Access { .. } | Self::AccessIndex { .. } | Self::Splat { .. } => None,
+            Self::Swizzle { .. } | Self::FunctionArgument(_) | Self::Load { .. } => None,
+            Self::ImageSample { .. } | Self::ImageLoad { .. } | Self::ImageQuery { .. } => None,
+            Self::Unary { .. } | Self::Binary { .. } | Self::Select { .. } => None,
+            Self::Derivative { .. } | Self::Relational { .. } | Self::Math { .. } => None,
+            Self::As { .. } | Self::AtomicResult { .. } | Self::ArrayLength(_) => None,
+            Self::WorkGroupUniformLoadResult { .. } | Self::RayQueryProceedResult => None,
+            Self::RayQueryGetIntersection { .. } | Self::RayQueryVertexPositions { .. } => None,
+            Self::SubgroupBallotResult | Self::SubgroupOperationResult { .. } => None,
+            Self::CooperativeLoad { .. } | Self::CooperativeMultiplyAdd { .. } => None,
         }
     }
 
     /// The operands that have fields of their own.
     #[tactic(auto, unfolding(crate::specs::References::operands))]
     fn field_operands(&self) -> Fields
-        ensures { result ++ listed self.now ≡ spec.operands self.now }
+        ensures { result ++ spec.components_of self.now ≡ spec.operands self.now }
     {
         match *self {
             Self::AccessIndex { base: expr, .. }
@@ -267,7 +293,13 @@ impl Expression {
             Self::ImageSample { .. } | Self::ImageLoad { .. } | Self::ImageQuery { .. } => {
                 Fields::present(&self.image_operands())
             }
-            _ => Fields::none(),
+            Self::Literal(_) | Self::Constant(_) | Self::Override(_) => Fields::none(),
+            Self::ZeroValue(_) | Self::Compose { .. } => Fields::none(),
+            Self::FunctionArgument(_) | Self::GlobalVariable(_) => Fields::none(),
+            Self::LocalVariable(_) | Self::CallResult(_) => Fields::none(),
+            Self::AtomicResult { .. } | Self::WorkGroupUniformLoadResult { .. } => Fields::none(),
+            Self::RayQueryProceedResult | Self::SubgroupBallotResult => Fields::none(),
+            Self::SubgroupOperationResult { .. } => Fields::none(),
         }
     }
 

@@ -2,7 +2,7 @@
 
 ghost use Rattle.std.specs.Prelude.{◌≡◌, IfOk, IsOk};
 ghost use Rattle.naga_ir.specs.Sizes.{components, cooperative_components, is_numeric};
-ghost use Rattle.naga_ir.specs.TypeWords.{IsNotStruct, is_mipmapped, is_multisampled, pointer_base, scalar_of, vector_size_and_scalar};
+ghost use Rattle.naga_ir.specs.TypeWords.{IsNotStruct, is_mipmapped, is_multisampled, is_struct, pointer_base, scalar_of, vector_size_and_scalar};
 
 use naga_arena::handle::Handle;
 use naga_arena::list::List;
@@ -499,6 +499,28 @@ impl TypeInner {
             | TypeInner::AccelerationStructure { .. }
             | TypeInner::RayQuery { .. }
             | TypeInner::BindingArray { .. } => None,
+        }
+    }
+
+    /// Whether this is a struct.
+    pub fn is_struct(&self) -> bool
+        ensures { result ≡ is_struct self.now }
+    {
+        match self {
+            TypeInner::Struct { .. } => true,
+            TypeInner::Scalar(_)
+            | TypeInner::Vector { .. }
+            | TypeInner::Matrix { .. }
+            | TypeInner::CooperativeMatrix { .. }
+            | TypeInner::Atomic(_)
+            | TypeInner::Pointer { .. }
+            | TypeInner::ValuePointer { .. }
+            | TypeInner::Array { .. }
+            | TypeInner::Image { .. }
+            | TypeInner::Sampler { .. }
+            | TypeInner::AccelerationStructure { .. }
+            | TypeInner::RayQuery { .. }
+            | TypeInner::BindingArray { .. } => false,
         }
     }
 

@@ -101,8 +101,8 @@ block_references::try_for_each_in_statement-returns-in_ok-try_for_each_reference
     checks-statement check _ _ _ is c.in_ok-try_for_each_own_reference.ensures
     (checks-then check (block_references c.in-Loop.body) (block_references c.in-Loop.continuing) _ c.in_ok-try_for_each_reference-in-Loop.ensures c.try_for_each_reference-in-Loop-2.ensures)
 
-pub block_references::try_for_each_in_statement-returns-in_default : goal.block_references::try_for_each_in_statement-returns-in_default
-block_references::try_for_each_in_statement-returns-in_default g t c =
+pub block_references::try_for_each_in_statement-returns-in-Emit : goal.block_references::try_for_each_in_statement-returns-in-Emit
+block_references::try_for_each_in_statement-returns-in-Emit g t c =
     let check = given.F-post g c.args.check.now in
     let none : nested (out-Statement c.args.statement.now) ≡ [] = grind (arith, common_steps, the_lemmas) in
     checks-along check _ _ (Ok _) (sym (statement-out c.args.statement.now))

@@ -1,12 +1,6 @@
--- Where the variants of expressions keep their operands.
-use Rattle.std.specs.Prelude.{ℕ, List, []}
+-- Which variants of expressions have operands in many fields.
 use Rattle.naga_ir.specs.declared.expression.Expression.{Expression}
-use Rattle.naga_ir.specs.declared.expression.Expression.TheVariants.{Compose, ImageSample, ImageLoad, ImageQuery}
-
--- the operands that are kept in a list
-abbrev pub listed : Expression → List ℕ
-listed (Compose ty components) = components
-listed _ = []
+use Rattle.naga_ir.specs.declared.expression.Expression.TheVariants.{ImageSample, ImageLoad, ImageQuery}
 
 -- the expression samples, loads or queries an image
 abbrev pub ReadsImage : Expression → Type 0

@@ -1,6 +1,6 @@
 -- What statements name themselves, by groups of variants.
-use Rattle.std.specs.Prelude.{ℕ, List, [], ◌∷◌, ◌++◌, option_to_list}
-use Rattle.naga_ir.specs.Statements.{compare_operand, gather_operand, own_operands, own_references, own_target}
+use Rattle.std.specs.Prelude.{ℕ, List, []}
+use Rattle.naga_ir.specs.Statements.{own_operands, own_references, own_target}
 use Rattle.naga_ir.specs.declared.reference.Reference.{Reference}
 use Rattle.naga_ir.specs.declared.statement.Statement.{Statement}
 use Rattle.naga_ir.specs.declared.statement.Block.{Block}
@@ -30,22 +30,22 @@ unfoldable pub call_arguments : Form → List ℕ
 call_arguments (one.Call function arguments result) = arguments
 call_arguments _ = []
 
--- the expressions that a uniform load, an image store or a cooperative store names
-unfoldable pub memory_operands : Form → List ℕ
-memory_operands (one.ImageStore image coordinate array_index value) = image ∷ coordinate ∷ option_to_list array_index ++ value ∷ []
-memory_operands (one.WorkGroupUniformLoad pointer result) = pointer ∷ result ∷ []
-memory_operands (one.CooperativeStore target pointer stride) = target ∷ pointer ∷ stride ∷ []
-memory_operands _ = []
+-- a statement stores to an image or a cooperative matrix, or loads for a whole workgroup
+abbrev pub UsesMemory : Form → Type 0
+UsesMemory (one.ImageStore image coordinate array_index value) = Unit {0}
+UsesMemory (one.WorkGroupUniformLoad pointer result) = Unit {0}
+UsesMemory (one.CooperativeStore target pointer stride) = Unit {0}
+UsesMemory _ = ⊥
 
--- the expressions that an atomic operation names
-unfoldable pub atomic_operands : Form → List ℕ
-atomic_operands (one.Atomic pointer fun value result) = pointer ∷ compare_operand fun ++ value ∷ option_to_list result
-atomic_operands (one.ImageAtomic image coordinate array_index fun value) = image ∷ coordinate ∷ option_to_list array_index ++ (compare_operand fun ++ value ∷ [])
-atomic_operands _ = []
+-- a statement is an atomic operation
+abbrev pub IsAtomic : Form → Type 0
+IsAtomic (one.Atomic pointer fun value result) = Unit {0}
+IsAtomic (one.ImageAtomic image coordinate array_index fun value) = Unit {0}
+IsAtomic _ = ⊥
 
--- the expressions that an operation of a subgroup names
-unfoldable pub subgroup_operands : Form → List ℕ
-subgroup_operands (one.SubgroupBallot result predicate) = result ∷ option_to_list predicate
-subgroup_operands (one.SubgroupGather mode argument result) = gather_operand mode ++ argument ∷ result ∷ []
-subgroup_operands (one.SubgroupCollectiveOperation op argument result) = argument ∷ result ∷ []
-subgroup_operands _ = []
+-- a statement is an operation of a subgroup
+abbrev pub UsesSubgroup : Form → Type 0
+UsesSubgroup (one.SubgroupBallot result predicate) = Unit {0}
+UsesSubgroup (one.SubgroupGather mode argument result) = Unit {0}
+UsesSubgroup (one.SubgroupCollectiveOperation op argument result) = Unit {0}
+UsesSubgroup _ = ⊥

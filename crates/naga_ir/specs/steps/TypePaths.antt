@@ -50,7 +50,8 @@ Leads links ty depth bits link (suc steps) k =
 
 -- the path of type ty leads to node k by these links
 abbrev pub IsReached : List ℕ → «Type» → ℕ → Type 0
-IsReached links ty k = (steps : ℕ) × Leads links ty 0 (first_hash ty / first_links) (first_hash ty % first_links) steps k
+IsReached links ty k =
+    (steps : ℕ) × Leads links ty 0 (first_hash ty / first_links) (first_hash ty % first_links) steps k
 
 -- the path of each of the types leads to its index by these links
 abbrev pub AllReached : List ℕ → List «Type» → Type 0
