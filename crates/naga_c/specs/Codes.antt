@@ -210,212 +210,47 @@ literal_error_cause (literal_error.Width error) = width_error_code error
 
 -- the number of the error within an error of types, or 0
 abbrev pub type_error_cause : TypeError → ℕ
-type_error_cause (type_error.MissingCapability _) = 0
-type_error_cause (type_error.InvalidAtomicWidth _ _) = 0
-type_error_cause (type_error.InvalidPointerBase _) = 0
-type_error_cause (type_error.InvalidPointerToUnsized _ _) = 0
-type_error_cause (type_error.InvalidData _) = 0
-type_error_cause (type_error.InvalidArrayBaseType _) = 0
-type_error_cause type_error.MatrixElementNotFloat = 0
-type_error_cause (type_error.UnsupportedSpecializedArrayLength _) = 0
-type_error_cause (type_error.UnsupportedImageType _ _ _) = 0
-type_error_cause (type_error.InvalidArrayStride _ _) = 0
-type_error_cause (type_error.InvalidDynamicArray _ _) = 0
-type_error_cause (type_error.BindingArrayBaseTypeNotStruct _) = 0
-type_error_cause type_error.BindingArrayBaseExternalTextures = 0
-type_error_cause (type_error.MemberOverlap _ _) = 0
-type_error_cause (type_error.MemberOutOfBounds _ _ _ _) = 0
-type_error_cause type_error.EmptyStruct = 0
 type_error_cause (type_error.InvalidBlendSrc error) = varying_error_code error
 type_error_cause (type_error.WidthError error) = width_error_code error
-type_error_cause (type_error.UnresolvedOverride _) = 0
-type_error_cause (type_error.InvalidArraySize _) = 0
-type_error_cause type_error.OutOfMemory = 0
+type_error_cause _ = 0
 
 -- the number of the error within an error of global expressions, or 0
 abbrev pub const_expression_error_cause : ConstExpressionError → ℕ
-const_expression_error_cause const_expression_error.NonConstOrOverride = 0
-const_expression_error_cause const_expression_error.NonFullyEvaluatedConst = 0
 const_expression_error_cause (const_expression_error.Compose error) = compose_error_code error
-const_expression_error_cause (const_expression_error.InvalidSplatType _) = 0
 const_expression_error_cause (const_expression_error.Type_ error) = resolve_error_code error
 const_expression_error_cause (const_expression_error.Literal error) = literal_error_code error
 const_expression_error_cause (const_expression_error.Width error) = width_error_code error
+const_expression_error_cause _ = 0
 
 -- the number of the error within an error of overrides, or 0
 abbrev pub override_error_cause : OverrideError → ℕ
-override_error_cause override_error.MissingNameAndID = 0
-override_error_cause override_error.DuplicateID = 0
-override_error_cause override_error.InitializerExprType = 0
-override_error_cause override_error.InvalidType = 0
-override_error_cause override_error.NonConstructibleType = 0
-override_error_cause override_error.TypeNotScalar = 0
-override_error_cause override_error.NotAllowed = 0
-override_error_cause override_error.UninitializedOverride = 0
 override_error_cause (override_error.ConstExpression _ source) = const_expression_error_code source
+override_error_cause _ = 0
 
 -- the number of the second error within an error of global expressions, or 0
 abbrev pub const_expression_error_second_cause : ConstExpressionError → ℕ
-const_expression_error_second_cause const_expression_error.NonConstOrOverride = 0
-const_expression_error_second_cause const_expression_error.NonFullyEvaluatedConst = 0
-const_expression_error_second_cause (const_expression_error.Compose _) = 0
-const_expression_error_second_cause (const_expression_error.InvalidSplatType _) = 0
-const_expression_error_second_cause (const_expression_error.Type_ _) = 0
 const_expression_error_second_cause (const_expression_error.Literal error) = literal_error_cause error
-const_expression_error_second_cause (const_expression_error.Width _) = 0
+const_expression_error_second_cause _ = 0
 
 -- the number of the second error within an error of overrides, or 0
 abbrev pub override_error_second_cause : OverrideError → ℕ
-override_error_second_cause override_error.MissingNameAndID = 0
-override_error_second_cause override_error.DuplicateID = 0
-override_error_second_cause override_error.InitializerExprType = 0
-override_error_second_cause override_error.InvalidType = 0
-override_error_second_cause override_error.NonConstructibleType = 0
-override_error_second_cause override_error.TypeNotScalar = 0
-override_error_second_cause override_error.NotAllowed = 0
-override_error_second_cause override_error.UninitializedOverride = 0
 override_error_second_cause (override_error.ConstExpression _ source) = const_expression_error_cause source
+override_error_second_cause _ = 0
 
 -- the number of the third error within an error of overrides, or 0
 abbrev pub override_error_third_cause : OverrideError → ℕ
-override_error_third_cause override_error.MissingNameAndID = 0
-override_error_third_cause override_error.DuplicateID = 0
-override_error_third_cause override_error.InitializerExprType = 0
-override_error_third_cause override_error.InvalidType = 0
-override_error_third_cause override_error.NonConstructibleType = 0
-override_error_third_cause override_error.TypeNotScalar = 0
-override_error_third_cause override_error.NotAllowed = 0
-override_error_third_cause override_error.UninitializedOverride = 0
 override_error_third_cause (override_error.ConstExpression _ source) = const_expression_error_second_cause source
+override_error_third_cause _ = 0
 
 -- the number of the error within an error of an expression of a function, or 0
 abbrev pub expression_error_cause : ExpressionError → ℕ
-expression_error_cause expression_error.NotInScope = 0
-expression_error_cause (expression_error.InvalidBaseType _) = 0
-expression_error_cause (expression_error.InvalidIndexType _) = 0
-expression_error_cause (expression_error.NegativeIndex _) = 0
-expression_error_cause (expression_error.IndexOutOfBounds _ _) = 0
-expression_error_cause (expression_error.FunctionArgumentDoesntExist _) = 0
-expression_error_cause (expression_error.InvalidPointerType _) = 0
-expression_error_cause (expression_error.InvalidArrayType _) = 0
-expression_error_cause (expression_error.InvalidRayQueryType _) = 0
-expression_error_cause (expression_error.InvalidSplatType _) = 0
-expression_error_cause (expression_error.InvalidVectorType _) = 0
-expression_error_cause (expression_error.InvalidSwizzleComponent _ _) = 0
 expression_error_cause (expression_error.Compose error) = compose_error_code error
-expression_error_cause (expression_error.InvalidZeroValue _) = 0
 expression_error_cause (expression_error.IndexableLength error) = indexable_length_error_code error
-expression_error_cause (expression_error.InvalidUnaryOperandType _ _) = 0
-expression_error_cause (expression_error.InvalidBinaryOperandTypes _ _ _ _ _) = 0
-expression_error_cause (expression_error.SelectValuesTypeMismatch _ _) = 0
-expression_error_cause (expression_error.SelectConditionNotABool _) = 0
-expression_error_cause (expression_error.InvalidBooleanVector _) = 0
-expression_error_cause (expression_error.InvalidFloatArgument _) = 0
 expression_error_cause (expression_error.Type_ error) = resolve_error_code error
-expression_error_cause expression_error.ExpectedGlobalVariable = 0
-expression_error_cause expression_error.ExpectedGlobalOrArgument = 0
-expression_error_cause (expression_error.ExpectedBindingArrayType _) = 0
-expression_error_cause (expression_error.ExpectedImageType _) = 0
-expression_error_cause (expression_error.ExpectedSamplerType _) = 0
-expression_error_cause (expression_error.InvalidImageClass _) = 0
-expression_error_cause (expression_error.InvalidImageFormat _) = 0
-expression_error_cause (expression_error.InvalidImageStorageAccess _) = 0
-expression_error_cause expression_error.InvalidDerivative = 0
-expression_error_cause expression_error.InvalidImageArrayIndex = 0
-expression_error_cause expression_error.InvalidImageSampleSelector = 0
-expression_error_cause expression_error.MissingImageSampleSelector = 0
-expression_error_cause expression_error.InvalidImageLevelSelector = 0
-expression_error_cause expression_error.MissingImageLevelSelector = 0
-expression_error_cause (expression_error.InvalidImageArrayIndexType _) = 0
-expression_error_cause (expression_error.InvalidImageOtherIndexType _) = 0
-expression_error_cause (expression_error.InvalidImageCoordinateType _ _) = 0
-expression_error_cause (expression_error.ComparisonSamplingMismatch _ _ _) = 0
-expression_error_cause expression_error.InvalidSampleOffsetExprType = 0
-expression_error_cause (expression_error.InvalidSampleOffset _ _) = 0
-expression_error_cause (expression_error.InvalidDepthReference _) = 0
-expression_error_cause expression_error.InvalidDepthSampleLevel = 0
-expression_error_cause expression_error.InvalidGatherLevel = 0
-expression_error_cause (expression_error.InvalidGatherComponent _) = 0
-expression_error_cause (expression_error.InvalidGatherDimension _) = 0
-expression_error_cause (expression_error.InvalidSampleLevelExactType _) = 0
-expression_error_cause (expression_error.InvalidSampleLevelBiasType _) = 0
-expression_error_cause (expression_error.InvalidSampleLevelBiasDimension _) = 0
-expression_error_cause (expression_error.InvalidSampleLevelGradientType _ _) = 0
-expression_error_cause (expression_error.InvalidSampleClampCoordinateToEdge _) = 0
-expression_error_cause expression_error.InvalidCastArgument = 0
-expression_error_cause (expression_error.WrongArgumentCount _) = 0
-expression_error_cause (expression_error.InvalidArgumentType _ _ _) = 0
-expression_error_cause (expression_error.InvalidWorkGroupUniformLoadResultType _) = 0
-expression_error_cause (expression_error.MissingCapabilities _) = 0
 expression_error_cause (expression_error.Literal error) = literal_error_code error
-expression_error_cause (expression_error.UnsupportedWidth _ _ _) = 0
-expression_error_cause (expression_error.InvalidCooperativeOperand _) = 0
-expression_error_cause (expression_error.ShiftAmountTooLarge _ _) = 0
-expression_error_cause expression_error.DivideByZero = 0
-expression_error_cause expression_error.OutOfMemory = 0
+expression_error_cause _ = 0
 
 -- the number of the second error within an error of an expression of a function, or 0
 abbrev pub expression_error_second_cause : ExpressionError → ℕ
-expression_error_second_cause expression_error.NotInScope = 0
-expression_error_second_cause (expression_error.InvalidBaseType _) = 0
-expression_error_second_cause (expression_error.InvalidIndexType _) = 0
-expression_error_second_cause (expression_error.NegativeIndex _) = 0
-expression_error_second_cause (expression_error.IndexOutOfBounds _ _) = 0
-expression_error_second_cause (expression_error.FunctionArgumentDoesntExist _) = 0
-expression_error_second_cause (expression_error.InvalidPointerType _) = 0
-expression_error_second_cause (expression_error.InvalidArrayType _) = 0
-expression_error_second_cause (expression_error.InvalidRayQueryType _) = 0
-expression_error_second_cause (expression_error.InvalidSplatType _) = 0
-expression_error_second_cause (expression_error.InvalidVectorType _) = 0
-expression_error_second_cause (expression_error.InvalidSwizzleComponent _ _) = 0
-expression_error_second_cause (expression_error.Compose _) = 0
-expression_error_second_cause (expression_error.InvalidZeroValue _) = 0
-expression_error_second_cause (expression_error.IndexableLength _) = 0
-expression_error_second_cause (expression_error.InvalidUnaryOperandType _ _) = 0
-expression_error_second_cause (expression_error.InvalidBinaryOperandTypes _ _ _ _ _) = 0
-expression_error_second_cause (expression_error.SelectValuesTypeMismatch _ _) = 0
-expression_error_second_cause (expression_error.SelectConditionNotABool _) = 0
-expression_error_second_cause (expression_error.InvalidBooleanVector _) = 0
-expression_error_second_cause (expression_error.InvalidFloatArgument _) = 0
-expression_error_second_cause (expression_error.Type_ _) = 0
-expression_error_second_cause expression_error.ExpectedGlobalVariable = 0
-expression_error_second_cause expression_error.ExpectedGlobalOrArgument = 0
-expression_error_second_cause (expression_error.ExpectedBindingArrayType _) = 0
-expression_error_second_cause (expression_error.ExpectedImageType _) = 0
-expression_error_second_cause (expression_error.ExpectedSamplerType _) = 0
-expression_error_second_cause (expression_error.InvalidImageClass _) = 0
-expression_error_second_cause (expression_error.InvalidImageFormat _) = 0
-expression_error_second_cause (expression_error.InvalidImageStorageAccess _) = 0
-expression_error_second_cause expression_error.InvalidDerivative = 0
-expression_error_second_cause expression_error.InvalidImageArrayIndex = 0
-expression_error_second_cause expression_error.InvalidImageSampleSelector = 0
-expression_error_second_cause expression_error.MissingImageSampleSelector = 0
-expression_error_second_cause expression_error.InvalidImageLevelSelector = 0
-expression_error_second_cause expression_error.MissingImageLevelSelector = 0
-expression_error_second_cause (expression_error.InvalidImageArrayIndexType _) = 0
-expression_error_second_cause (expression_error.InvalidImageOtherIndexType _) = 0
-expression_error_second_cause (expression_error.InvalidImageCoordinateType _ _) = 0
-expression_error_second_cause (expression_error.ComparisonSamplingMismatch _ _ _) = 0
-expression_error_second_cause expression_error.InvalidSampleOffsetExprType = 0
-expression_error_second_cause (expression_error.InvalidSampleOffset _ _) = 0
-expression_error_second_cause (expression_error.InvalidDepthReference _) = 0
-expression_error_second_cause expression_error.InvalidDepthSampleLevel = 0
-expression_error_second_cause expression_error.InvalidGatherLevel = 0
-expression_error_second_cause (expression_error.InvalidGatherComponent _) = 0
-expression_error_second_cause (expression_error.InvalidGatherDimension _) = 0
-expression_error_second_cause (expression_error.InvalidSampleLevelExactType _) = 0
-expression_error_second_cause (expression_error.InvalidSampleLevelBiasType _) = 0
-expression_error_second_cause (expression_error.InvalidSampleLevelBiasDimension _) = 0
-expression_error_second_cause (expression_error.InvalidSampleLevelGradientType _ _) = 0
-expression_error_second_cause (expression_error.InvalidSampleClampCoordinateToEdge _) = 0
-expression_error_second_cause expression_error.InvalidCastArgument = 0
-expression_error_second_cause (expression_error.WrongArgumentCount _) = 0
-expression_error_second_cause (expression_error.InvalidArgumentType _ _ _) = 0
-expression_error_second_cause (expression_error.InvalidWorkGroupUniformLoadResultType _) = 0
-expression_error_second_cause (expression_error.MissingCapabilities _) = 0
 expression_error_second_cause (expression_error.Literal error) = literal_error_cause error
-expression_error_second_cause (expression_error.UnsupportedWidth _ _ _) = 0
-expression_error_second_cause (expression_error.InvalidCooperativeOperand _) = 0
-expression_error_second_cause (expression_error.ShiftAmountTooLarge _ _) = 0
-expression_error_second_cause expression_error.DivideByZero = 0
-expression_error_second_cause expression_error.OutOfMemory = 0
+expression_error_second_cause _ = 0

@@ -45,7 +45,8 @@ refused_expression m stage kind index expression error =
       values = values.items;
       stage = stage;
       kind = kind;
-      errors = expression_error_code error ∷ expression_error_cause error ∷ expression_error_second_cause error ∷ 0 ∷ [];
+      errors =
+          expression_error_code error ∷ expression_error_cause error ∷ expression_error_second_cause error ∷ 0 ∷ [];
       value_count = values.count;
       expression = expression;
     }
@@ -65,39 +66,56 @@ settings_for_functions subject = record (settings_in subject) { flags = with_con
 
 -- how the functions of a module are validated by the settings in force
 abbrev pub validation_of : Subject → Validation
-validation_of subject = function_surroundings full_resolves (math_typing accepts (λ fun types. argument_count fun)) (new_state {T = Unit {0}} (with_constants subject.flags) subject.capabilities tt) subject.resolved subject.«module»
+validation_of subject =
+    function_surroundings full_resolves (math_typing accepts (λ fun types. argument_count fun))
+    (new_state {T = Unit {0}} (with_constants subject.flags) subject.capabilities tt) subject.resolved
+    subject.«module»
 
 -- a call on a module `m` of which all functions and entry points are accepted, with the infos in `lists`, found the
 -- buffer `old` and left `new`, an outcome and a status: the stages of all if the buffer has room for them; if it has no
 -- element they are not wanted
 pub data ReportsAll (m : Module) (lists : ModuleInfoLists) (old new : List ℕ) (outcome : Outcome) (status : Status) : Type 0 where
-  all_unwanted : old ≡ [] → LeavesBuffer old new outcome (counts_of m) → status ≡ Done → ReportsAll m lists old new outcome status
-  all_short : 0 < length old → length old < callable_count m → LeavesBuffer old new outcome (counts_of m) → status ≡ Room → ReportsAll m lists old new outcome status
-  all_written : callable_count m ≤ length old → BeginsWith (stages_of lists) old new → outcome ≡ record (counts_of m) { written = callable_count m } → status ≡ Done
+  all_unwanted : old ≡ [] → LeavesBuffer old new outcome (counts_of m) → status ≡ Done
+      → ReportsAll m lists old new outcome status
+  all_short : 0 < length old → length old < callable_count m → LeavesBuffer old new outcome (counts_of m)
+      → status ≡ Room → ReportsAll m lists old new outcome status
+  all_written : callable_count m ≤ length old → BeginsWith (stages_of lists) old new
+      → outcome ≡ record (counts_of m) { written = callable_count m } → status ≡ Done
       → ReportsAll m lists old new outcome status
 
 -- a call on a module `m` of which a function or entry point was refused with `error`, while `lists` has the infos of
 -- those before it, found the buffer `old` and left `new`, an outcome and a status: the stages of those before it if the
 -- buffer has room for all of the module
 pub data ReportsRefused (m : Module) (lists : ModuleInfoLists) (error : FunctionsError) (old new : List ℕ) (outcome : Outcome) (status : Status) : Type 0 where
-  before_short : (expression : ℕ) (e : ExpressionError) → error.source ≡ function_error.Expression expression e → length old < callable_count m
-      → LeavesBuffer old new outcome (refused_at m error.at expression e) → status ≡ Refused → ReportsRefused m lists error old new outcome status
-  before_written : (expression : ℕ) (e : ExpressionError) → error.source ≡ function_error.Expression expression e → callable_count m ≤ length old → BeginsWith (stages_of lists) old new
-      → outcome ≡ record (refused_at m error.at expression e) { written = length lists.functions + length lists.entry_points } → status ≡ Refused
+  before_short : (expression : ℕ) (e : ExpressionError) → error.source ≡ function_error.Expression expression e
+      → length old < callable_count m
+      → LeavesBuffer old new outcome (refused_at m error.at expression e) → status ≡ Refused
       → ReportsRefused m lists error old new outcome status
-  before_undecided : error.source ≡ function_error.OutOfMemory → LeavesBuffer old new outcome no_outcome → status ≡ OutOfMemory → ReportsRefused m lists error old new outcome status
+  before_written : (expression : ℕ) (e : ExpressionError) → error.source ≡ function_error.Expression expression e
+      → callable_count m ≤ length old → BeginsWith (stages_of lists) old new
+      → outcome ≡ record (refused_at m error.at expression e) {
+        written = length lists.functions + length lists.entry_points;
+      }
+      → status ≡ Refused
+      → ReportsRefused m lists error old new outcome status
+  before_undecided : error.source ≡ function_error.OutOfMemory → LeavesBuffer old new outcome no_outcome
+      → status ≡ OutOfMemory → ReportsRefused m lists error old new outcome status
 
 -- a call on a module, of which `known` is known before functions are validated, found the buffer `old` and left
 -- `new`, an outcome and a status: the stages of the functions and entry points, or the first that is refused
 pub data ReportsFunctions (subject : Subject) (known : ModuleInfoLists) (old new : List ℕ) (outcome : Outcome) (status : Status) : Type 0 where
   all : (lists : ModuleInfoLists) → ValidatesFunctions (validation_of subject) subject.«module» known lists (Ok tt)
       → ReportsAll subject.«module» lists old new outcome status → ReportsFunctions subject known old new outcome status
-  one_refused : (lists : ModuleInfoLists) (error : FunctionsError) → ValidatesFunctions (validation_of subject) subject.«module» known lists (Err error)
-      → ReportsRefused subject.«module» lists error old new outcome status → ReportsFunctions subject known old new outcome status
+  one_refused : (lists : ModuleInfoLists) (error : FunctionsError)
+      → ValidatesFunctions (validation_of subject) subject.«module» known lists (Err error)
+      → ReportsRefused subject.«module» lists error old new outcome status
+      → ReportsFunctions subject known old new outcome status
 
 -- a call on a module found the buffer `old` and left `new`, an outcome and a status: what it found of the
 -- functions of the module if it is accepted, else its refusal
 pub data ChecksFunctions (subject : Subject) (old new : List ℕ) (outcome : Outcome) (status : Status) : Type 0 where
-  accepted : (infos : List TypeInfo) (known : ModuleInfoLists) → Accepts full_resolves subject.«module» (settings_for_functions subject) infos known
+  accepted : (infos : List TypeInfo) (known : ModuleInfoLists)
+      → Accepts full_resolves subject.«module» (settings_for_functions subject) infos known
       → ReportsFunctions subject known old new outcome status → ChecksFunctions subject old new outcome status
-  not_accepted : IsNotAccepted subject.«module» (settings_for_functions subject) (LeavesBuffer old new outcome) status → ChecksFunctions subject old new outcome status
+  not_accepted : IsNotAccepted subject.«module» (settings_for_functions subject) (LeavesBuffer old new outcome) status
+      → ChecksFunctions subject old new outcome status

@@ -153,16 +153,8 @@ space_number space.IncomingRayPayload = 9
 
 -- the number of what may be done with an address space, which only storage has
 abbrev pub space_access : AddressSpace → ℕ
-space_access space.Function = 0
-space_access space.Private = 0
-space_access space.WorkGroup = 0
-space_access space.Uniform = 0
 space_access (space.Storage access) = access_number access
-space_access space.Handle = 0
-space_access space.Immediate = 0
-space_access space.TaskPayload = 0
-space_access space.RayPayload = 0
-space_access space.IncomingRayPayload = 0
+space_access _ = 0
 
 -- the number of a class of images
 abbrev pub class_number : ImageClass → ℕ

@@ -35,12 +35,15 @@ IsOpenModule held = IfSome held IsAccepted
 -- a call opened the module of `subject`, of which at most `most` leaves are wanted, left `held` and `outcome` and ended
 -- with `status`: the module is held, or nothing is, as it is not accepted or as memory was refused
 pub data Opens (subject : Subject) (most : ℕ) (held : Option AcceptedModule) (outcome : Outcome) (status : Status) : Type 0 where
-  opened : (accepted : AcceptedModule) → held ≡ Some accepted → accepted.subject ≡ subject → accepted.most_leaves ≡ most → IsAccepted accepted
+  opened : (accepted : AcceptedModule) → held ≡ Some accepted → accepted.subject ≡ subject → accepted.most_leaves ≡ most
+      → IsAccepted accepted
       → outcome ≡ counts_of subject.«module» → status ≡ Done → Opens subject most held outcome status
-  not_opened : held ≡ None → IsNotAccepted subject.«module» (settings_in subject) (λ found. outcome ≡ found) status → Opens subject most held outcome status
+  not_opened : held ≡ None → IsNotAccepted subject.«module» (settings_in subject) (λ found. outcome ≡ found) status
+      → Opens subject most held outcome status
 
 -- a call on an open module that holds `held` ended with `status`: `Checks` holds of what it holds and of the status; or
 -- it is closed, and `Leaves` holds of an outcome with nothing
-abbrev pub OfOpenModule : (held : Option AcceptedModule) → (Checks : AcceptedModule → Status → Type 0) → (Leaves : Outcome → Type 0) → Status → Type 0
+abbrev pub OfOpenModule : (held : Option AcceptedModule) → (Checks : AcceptedModule → Status → Type 0)
+    → (Leaves : Outcome → Type 0) → Status → Type 0
 OfOpenModule None Checks Leaves status = Leaves no_outcome × (status ≡ NotOpen)
 OfOpenModule (Some accepted) Checks Leaves status = Checks accepted status

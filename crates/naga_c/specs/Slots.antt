@@ -37,8 +37,13 @@ pub data HasNoSlots (infos : List TypeInfo) (ty : ℕ) (status : Status) : Type 
 -- a call on a module wrote `slots` and `outcome` and ended with `status`: the slots that a value of the type of index
 -- `ty` uses from the byte `offset` on, if the module is accepted and hosts may share such values, else 0
 pub data ChecksSlots (subject : Subject) (ty offset slots : ℕ) (outcome : Outcome) (status : Status) : Type 0 where
-  written : (infos : List TypeInfo) (lists : ModuleInfoLists) → Accepts full_resolves subject.«module» (settings_in subject) infos lists → IsShareable infos ty
-      → AreSlotsOf subject.«module» ty offset (record { 0 = slots }) → outcome ≡ counts_of subject.«module» → status ≡ Done → ChecksSlots subject ty offset slots outcome status
-  none : (infos : List TypeInfo) (lists : ModuleInfoLists) → Accepts full_resolves subject.«module» (settings_in subject) infos lists → HasNoSlots infos ty status
+  written : (infos : List TypeInfo) (lists : ModuleInfoLists)
+      → Accepts full_resolves subject.«module» (settings_in subject) infos lists → IsShareable infos ty
+      → AreSlotsOf subject.«module» ty offset (record { 0 = slots }) → outcome ≡ counts_of subject.«module»
+      → status ≡ Done → ChecksSlots subject ty offset slots outcome status
+  none : (infos : List TypeInfo) (lists : ModuleInfoLists)
+      → Accepts full_resolves subject.«module» (settings_in subject) infos lists → HasNoSlots infos ty status
       → slots ≡ 0 → outcome ≡ counts_of subject.«module» → ChecksSlots subject ty offset slots outcome status
-  not_accepted : IsNotAccepted subject.«module» (settings_in subject) (λ refused. (slots ≡ 0) × (outcome ≡ refused)) status → ChecksSlots subject ty offset slots outcome status
+  not_accepted : IsNotAccepted subject.«module» (settings_in subject)
+      (λ refused. (slots ≡ 0) × (outcome ≡ refused)) status
+      → ChecksSlots subject ty offset slots outcome status

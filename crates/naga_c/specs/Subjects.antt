@@ -7,7 +7,7 @@ use Rattle.naga_text.specs.declared.text.Contents.{Contents as TextContents}
 use Rattle.naga_text.specs.declared.text.TextError.{TextError}
 use Rattle.naga_text.specs.declared.text.TextError.TheVariants as text
 use Rattle.naga_words.specs.Words.{IsFirstUnreadable, IsWords}
-use Rattle.naga_words.specs.declared.draft.Contents.{Contents}
+use Rattle.naga_draft.specs.declared.draft.Contents.{Contents}
 use Rattle.naga_words.specs.declared.reader.WordsError.{WordsError}
 use Rattle.naga_words.specs.declared.reader.WordsError.TheVariants as words
 use Rattle.naga_c.specs.Options.{Allow, AreKnown, AreWithin, IsTextWithin, subject_of}
@@ -19,8 +19,10 @@ use Rattle.naga_c.specs.declared.subject.Subject.{Subject}
 
 -- what came of reading something under known options and within their limits: what it says is taken if `Reads` holds
 -- of a module and settings, and `Stops` of where it can't be read
-abbrev pub IsReadTo : OptionsType → (Reads : Module → Said → Type 0) → (Stops : ℕ → Type 0) → Result Subject NoSubject → Type 0
-IsReadTo options Reads Stops (Ok subject) = (m : Module) × (said : Said) × Reads m said × Allow options said × (subject ≡ subject_of options m said)
+abbrev pub IsReadTo : OptionsType → (Reads : Module → Said → Type 0) → (Stops : ℕ → Type 0) → Result Subject NoSubject
+    → Type 0
+IsReadTo options Reads Stops (Ok subject) =
+    (m : Module) × (said : Said) × Reads m said × Allow options said × (subject ≡ subject_of options m said)
 IsReadTo options Reads Stops (Err Settings) = (m : Module) × (said : Said) × Reads m said × (¬ (Allow options said))
 IsReadTo options Reads Stops (Err (Unreadable at)) = Stops at
 IsReadTo options Reads Stops (Err OutOfMemory) = ⊤
@@ -36,16 +38,22 @@ pub data IsSubject (options : OptionsType) (Within : Type 0) (Reads : Module →
 
 -- words say the module `m` and the settings `said`
 abbrev pub WordsSay : List ℕ → Module → Said → Type 0
-WordsSay words m said = IsWords words (record { «module» = m; flags = said.flags; capabilities = said.capabilities; resolved = said.resolved })
+WordsSay words m said =
+    IsWords words
+    (record { «module» = m; flags = said.flags; capabilities = said.capabilities; resolved = said.resolved })
 
 -- a text says the module `m` and the settings `said`
 abbrev pub TextSays : List ℕ → Module → Said → Type 0
-TextSays input m said = IsText (lines_of input) (record { «module» = m; flags = said.flags; capabilities = said.capabilities; resolved = said.resolved })
+TextSays input m said =
+    IsText (lines_of input)
+    (record { «module» = m; flags = said.flags; capabilities = said.capabilities; resolved = said.resolved })
 
 -- what came of words that a call was given with `options`
 abbrev pub IsSubjectOfWords : OptionsType → List ℕ → Result Subject NoSubject → Type 0
-IsSubjectOfWords options words result = IsSubject options (AreWithin options words) (WordsSay words) (IsFirstUnreadable words) result
+IsSubjectOfWords options words result =
+    IsSubject options (AreWithin options words) (WordsSay words) (IsFirstUnreadable words) result
 
 -- what came of a text that a call was given with `options`
 abbrev pub IsSubjectOfText : OptionsType → List ℕ → Result Subject NoSubject → Type 0
-IsSubjectOfText options input result = IsSubject options (IsTextWithin options input) (TextSays input) (IsFirstUnreadableLine (lines_of input)) result
+IsSubjectOfText options input result =
+    IsSubject options (IsTextWithin options input) (TextSays input) (IsFirstUnreadableLine (lines_of input)) result

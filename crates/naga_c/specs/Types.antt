@@ -52,15 +52,22 @@ rows_of (info ∷ infos) (layout ∷ layouts) = type_row info layout ∷ rows_of
 -- a call on an accepted module `m`, whose types have `infos`, found the buffer `old` and left `new`, an outcome and a
 -- status: the rows of all types if the buffer has room for them; if it has no element they are not wanted
 pub data ReportsTypes (m : Module) (infos : List TypeInfo) (old new : List TypeRow) (outcome : Outcome) (status : Status) : Type 0 where
-  unwanted : old ≡ [] → LeavesBuffer old new outcome (counts_of m) → status ≡ Done → ReportsTypes m infos old new outcome status
-  short : 0 < length old → length old < length m.types → LeavesBuffer old new outcome (counts_of m) → status ≡ Room → ReportsTypes m infos old new outcome status
-  written : length m.types ≤ length old → (layouts : List TypeLayout) → AreLayouts (global_lists m) layouts → BeginsWith (rows_of infos layouts) old new
-      → outcome ≡ record (counts_of m) { written = length m.types } → status ≡ Done → ReportsTypes m infos old new outcome status
-  no_memory : LeavesBuffer old new outcome no_outcome → status ≡ OutOfMemory → ReportsTypes m infos old new outcome status
+  unwanted : old ≡ [] → LeavesBuffer old new outcome (counts_of m) → status ≡ Done
+      → ReportsTypes m infos old new outcome status
+  short : 0 < length old → length old < length m.types → LeavesBuffer old new outcome (counts_of m) → status ≡ Room
+      → ReportsTypes m infos old new outcome status
+  written : length m.types ≤ length old → (layouts : List TypeLayout) → AreLayouts (global_lists m) layouts
+      → BeginsWith (rows_of infos layouts) old new
+      → outcome ≡ record (counts_of m) { written = length m.types } → status ≡ Done
+      → ReportsTypes m infos old new outcome status
+  no_memory : LeavesBuffer old new outcome no_outcome → status ≡ OutOfMemory
+      → ReportsTypes m infos old new outcome status
 
 -- a call on a module found the buffer `old` and left `new`, an outcome and a status: the rows of the types of the
 -- module if it is accepted, else its refusal
 pub data ChecksTypes (subject : Subject) (old new : List TypeRow) (outcome : Outcome) (status : Status) : Type 0 where
-  accepted : (infos : List TypeInfo) (lists : ModuleInfoLists) → Accepts full_resolves subject.«module» (settings_in subject) infos lists
+  accepted : (infos : List TypeInfo) (lists : ModuleInfoLists)
+      → Accepts full_resolves subject.«module» (settings_in subject) infos lists
       → ReportsTypes subject.«module» infos old new outcome status → ChecksTypes subject old new outcome status
-  not_accepted : IsNotAccepted subject.«module» (settings_in subject) (LeavesBuffer old new outcome) status → ChecksTypes subject old new outcome status
+  not_accepted : IsNotAccepted subject.«module» (settings_in subject) (LeavesBuffer old new outcome) status
+      → ChecksTypes subject old new outcome status

@@ -55,7 +55,8 @@ varying_error_values (varying_error.IncompleteBlendSrcUsage blend_src) = blend_s
 -- the values of why a width is refused
 abbrev pub width_error_values : WidthError → List ℕ
 width_error_values (width_error.Invalid kind width) = scalar_kind_number kind ∷ width ∷ []
-width_error_values (width_error.MissingCapability name flag) = let scalar = scalar_named name in scalar_kind_number scalar.kind ∷ scalar.width ∷ capability_named flag ∷ []
+width_error_values (width_error.MissingCapability name flag) =
+    let scalar = scalar_named name in scalar_kind_number scalar.kind ∷ scalar.width ∷ capability_named flag ∷ []
 width_error_values width_error.Abstract = []
 
 -- the values of why a value can't be composed
@@ -78,7 +79,8 @@ type_error_values (type_error.InvalidData ty) = ty ∷ []
 type_error_values (type_error.InvalidArrayBaseType base) = base ∷ []
 type_error_values type_error.MatrixElementNotFloat = []
 type_error_values (type_error.UnsupportedSpecializedArrayLength constant) = constant ∷ []
-type_error_values (type_error.UnsupportedImageType dim arrayed class) = dimension_number dim ∷ bool_number arrayed ∷ class_number class ∷ class_first class ∷ class_second class ∷ []
+type_error_values (type_error.UnsupportedImageType dim arrayed class) =
+    dimension_number dim ∷ bool_number arrayed ∷ class_number class ∷ class_first class ∷ class_second class ∷ []
 type_error_values (type_error.InvalidArrayStride stride expected) = stride ∷ expected ∷ []
 type_error_values (type_error.InvalidDynamicArray _ ty) = ty ∷ []
 type_error_values (type_error.BindingArrayBaseTypeNotStruct base) = base ∷ []
@@ -94,29 +96,19 @@ type_error_values type_error.OutOfMemory = []
 
 -- the values of why a global expression is refused
 abbrev pub const_expression_error_values : ConstExpressionError → List ℕ
-const_expression_error_values const_expression_error.NonConstOrOverride = []
-const_expression_error_values const_expression_error.NonFullyEvaluatedConst = []
 const_expression_error_values (const_expression_error.Compose error) = compose_error_values error
 const_expression_error_values (const_expression_error.InvalidSplatType operand) = operand ∷ []
-const_expression_error_values (const_expression_error.Type_ _) = []
 const_expression_error_values (const_expression_error.Literal error) = literal_error_values error
 const_expression_error_values (const_expression_error.Width error) = width_error_values error
+const_expression_error_values _ = []
 
 -- the values of why an override is refused
 abbrev pub override_error_values : OverrideError → List ℕ
-override_error_values override_error.MissingNameAndID = []
-override_error_values override_error.DuplicateID = []
-override_error_values override_error.InitializerExprType = []
-override_error_values override_error.InvalidType = []
-override_error_values override_error.NonConstructibleType = []
-override_error_values override_error.TypeNotScalar = []
-override_error_values override_error.NotAllowed = []
-override_error_values override_error.UninitializedOverride = []
 override_error_values (override_error.ConstExpression handle source) = handle ∷ const_expression_error_values source
+override_error_values _ = []
 
 -- the values of why an expression of a function is refused
 abbrev pub expression_error_values : ExpressionError → List ℕ
-expression_error_values expression_error.NotInScope = []
 expression_error_values (expression_error.InvalidBaseType operand) = operand ∷ []
 expression_error_values (expression_error.InvalidIndexType operand) = operand ∷ []
 expression_error_values (expression_error.NegativeIndex operand) = operand ∷ []
@@ -127,55 +119,44 @@ expression_error_values (expression_error.InvalidArrayType operand) = operand �
 expression_error_values (expression_error.InvalidRayQueryType operand) = operand ∷ []
 expression_error_values (expression_error.InvalidSplatType operand) = operand ∷ []
 expression_error_values (expression_error.InvalidVectorType operand) = operand ∷ []
-expression_error_values (expression_error.InvalidSwizzleComponent component size) = component_number component ∷ components size ∷ []
+expression_error_values (expression_error.InvalidSwizzleComponent component size) =
+    component_number component ∷ components size ∷ []
 expression_error_values (expression_error.Compose error) = compose_error_values error
 expression_error_values (expression_error.InvalidZeroValue ty) = ty ∷ []
-expression_error_values (expression_error.IndexableLength _) = []
 expression_error_values (expression_error.InvalidUnaryOperandType op operand) = unary_operator_number op ∷ operand ∷ []
-expression_error_values (expression_error.InvalidBinaryOperandTypes op lhs _ rhs _) = binary_operator_number op ∷ lhs ∷ rhs ∷ []
-expression_error_values (expression_error.SelectValuesTypeMismatch _ _) = []
-expression_error_values (expression_error.SelectConditionNotABool _) = []
+expression_error_values (expression_error.InvalidBinaryOperandTypes op lhs _ rhs _) =
+    binary_operator_number op ∷ lhs ∷ rhs ∷ []
 expression_error_values (expression_error.InvalidBooleanVector operand) = operand ∷ []
 expression_error_values (expression_error.InvalidFloatArgument operand) = operand ∷ []
-expression_error_values (expression_error.Type_ _) = []
-expression_error_values expression_error.ExpectedGlobalVariable = []
-expression_error_values expression_error.ExpectedGlobalOrArgument = []
 expression_error_values (expression_error.ExpectedBindingArrayType ty) = ty ∷ []
 expression_error_values (expression_error.ExpectedImageType ty) = ty ∷ []
 expression_error_values (expression_error.ExpectedSamplerType ty) = ty ∷ []
-expression_error_values (expression_error.InvalidImageClass class) = class_number class ∷ class_first class ∷ class_second class ∷ []
+expression_error_values (expression_error.InvalidImageClass class) =
+    class_number class ∷ class_first class ∷ class_second class ∷ []
 expression_error_values (expression_error.InvalidImageFormat format) = format.0 ∷ []
 expression_error_values (expression_error.InvalidImageStorageAccess access) = access_number access ∷ []
-expression_error_values expression_error.InvalidDerivative = []
-expression_error_values expression_error.InvalidImageArrayIndex = []
-expression_error_values expression_error.InvalidImageSampleSelector = []
-expression_error_values expression_error.MissingImageSampleSelector = []
-expression_error_values expression_error.InvalidImageLevelSelector = []
-expression_error_values expression_error.MissingImageLevelSelector = []
 expression_error_values (expression_error.InvalidImageArrayIndexType operand) = operand ∷ []
 expression_error_values (expression_error.InvalidImageOtherIndexType operand) = operand ∷ []
 expression_error_values (expression_error.InvalidImageCoordinateType dim operand) = dimension_number dim ∷ operand ∷ []
-expression_error_values (expression_error.ComparisonSamplingMismatch image sampler has_ref) = class_number image ∷ class_first image ∷ class_second image ∷ bool_number sampler ∷ bool_number has_ref ∷ []
-expression_error_values expression_error.InvalidSampleOffsetExprType = []
+expression_error_values (expression_error.ComparisonSamplingMismatch image sampler has_ref) =
+    class_number image ∷ class_first image ∷ class_second image ∷ bool_number sampler ∷ bool_number has_ref ∷ []
 expression_error_values (expression_error.InvalidSampleOffset dim operand) = dimension_number dim ∷ operand ∷ []
 expression_error_values (expression_error.InvalidDepthReference operand) = operand ∷ []
-expression_error_values expression_error.InvalidDepthSampleLevel = []
-expression_error_values expression_error.InvalidGatherLevel = []
 expression_error_values (expression_error.InvalidGatherComponent component) = component_number component ∷ []
 expression_error_values (expression_error.InvalidGatherDimension dim) = dimension_number dim ∷ []
 expression_error_values (expression_error.InvalidSampleLevelExactType operand) = operand ∷ []
 expression_error_values (expression_error.InvalidSampleLevelBiasType operand) = operand ∷ []
 expression_error_values (expression_error.InvalidSampleLevelBiasDimension dim) = dimension_number dim ∷ []
-expression_error_values (expression_error.InvalidSampleLevelGradientType dim operand) = dimension_number dim ∷ operand ∷ []
-expression_error_values (expression_error.InvalidSampleClampCoordinateToEdge _) = []
-expression_error_values expression_error.InvalidCastArgument = []
+expression_error_values (expression_error.InvalidSampleLevelGradientType dim operand) =
+    dimension_number dim ∷ operand ∷ []
 expression_error_values (expression_error.WrongArgumentCount function) = math_function_number function ∷ []
-expression_error_values (expression_error.InvalidArgumentType function index argument) = math_function_number function ∷ index ∷ argument ∷ []
+expression_error_values (expression_error.InvalidArgumentType function index argument) =
+    math_function_number function ∷ index ∷ argument ∷ []
 expression_error_values (expression_error.InvalidWorkGroupUniformLoadResultType ty) = ty ∷ []
 expression_error_values (expression_error.MissingCapabilities capabilities) = capabilities.0 ∷ []
 expression_error_values (expression_error.Literal error) = literal_error_values error
-expression_error_values (expression_error.UnsupportedWidth function kind width) = math_function_number function ∷ scalar_kind_number kind ∷ width ∷ []
+expression_error_values (expression_error.UnsupportedWidth function kind width) =
+    math_function_number function ∷ scalar_kind_number kind ∷ width ∷ []
 expression_error_values (expression_error.InvalidCooperativeOperand operand) = operand ∷ []
 expression_error_values (expression_error.ShiftAmountTooLarge _ rhs) = rhs ∷ []
-expression_error_values expression_error.DivideByZero = []
-expression_error_values expression_error.OutOfMemory = []
+expression_error_values _ = []

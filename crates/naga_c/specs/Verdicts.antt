@@ -3,14 +3,11 @@ use Rattle.std.specs.Prelude.{[], ◌∷◌, length}
 use Rattle.naga_ir.specs.declared.ir.Module.{Module}
 use Rattle.naga_valid.specs.State.{Settings}
 use Rattle.naga_valid.specs.declared.error.ValidationError.{ValidationError}
-use Rattle.naga_valid.specs.declared.error.ValidationError.TheVariants.{InvalidHandle, Layouter, Type_, ConstExpression, ArraySizeError, Constant, Override, Corrupted, OutOfMemory}
 use Rattle.naga_c.specs.declared.subject.Subject.{Subject}
 use Rattle.naga_c.specs.Refusals.{refusal_of}
 use Rattle.naga_c.specs.declared.results.Outcome.{Outcome}
-use Rattle.naga_c.specs.declared.status.Status.{Status}
 use Rattle.naga_c.specs.declared.subject.NoSubject.{NoSubject}
 use Rattle.naga_c.specs.declared.subject.NoSubject.TheVariants as none
-use Rattle.naga_c.specs.declared.status.Status.TheVariants as status
 
 -- nothing was found out
 abbrev pub no_outcome : Outcome
@@ -30,15 +27,16 @@ no_outcome = record {
 
 -- what is written by a call that has no module to validate
 abbrev pub outcome_without : NoSubject → Outcome
-outcome_without none.Options = no_outcome
-outcome_without none.Limit = no_outcome
 outcome_without (none.Unreadable at) = record no_outcome { index = at }
-outcome_without none.Settings = no_outcome
-outcome_without none.OutOfMemory = no_outcome
+outcome_without _ = no_outcome
 
 -- how many types, functions and entry points a module has
 abbrev pub counts_of : Module → Outcome
-counts_of m = record no_outcome { types = length m.types; functions = length m.functions; entry_points = length m.entry_points }
+counts_of m = record no_outcome {
+  types = length m.types;
+  functions = length m.functions;
+  entry_points = length m.entry_points;
+}
 
 -- the settings in force
 abbrev pub settings_in : Subject → Settings
@@ -46,4 +44,11 @@ settings_in subject = record { flags = subject.flags; capabilities = subject.cap
 
 -- what is written of a module that is refused with an error
 abbrev pub refused_by : Module → ValidationError → Outcome
-refused_by m e = let r = refusal_of e in record (counts_of m) { index = r.index; values = r.values.items; stage = r.stage; kind = r.kind; errors = r.errors; value_count = r.values.count }
+refused_by m e = let r = refusal_of e in record (counts_of m) {
+  index = r.index;
+  values = r.values.items;
+  stage = r.stage;
+  kind = r.kind;
+  errors = r.errors;
+  value_count = r.values.count;
+}

@@ -8,7 +8,7 @@ use Rattle.naga_ir.specs.declared.types.«Type».{«Type»}
 use Rattle.naga_ir.specs.declared.types.ArraySize.{ArraySize}
 use Rattle.naga_ir.specs.declared.types.ArraySize.TheVariants as size
 use Rattle.naga_ir.specs.declared.types.TypeInner.{TypeInner}
-use Rattle.naga_ir.specs.declared.types.TypeInner.TheVariants.{Scalar, Vector, Matrix, CooperativeMatrix, Atomic, Pointer, ValuePointer, Array, Struct, Image, Sampler, AccelerationStructure, RayQuery, BindingArray}
+use Rattle.naga_ir.specs.declared.types.TypeInner.TheVariants.{Vector, Matrix, Pointer, ValuePointer, Array, Struct, BindingArray}
 use Rattle.naga_info.specs.Stages.{every_stage}
 use Rattle.naga_info.specs.Surroundings.{ExpressionSurroundings, form_at}
 use Rattle.naga_info.specs.Words.{is_integer_scalar}
@@ -33,15 +33,7 @@ has_parts (Array base size stride) = true
 has_parts (BindingArray base size) = true
 has_parts (Pointer base space) = true
 has_parts (ValuePointer (Some size) scalar space) = true
-has_parts (ValuePointer None scalar space) = false
-has_parts (Scalar scalar) = false
-has_parts (CooperativeMatrix columns rows scalar role) = false
-has_parts (Atomic scalar) = false
-has_parts (Struct members span) = false
-has_parts (Image dim arrayed class) = false
-has_parts (Sampler comparison) = false
-has_parts (AccelerationStructure vertex_return) = false
-has_parts (RayQuery vertex_return) = false
+has_parts _ = false
 
 -- the lengths of arrays, by whether overrides must have their values
 abbrev pub lengths : Boolean → GlobalLists → LengthOfArray
@@ -56,7 +48,8 @@ index_error base value (Ok Dynamic) = None
 index_error base value (Err error) = Some (refusal.IndexableLength error)
 
 -- the error of an index, unless it is not a constant, or a number that is allowed
-abbrev pub constant_index_error : ℕ → ℕ → Result IndexableLength IndexableLengthError → Result ℕ ConstValueError → Option ExpressionError
+abbrev pub constant_index_error : ℕ → ℕ → Result IndexableLength IndexableLengthError → Result ℕ ConstValueError
+    → Option ExpressionError
 constant_index_error base index length (Ok value) = index_error base value length
 constant_index_error base index length (Err Negative) = Some (refusal.NegativeIndex base)
 constant_index_error base index length (Err InvalidType) = Some (refusal.InvalidIndexType index)
@@ -64,18 +57,20 @@ constant_index_error base index length (Err NonConst) = None
 
 -- the conditions of an access to a base of this length: the base has parts, the index is an integer, and a
 -- constant index is within the base
-abbrev pub access_checks : ExpressionSurroundings → ℕ → ℕ → Result IndexableLength IndexableLengthError → List (Option ExpressionError)
+abbrev pub access_checks : ExpressionSurroundings → ℕ → ℕ → Result IndexableLength IndexableLengthError
+    → List (Option ExpressionError)
 access_checks s base index length =
     require (has_parts (form_at s base)) (refusal.InvalidBaseType base) ∷
     require (is_integer_scalar (form_at s index)) (refusal.InvalidIndexType index) ∷
-    constant_index_error base index length (index_of (global_lists s.«module») (slice_get s.function.expressions index)) ∷
-    []
+    constant_index_error base index length
+    (index_of (global_lists s.«module») (slice_get s.function.expressions index)) ∷ []
 
 -- the rule of an access, by the length of its base
 abbrev pub IsAccessRule : ExpressionSurroundings → ℕ → ℕ → Result ShaderStages ExpressionError → Type 0
 IsAccessRule s base index rule =
     let g = global_lists s.«module» in
-    (length : Result IndexableLength IndexableLengthError) × IsLength g (lengths s.resolved g) (form_at s base) length × (rule ≡ first_error_or (access_checks s base index length) every_stage)
+    (length : Result IndexableLength IndexableLengthError) × IsLength g (lengths s.resolved g) (form_at s base) length
+    × (rule ≡ first_error_or (access_checks s base index length) every_stage)
 
 -- the limit of the indexes into an array: its count if that is written, and else the greatest that there is
 abbrev pub count_limit : ArraySize → ℕ
@@ -87,19 +82,11 @@ count_limit size.Dynamic = largest_u32
 abbrev pub part_limit : TypeInner → Option ℕ
 part_limit (Vector size scalar) = Some (components size)
 part_limit (ValuePointer (Some size) scalar space) = Some (components size)
-part_limit (ValuePointer None scalar space) = None
 part_limit (Matrix columns rows scalar) = Some (components columns)
 part_limit (Array base size stride) = Some (count_limit size)
 part_limit (BindingArray base size) = Some largest_u32
 part_limit (Struct members span) = Some (length members)
-part_limit (Pointer base space) = None
-part_limit (Scalar scalar) = None
-part_limit (CooperativeMatrix columns rows scalar role) = None
-part_limit (Atomic scalar) = None
-part_limit (Image dim arrayed class) = None
-part_limit (Sampler comparison) = None
-part_limit (AccelerationStructure vertex_return) = None
-part_limit (RayQuery vertex_return) = None
+part_limit _ = None
 
 -- the limit of the known indexes into a value of a type that may not be there
 abbrev pub part_limit_in : Option TypeInner → Option ℕ
@@ -118,4 +105,5 @@ known_index_error base index (Some limit) = require (ltb index limit) (refusal.I
 
 -- the rule of an access at a known index
 abbrev pub access_index_rule : ExpressionSurroundings → ℕ → ℕ → Result ShaderStages ExpressionError
-access_index_rule s base index = ok_unless (known_index_error base index (index_limit s.«module».types (form_at s base))) every_stage
+access_index_rule s base index =
+    ok_unless (known_index_error base index (index_limit s.«module».types (form_at s base))) every_stage

@@ -15,7 +15,7 @@ use Rattle.naga_ir.specs.declared.expression.Expression.TheVariants as form
 use Rattle.naga_ir.specs.declared.expression.Literal.{Literal}
 use Rattle.naga_ir.specs.declared.types.«Type».{«Type»}
 use Rattle.naga_ir.specs.declared.types.TypeInner.{TypeInner}
-use Rattle.naga_ir.specs.declared.types.TypeInner.TheVariants.{Scalar, Vector, Matrix, CooperativeMatrix, Atomic, Pointer, ValuePointer, Array, Struct, Image, Sampler, AccelerationStructure, RayQuery, BindingArray}
+use Rattle.naga_ir.specs.declared.types.TypeInner.TheVariants.{Scalar}
 use Rattle.naga_types.specs.Composing.{compose_rule, resolutions_at}
 use Rattle.naga_types.specs.Checks.{first_error_or, when, require}
 use Rattle.naga_typing.specs.Kinds.{is_const, is_const_or_override}
@@ -34,7 +34,8 @@ pub record ConstSurroundings : Type 0 where
 
 -- what the validation of a global expression depends on in the context `ctx` of expressions and the context `gctx` of
 -- the module, by the types and the kinds of the global expressions
-abbrev pub surroundings : {T : Type 0} → ExprContext T → GlobalCtx → List TypeResolution → List ExpressionKind → ConstSurroundings
+abbrev pub surroundings : {T : Type 0} → ExprContext T → GlobalCtx → List TypeResolution → List ExpressionKind
+    → ConstSurroundings
 surroundings ctx gctx resolutions kinds = record {
   capabilities = ctx.capabilities.0;
   resolved = ctx.overrides_resolved;
@@ -60,20 +61,7 @@ refused_inside wrap (Err error) = Some (wrap error)
 -- whether a type is there and is a scalar
 abbrev pub is_scalar : Option TypeInner → Boolean
 is_scalar (Some (Scalar scalar)) = true
-is_scalar (Some (Vector size scalar)) = false
-is_scalar (Some (Matrix columns rows scalar)) = false
-is_scalar (Some (CooperativeMatrix columns rows scalar role)) = false
-is_scalar (Some (Atomic scalar)) = false
-is_scalar (Some (Pointer base space)) = false
-is_scalar (Some (ValuePointer size scalar space)) = false
-is_scalar (Some (Array base size stride)) = false
-is_scalar (Some (Struct members span)) = false
-is_scalar (Some (Image dim arrayed class)) = false
-is_scalar (Some (Sampler comparison)) = false
-is_scalar (Some (AccelerationStructure vertex_return)) = false
-is_scalar (Some (RayQuery vertex_return)) = false
-is_scalar (Some (BindingArray base size)) = false
-is_scalar None = false
+is_scalar _ = false
 
 -- the error, unless the value of expression `e` is known before the shader runs
 abbrev pub not_const_error : ConstSurroundings → ℕ → Option ConstExpressionError
@@ -85,7 +73,8 @@ literal_error s value = refused_inside refusal.Literal (literal_rule s.capabilit
 
 -- the error, unless a value of the type of index `ty` may be composed of `components`
 abbrev pub composition_error : ConstSurroundings → ℕ → List ℕ → Option ConstExpressionError
-composition_error s ty components = refused_inside refusal.Compose (compose_rule s.types ty (resolutions_at components s.resolutions))
+composition_error s ty components =
+    refused_inside refusal.Compose (compose_rule s.types ty (resolutions_at components s.resolutions))
 
 -- the error, unless `value`, the operand of a splat, is a scalar
 abbrev pub splat_error : ConstSurroundings → ℕ → Option ConstExpressionError
@@ -103,35 +92,7 @@ form_checks s e (form.Constant c) = []
 form_checks s e (form.ZeroValue ty) = []
 form_checks s e (form.Compose ty components) = composition_error s ty components ∷ []
 form_checks s e (form.Splat size value) = splat_error s value ∷ []
-form_checks s e (form.Override o) = evaluation_error s e ∷ []
-form_checks s e (form.Access base index) = evaluation_error s e ∷ []
-form_checks s e (form.AccessIndex base index) = evaluation_error s e ∷ []
-form_checks s e (form.Swizzle size vector pattern) = evaluation_error s e ∷ []
-form_checks s e (form.FunctionArgument index) = evaluation_error s e ∷ []
-form_checks s e (form.GlobalVariable v) = evaluation_error s e ∷ []
-form_checks s e (form.LocalVariable v) = evaluation_error s e ∷ []
-form_checks s e (form.Load pointer) = evaluation_error s e ∷ []
-form_checks s e (form.ImageSample image sampler gather coordinate array_index offset level depth_ref clamp_to_edge) = evaluation_error s e ∷ []
-form_checks s e (form.ImageLoad image coordinate array_index sample level) = evaluation_error s e ∷ []
-form_checks s e (form.ImageQuery image query) = evaluation_error s e ∷ []
-form_checks s e (form.Unary op expr) = evaluation_error s e ∷ []
-form_checks s e (form.Binary op left right) = evaluation_error s e ∷ []
-form_checks s e (form.Select condition accept reject) = evaluation_error s e ∷ []
-form_checks s e (form.Derivative expr) = evaluation_error s e ∷ []
-form_checks s e (form.Relational fun argument) = evaluation_error s e ∷ []
-form_checks s e (form.Math fun arg arg1 arg2 arg3) = evaluation_error s e ∷ []
-form_checks s e (form.As expr kind convert) = evaluation_error s e ∷ []
-form_checks s e (form.CallResult f) = evaluation_error s e ∷ []
-form_checks s e (form.AtomicResult ty comparison) = evaluation_error s e ∷ []
-form_checks s e (form.WorkGroupUniformLoadResult ty) = evaluation_error s e ∷ []
-form_checks s e (form.ArrayLength expr) = evaluation_error s e ∷ []
-form_checks s e form.RayQueryProceedResult = evaluation_error s e ∷ []
-form_checks s e (form.RayQueryGetIntersection query committed) = evaluation_error s e ∷ []
-form_checks s e (form.RayQueryVertexPositions query committed) = evaluation_error s e ∷ []
-form_checks s e form.SubgroupBallotResult = evaluation_error s e ∷ []
-form_checks s e (form.SubgroupOperationResult ty) = evaluation_error s e ∷ []
-form_checks s e (form.CooperativeLoad pointer stride) = evaluation_error s e ∷ []
-form_checks s e (form.CooperativeMultiplyAdd a b c) = evaluation_error s e ∷ []
+form_checks s e _ = evaluation_error s e ∷ []
 
 -- a global expression is accepted if its value is known before the shader runs, and it passes the checks of its variant
 abbrev pub const_expression_rule : ConstSurroundings → ℕ → Expression → Result (Unit {0}) ConstExpressionError

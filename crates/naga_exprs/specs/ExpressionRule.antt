@@ -48,9 +48,20 @@ IsRule t s (form.WorkGroupUniformLoadResult ty) rule = rule ≡ workgroup_load_r
 IsRule t s (form.ArrayLength expr) rule = rule ≡ array_length_rule s expr
 IsRule t s (form.ImageSample image sampler gather coordinate array_index offset level depth_ref clamp_to_edge) rule =
     IsImageSampleRule s
-    (record { image = image; sampler = sampler; gather = gather; coordinate = coordinate; array_index = array_index; offset = offset; level = level; depth_ref = depth_ref; clamp_to_edge = clamp_to_edge })
+    (record {
+      image = image;
+      sampler = sampler;
+      gather = gather;
+      coordinate = coordinate;
+      array_index = array_index;
+      offset = offset;
+      level = level;
+      depth_ref = depth_ref;
+      clamp_to_edge = clamp_to_edge;
+    })
     rule
-IsRule t s (form.ImageLoad image coordinate array_index sample level) rule = rule ≡ image_load_rule s image coordinate array_index sample level
+IsRule t s (form.ImageLoad image coordinate array_index sample level) rule =
+    rule ≡ image_load_rule s image coordinate array_index sample level
 IsRule t s (form.ImageQuery image query) rule = rule ≡ image_query_rule s image query
 IsRule t s (form.Math fun arg arg1 arg2 arg3) rule = rule ≡ math_rule t s fun arg arg1 arg2 arg3
 IsRule t s form.RayQueryProceedResult rule = rule ≡ Ok every_stage
@@ -62,8 +73,10 @@ IsRule t s (form.CooperativeLoad pointer stride) rule = rule ≡ cooperative_loa
 IsRule t s (form.CooperativeMultiplyAdd a b c) rule = rule ≡ cooperative_multiply_add_rule s a b c
 
 -- what a call returns for an expression: what the rule says, out of memory aside
-abbrev pub IsExpressionResult : MathTyping → ExpressionSurroundings → Expression → Result ShaderStages ExpressionError → Type 0
-IsExpressionResult t s x result = (rule : Result ShaderStages ExpressionError) × IsRule t s x rule × IsRuleResult rule result
+abbrev pub IsExpressionResult : MathTyping → ExpressionSurroundings → Expression → Result ShaderStages ExpressionError
+    → Type 0
+IsExpressionResult t s x result =
+    (rule : Result ShaderStages ExpressionError) × IsRule t s x rule × IsRuleResult rule result
 
 -- whether an expression is of a variant that functions of shaders mostly consist of; the rules of these let
 -- every stage use it, or refuse it
@@ -84,21 +97,6 @@ is_frequent (form.Load pointer) = true
 is_frequent (form.Unary op expr) = true
 is_frequent (form.Binary op left right) = true
 is_frequent (form.Select condition accept reject) = true
-is_frequent (form.Derivative expr) = false
-is_frequent (form.Relational fun argument) = false
 is_frequent (form.As expr kind convert) = true
-is_frequent (form.CallResult f) = false
-is_frequent (form.AtomicResult ty comparison) = false
-is_frequent (form.WorkGroupUniformLoadResult ty) = false
-is_frequent (form.ArrayLength expr) = false
-is_frequent (form.ImageSample image sampler gather coordinate array_index offset level depth_ref clamp_to_edge) = false
-is_frequent (form.ImageLoad image coordinate array_index sample level) = false
-is_frequent (form.ImageQuery image query) = false
 is_frequent (form.Math fun arg arg1 arg2 arg3) = true
-is_frequent form.RayQueryProceedResult = false
-is_frequent (form.RayQueryGetIntersection query committed) = false
-is_frequent (form.RayQueryVertexPositions query committed) = false
-is_frequent form.SubgroupBallotResult = false
-is_frequent (form.SubgroupOperationResult ty) = false
-is_frequent (form.CooperativeLoad pointer stride) = false
-is_frequent (form.CooperativeMultiplyAdd a b c) = false
+is_frequent _ = false

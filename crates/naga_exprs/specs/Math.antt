@@ -31,11 +31,15 @@ keeps_float16 fun = list_any (of_function.ghosts.eq fun) (QuantizeToF16 ∷ Pack
 
 -- the error of a function that needs a capability, if it is missing
 abbrev pub float16_error : ℕ → MathFunction → Option ExpressionError
-float16_error capabilities fun = when (keeps_float16 fun) (require (has capabilities SHADER_FLOAT16_IN_FLOAT32) (refusal.MissingCapabilities (record { 0 = SHADER_FLOAT16_IN_FLOAT32 })))
+float16_error capabilities fun =
+    when (keeps_float16 fun)
+    (require (has capabilities SHADER_FLOAT16_IN_FLOAT32)
+    (refusal.MissingCapabilities (record { 0 = SHADER_FLOAT16_IN_FLOAT32 })))
 
 -- the error of an argument, given as its index and its operand, unless the function takes the types up to its own
 abbrev pub argument_error : MathTyping → MathFunction → List TypeInner → ℕ × ℕ → Option ExpressionError
-argument_error typing fun types argument = require (typing.accepts fun (take (argument.0 + 1) types)) (refusal.InvalidArgumentType fun argument.0 argument.1)
+argument_error typing fun types argument =
+    require (typing.accepts fun (take (argument.0 + 1) types)) (refusal.InvalidArgumentType fun argument.0 argument.1)
 
 -- the error of the first argument that is refused
 abbrev pub first_argument_error : MathTyping → MathFunction → List TypeInner → List ℕ → Option ExpressionError
@@ -45,16 +49,17 @@ first_argument_error typing fun types given = first (map (argument_error typing 
 abbrev pub argument_checks : MathTyping → MathFunction → List TypeInner → List ℕ → List (Option ExpressionError)
 argument_checks typing fun types given =
     first_argument_error typing fun types given ∷
-    require (leb (typing.least_arguments fun types) (length types)) (refusal.WrongArgumentCount fun) ∷
-    []
+    require (leb (typing.least_arguments fun types) (length types)) (refusal.WrongArgumentCount fun) ∷ []
 
 -- the checks of a function: its capability, that no argument is left out before another, and the arguments
-abbrev pub math_checks : MathTyping → ExpressionSurroundings → MathFunction → ℕ → Option ℕ → Option ℕ → Option ℕ → List (Option ExpressionError)
+abbrev pub math_checks : MathTyping → ExpressionSurroundings → MathFunction → ℕ → Option ℕ → Option ℕ → Option ℕ
+    → List (Option ExpressionError)
 math_checks typing s fun arg arg1 arg2 arg3 =
     float16_error s.capabilities fun ∷
     require (has_no_gap arg1 arg2 arg3) (refusal.WrongArgumentCount fun) ∷
     argument_checks typing fun (map (form_at s) (arguments arg arg1 arg2 arg3)) (arguments arg arg1 arg2 arg3)
 
 -- the rule of a function
-abbrev pub math_rule : MathTyping → ExpressionSurroundings → MathFunction → ℕ → Option ℕ → Option ℕ → Option ℕ → Result ShaderStages ExpressionError
+abbrev pub math_rule : MathTyping → ExpressionSurroundings → MathFunction → ℕ → Option ℕ → Option ℕ → Option ℕ
+    → Result ShaderStages ExpressionError
 math_rule typing s fun arg arg1 arg2 arg3 = first_error_or (math_checks typing s fun arg arg1 arg2 arg3) every_stage

@@ -24,15 +24,21 @@ zero_value_rule s ty = ok_unless (require (has (flags_at s ty) CONSTRUCTIBLE) (r
 
 -- the rule of a composition: the components fit
 abbrev pub composition_rule : ExpressionSurroundings → ℕ → List ℕ → Result ShaderStages ExpressionError
-composition_rule s ty components = ok_unless (refused_inside refusal.Compose (compose_rule s.«module».types ty (resolutions_at components s.types))) every_stage
+composition_rule s ty components =
+    ok_unless
+    (refused_inside refusal.Compose
+    (compose_rule s.«module».types ty (resolutions_at components s.types))) every_stage
 
 -- the rule of a splat: its operand is a scalar
 abbrev pub splat_rule : ExpressionSurroundings → ℕ → Result ShaderStages ExpressionError
-splat_rule s value = ok_unless (require (is_scalar_that (λ scalar. true) (form_at s value)) (refusal.InvalidSplatType value)) every_stage
+splat_rule s value =
+    ok_unless (require (is_scalar_that (λ scalar. true) (form_at s value)) (refusal.InvalidSplatType value)) every_stage
 
 -- the rule of an argument: the function has one of this index
 abbrev pub argument_rule : ExpressionSurroundings → ℕ → Result ShaderStages ExpressionError
-argument_rule s index = ok_unless (require (ltb index (length s.function.arguments)) (refusal.FunctionArgumentDoesntExist index)) every_stage
+argument_rule s index =
+    ok_unless
+    (require (ltb index (length s.function.arguments)) (refusal.FunctionArgumentDoesntExist index)) every_stage
 
 -- the stages that may use a function, and none if nothing is known of it
 abbrev pub stages_in : Option FunctionInfo → ShaderStages
@@ -49,4 +55,7 @@ workgroup_load_flags = union_of (SIZED ∷ CONSTRUCTIBLE ∷ [])
 
 -- the rule of the result of a load for a whole workgroup, which only stages with workgroups may use
 abbrev pub workgroup_load_rule : ExpressionSurroundings → ℕ → Result ShaderStages ExpressionError
-workgroup_load_rule s ty = ok_unless (require (has (flags_at s ty) workgroup_load_flags) (refusal.InvalidWorkGroupUniformLoadResultType ty)) workgroup_stages
+workgroup_load_rule s ty =
+    ok_unless
+    (require (has (flags_at s ty) workgroup_load_flags)
+    (refusal.InvalidWorkGroupUniformLoadResultType ty)) workgroup_stages

@@ -39,7 +39,8 @@ component_index W = 3
 
 -- the error of a component, unless a vector of this size has it
 abbrev pub component_error : VectorSize → SwizzleComponent → Option ExpressionError
-component_error size component = require (ltb (component_index component) (components size)) (refusal.InvalidSwizzleComponent component size)
+component_error size component =
+    require (ltb (component_index component) (components size)) (refusal.InvalidSwizzleComponent component size)
 
 -- the error of the first component that a vector of this size lacks
 abbrev pub first_lacking : VectorSize → List SwizzleComponent → Option ExpressionError
@@ -52,5 +53,7 @@ swizzle_error vector taken pattern None = Some (refusal.InvalidVectorType vector
 swizzle_error vector taken pattern (Some size) = first_lacking size (take (components taken) pattern)
 
 -- the rule of a swizzle
-abbrev pub swizzle_rule : ExpressionSurroundings → VectorSize → ℕ → List SwizzleComponent → Result ShaderStages ExpressionError
-swizzle_rule s taken vector pattern = ok_unless (swizzle_error vector taken pattern (vector_size (form_at s vector))) every_stage
+abbrev pub swizzle_rule : ExpressionSurroundings → VectorSize → ℕ → List SwizzleComponent
+    → Result ShaderStages ExpressionError
+swizzle_rule s taken vector pattern =
+    ok_unless (swizzle_error vector taken pattern (vector_size (form_at s vector))) every_stage

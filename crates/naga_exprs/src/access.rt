@@ -33,15 +33,23 @@ fn has_parts(inner: &TypeInner) -> bool
     ensures { result ≡ rule.has_parts inner.now }
 {
     // naga takes any pointer: what it leads to only matters for a constant index.
-    matches!(
-        inner,
+    match inner {
         TypeInner::Vector { .. }
-            | TypeInner::Matrix { .. }
-            | TypeInner::Array { .. }
-            | TypeInner::BindingArray { .. }
-            | TypeInner::Pointer { .. }
-            | TypeInner::ValuePointer { size: Some(_), .. }
-    )
+        | TypeInner::Matrix { .. }
+        | TypeInner::Array { .. }
+        | TypeInner::BindingArray { .. }
+        | TypeInner::Pointer { .. }
+        | TypeInner::ValuePointer { size: Some(_), .. } => true,
+        TypeInner::Scalar(_)
+        | TypeInner::CooperativeMatrix { .. }
+        | TypeInner::Atomic(_)
+        | TypeInner::ValuePointer { size: None, .. }
+        | TypeInner::Struct { .. }
+        | TypeInner::Image { .. }
+        | TypeInner::Sampler { .. }
+        | TypeInner::AccelerationStructure { .. }
+        | TypeInner::RayQuery { .. } => false,
+    }
 }
 
 /// How many elements of a value can be indexed, by whether overrides must have their values.

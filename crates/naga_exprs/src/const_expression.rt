@@ -15,8 +15,9 @@ use naga_flags::width::check_width;
 use naga_info::const_expression_error::{ConstExpressionError, LiteralError};
 use naga_info::context::ExprContext;
 use naga_info::module_info::ModuleInfo;
-use naga_ir::expression::{Expression, Literal};
+use naga_ir::expression::Literal;
 use naga_ir::handle::Handle;
+use naga_ir::origin::Origin;
 use naga_ir::tags::ExpressionTag;
 use naga_ir::types::TypeInner;
 use naga_ir::unique_arena::UniqueArena;
@@ -117,43 +118,16 @@ fn check_form<T: Typing>(
         (form_checks (surroundings ctx.entry gctx.entry mod_info.now.lists.const_expression_types kinds.now)
         handle x) tt) }
 {
-    match &gctx.global_expressions[handle] {
-        Expression::Literal(literal) => Ok(validate_literal(ctx.capabilities, *literal)?),
-        Expression::Constant(_) | Expression::ZeroValue(_) => Ok(()),
-        Expression::Compose { ty, components } => {
+    let expression = &gctx.global_expressions[handle];
+    match expression.origin() {
+        Origin::Literal(literal) => Ok(validate_literal(ctx.capabilities, literal)?),
+        Origin::Constant(_) | Origin::ZeroValue(_) => Ok(()),
+        Origin::Compose(ty) => {
             let types = mod_info.const_expression_types();
-            Ok(validate_compose_at(*ty, gctx, components.as_slice(), types)?)
+            Ok(validate_compose_at(ty, gctx, expression.components(), types)?)
         }
-        Expression::Splat { value, .. } => check_splat(*value, &mod_info[*value], gctx.types),
-        Expression::Override(_)
-        | Expression::Access { .. }
-        | Expression::AccessIndex { .. }
-        | Expression::Swizzle { .. }
-        | Expression::FunctionArgument(_)
-        | Expression::GlobalVariable(_)
-        | Expression::LocalVariable(_)
-        | Expression::Load { .. }
-        | Expression::ImageSample { .. }
-        | Expression::ImageLoad { .. }
-        | Expression::ImageQuery { .. }
-        | Expression::Unary { .. }
-        | Expression::Binary { .. }
-        | Expression::Select { .. }
-        | Expression::Derivative { .. }
-        | Expression::Relational { .. }
-        | Expression::Math { .. }
-        | Expression::As { .. }
-        | Expression::CallResult(_)
-        | Expression::AtomicResult { .. }
-        | Expression::WorkGroupUniformLoadResult { .. }
-        | Expression::ArrayLength(_)
-        | Expression::RayQueryProceedResult
-        | Expression::RayQueryGetIntersection { .. }
-        | Expression::RayQueryVertexPositions { .. }
-        | Expression::SubgroupBallotResult
-        | Expression::SubgroupOperationResult { .. }
-        | Expression::CooperativeLoad { .. }
-        | Expression::CooperativeMultiplyAdd { .. } => {
+        Origin::Splat(value) => check_splat(value, &mod_info[value], gctx.types),
+        Origin::Override(_) | Origin::Computed | Origin::Runtime => {
             check_evaluated(ctx.overrides_resolved, handle, kinds)
         }
     }

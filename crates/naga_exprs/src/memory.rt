@@ -23,12 +23,26 @@ fn can_load(context: FunctionContext<'_>, inner: &TypeInner) -> bool
     requires exist { ReferencesExist (global_lists context.«module».now) inner.now }
     ensures { result ≡ rule.can_load (surroundings context.entry) inner.now }
 {
-    if let TypeInner::Pointer { base, .. } = inner {
-        let loadable = TypeFlags::SIZED.union(TypeFlags::DATA);
-        return context.type_flags(*base).contains(loadable);
+    match inner {
+        TypeInner::Pointer { base, .. } => {
+            let loadable = TypeFlags::SIZED.union(TypeFlags::DATA);
+            context.type_flags(*base).contains(loadable)
+        }
+        // It always leads to a scalar or a vector.
+        TypeInner::ValuePointer { .. } => true,
+        TypeInner::Scalar(_)
+        | TypeInner::Vector { .. }
+        | TypeInner::Matrix { .. }
+        | TypeInner::CooperativeMatrix { .. }
+        | TypeInner::Atomic(_)
+        | TypeInner::Array { .. }
+        | TypeInner::Struct { .. }
+        | TypeInner::Image { .. }
+        | TypeInner::Sampler { .. }
+        | TypeInner::AccelerationStructure { .. }
+        | TypeInner::RayQuery { .. }
+        | TypeInner::BindingArray { .. } => false,
     }
-    // A value pointer always leads to a scalar or a vector.
-    matches!(inner, TypeInner::ValuePointer { .. })
 }
 
 /// The stages that may use a load (WGSL "Load Rule").
@@ -64,13 +78,45 @@ pub(crate) fn admits_load(context: FunctionContext<'_>, pointer: Handle<Expressi
 fn is_dynamic_array(inner: &TypeInner) -> bool
     ensures { result ≡ rule.is_dynamic_array (Some inner.now) }
 {
-    matches!(
-        inner,
-        TypeInner::Array {
-            size: ArraySize::Dynamic,
-            ..
-        }
-    )
+    match inner {
+        TypeInner::Array { size, .. } => *size == ArraySize::Dynamic,
+        TypeInner::Scalar(_)
+        | TypeInner::Vector { .. }
+        | TypeInner::Matrix { .. }
+        | TypeInner::CooperativeMatrix { .. }
+        | TypeInner::Atomic(_)
+        | TypeInner::Pointer { .. }
+        | TypeInner::ValuePointer { .. }
+        | TypeInner::Struct { .. }
+        | TypeInner::Image { .. }
+        | TypeInner::Sampler { .. }
+        | TypeInner::AccelerationStructure { .. }
+        | TypeInner::RayQuery { .. }
+        | TypeInner::BindingArray { .. } => false,
+    }
+}
+
+/// Whether a type is a pointer to a runtime-sized array.
+fn points_to_dynamic(inner: &TypeInner, module: &Module) -> bool
+    requires exist { ReferencesExist (global_lists «module».now) inner.now }
+    ensures { result ≡ rule.points_to_dynamic «module».now.types inner.now }
+{
+    match inner {
+        TypeInner::Pointer { base, .. } => is_dynamic_array(&module.types[*base].inner),
+        TypeInner::Scalar(_)
+        | TypeInner::Vector { .. }
+        | TypeInner::Matrix { .. }
+        | TypeInner::CooperativeMatrix { .. }
+        | TypeInner::Atomic(_)
+        | TypeInner::ValuePointer { .. }
+        | TypeInner::Array { .. }
+        | TypeInner::Struct { .. }
+        | TypeInner::Image { .. }
+        | TypeInner::Sampler { .. }
+        | TypeInner::AccelerationStructure { .. }
+        | TypeInner::RayQuery { .. }
+        | TypeInner::BindingArray { .. } => false,
+    }
 }
 
 /// The stages that may use the length of a runtime-sized array (WGSL "arrayLength").
@@ -87,10 +133,7 @@ pub fn validate_array_length(
     ensures { result ≡ array_length_rule (surroundings context.entry) array }
 {
     // A runtime-sized array is never a value, so it is given by a pointer.
-    let TypeInner::Pointer { base, .. } = context.type_of(array) else {
-        return Err(ExpressionError::InvalidArrayType(array));
-    };
-    if !is_dynamic_array(&context.module.types[*base].inner) {
+    if !points_to_dynamic(context.type_of(array), context.module) {
         return Err(ExpressionError::InvalidArrayType(array));
     }
     Ok(every_stage())

@@ -18,11 +18,23 @@ use naga_ir::types::{AddressSpace, TypeInner};
 fn is_ray_query(inner: &TypeInner, vertices: bool) -> bool
     ensures { result ≡ rule.is_ray_query vertices (Some inner.now) }
 {
-    let TypeInner::RayQuery { vertex_return } = inner else {
-        return false;
-    };
-    // A query that returns vertices may be read without them, but not the other way round.
-    *vertex_return || !vertices
+    match inner {
+        // A query that returns vertices may be read without them, but not the other way round.
+        TypeInner::RayQuery { vertex_return } => *vertex_return || !vertices,
+        TypeInner::Scalar(_)
+        | TypeInner::Vector { .. }
+        | TypeInner::Matrix { .. }
+        | TypeInner::CooperativeMatrix { .. }
+        | TypeInner::Atomic(_)
+        | TypeInner::Pointer { .. }
+        | TypeInner::ValuePointer { .. }
+        | TypeInner::Array { .. }
+        | TypeInner::Struct { .. }
+        | TypeInner::Image { .. }
+        | TypeInner::Sampler { .. }
+        | TypeInner::AccelerationStructure { .. }
+        | TypeInner::BindingArray { .. } => false,
+    }
 }
 
 /// Whether a type is a pointer to a ray query of the function.
@@ -30,10 +42,24 @@ fn points_to_ray_query(inner: &TypeInner, module: &Module, vertices: bool) -> bo
     requires exist { ReferencesExist (global_lists «module».now) inner.now }
     ensures { result ≡ rule.points_to_ray_query «module».now.types vertices inner.now }
 {
-    let TypeInner::Pointer { base, space } = inner else {
-        return false;
-    };
-    matches!(space, AddressSpace::Function) && is_ray_query(&module.types[*base].inner, vertices)
+    match inner {
+        TypeInner::Pointer { base, space } => {
+            *space == AddressSpace::Function && is_ray_query(&module.types[*base].inner, vertices)
+        }
+        TypeInner::Scalar(_)
+        | TypeInner::Vector { .. }
+        | TypeInner::Matrix { .. }
+        | TypeInner::CooperativeMatrix { .. }
+        | TypeInner::Atomic(_)
+        | TypeInner::ValuePointer { .. }
+        | TypeInner::Array { .. }
+        | TypeInner::Struct { .. }
+        | TypeInner::Image { .. }
+        | TypeInner::Sampler { .. }
+        | TypeInner::AccelerationStructure { .. }
+        | TypeInner::RayQuery { .. }
+        | TypeInner::BindingArray { .. } => false,
+    }
 }
 
 /// The stages that may use what a ray has hit (SPIR-V "SPV_KHR_ray_query").

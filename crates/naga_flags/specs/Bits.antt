@@ -257,4 +257,5 @@ all_type_flags = 2 ^ 8 - 1
 
 -- all groups of operations among a subgroup: no flag has the bit before the last
 abbrev pub all_subgroup_operations : ℕ
-all_subgroup_operations = union_of (BASIC ∷ VOTE ∷ ARITHMETIC ∷ BALLOT ∷ SHUFFLE ∷ SHUFFLE_RELATIVE ∷ QUAD_FRAGMENT_COMPUTE ∷ [])
+all_subgroup_operations =
+    union_of (BASIC ∷ VOTE ∷ ARITHMETIC ∷ BALLOT ∷ SHUFFLE ∷ SHUFFLE_RELATIVE ∷ QUAD_FRAGMENT_COMPUTE ∷ [])

@@ -24,8 +24,7 @@ extensions =
     (TEXTURE_AND_SAMPLER_BINDING_ARRAY_NON_UNIFORM_INDEXING, WgpuBindingArray) ∷
     (BUFFER_BINDING_ARRAY_NON_UNIFORM_INDEXING, WgpuBindingArray) ∷
     (STORAGE_TEXTURE_BINDING_ARRAY_NON_UNIFORM_INDEXING, WgpuBindingArray) ∷
-    (STORAGE_BUFFER_BINDING_ARRAY_NON_UNIFORM_INDEXING, WgpuBindingArray) ∷
-    []
+    (STORAGE_BUFFER_BINDING_ARRAY_NON_UNIFORM_INDEXING, WgpuBindingArray) ∷ []
 
 -- what a set stands for in a list of such rows
 abbrev pub extension_in : List (ℕ × ImplementedEnableExtension) → ℕ → Option ImplementedEnableExtension

@@ -10,8 +10,7 @@ validation_flags =
     (codes "CONTROL_FLOW_UNIFORMITY", CONTROL_FLOW_UNIFORMITY) ∷
     (codes "STRUCT_LAYOUTS", STRUCT_LAYOUTS) ∷
     (codes "CONSTANTS", CONSTANTS) ∷
-    (codes "BINDINGS", BINDINGS) ∷
-    []
+    (codes "BINDINGS", BINDINGS) ∷ []
 
 -- what shaders may use
 abbrev pub capabilities : List (List ℕ × ℕ)
@@ -47,8 +46,10 @@ capabilities =
     (codes "SHADER_FLOAT16_IN_FLOAT32", SHADER_FLOAT16_IN_FLOAT32) ∷
     (codes "SHADER_BARYCENTRICS", SHADER_BARYCENTRICS) ∷
     (codes "MESH_SHADER", MESH_SHADER) ∷
-    (codes "MESH_SHADER_POINT_TOPOLOGY", MESH_SHADER_POINT_TOPOLOGY) ∷
-    (codes "TEXTURE_AND_SAMPLER_BINDING_ARRAY_NON_UNIFORM_INDEXING", TEXTURE_AND_SAMPLER_BINDING_ARRAY_NON_UNIFORM_INDEXING) ∷
+    (codes "MESH_SHADER_POINT_TOPOLOGY", MESH_SHADER_POINT_TOPOLOGY) ∷ (
+      codes "TEXTURE_AND_SAMPLER_BINDING_ARRAY_NON_UNIFORM_INDEXING",
+      TEXTURE_AND_SAMPLER_BINDING_ARRAY_NON_UNIFORM_INDEXING,
+    ) ∷
     (codes "BUFFER_BINDING_ARRAY_NON_UNIFORM_INDEXING", BUFFER_BINDING_ARRAY_NON_UNIFORM_INDEXING) ∷
     (codes "STORAGE_TEXTURE_BINDING_ARRAY_NON_UNIFORM_INDEXING", STORAGE_TEXTURE_BINDING_ARRAY_NON_UNIFORM_INDEXING) ∷
     (codes "STORAGE_BUFFER_BINDING_ARRAY_NON_UNIFORM_INDEXING", STORAGE_BUFFER_BINDING_ARRAY_NON_UNIFORM_INDEXING) ∷
@@ -59,8 +60,7 @@ capabilities =
     (codes "ACCELERATION_STRUCTURE_BINDING_ARRAY", ACCELERATION_STRUCTURE_BINDING_ARRAY) ∷
     (codes "MEMORY_DECORATION_COHERENT", MEMORY_DECORATION_COHERENT) ∷
     (codes "MEMORY_DECORATION_VOLATILE", MEMORY_DECORATION_VOLATILE) ∷
-    (codes "SHADER_INT16", SHADER_INT16) ∷
-    []
+    (codes "SHADER_INT16", SHADER_INT16) ∷ []
 
 -- what types may be used for
 abbrev pub type_flags : List (List ℕ × ℕ)
@@ -72,8 +72,7 @@ type_flags =
     (codes "HOST_SHAREABLE", HOST_SHAREABLE) ∷
     (codes "CREATION_RESOLVED", CREATION_RESOLVED) ∷
     (codes "ARGUMENT", ARGUMENT) ∷
-    (codes "CONSTRUCTIBLE", CONSTRUCTIBLE) ∷
-    []
+    (codes "CONSTRUCTIBLE", CONSTRUCTIBLE) ∷ []
 
 -- the stages of a pipeline
 abbrev pub shader_stages : List (List ℕ × ℕ)
@@ -87,8 +86,7 @@ shader_stages =
     (codes "ANY_HIT", ANY_HIT) ∷
     (codes "CLOSEST_HIT", CLOSEST_HIT) ∷
     (codes "MISS", MISS) ∷
-    (codes "COMPUTE_LIKE", COMPUTE_LIKE) ∷
-    []
+    (codes "COMPUTE_LIKE", COMPUTE_LIKE) ∷ []
 
 -- the groups of operations among a subgroup
 abbrev pub subgroup_operations : List (List ℕ × ℕ)
@@ -99,8 +97,7 @@ subgroup_operations =
     (codes "BALLOT", BALLOT) ∷
     (codes "SHUFFLE", SHUFFLE) ∷
     (codes "SHUFFLE_RELATIVE", SHUFFLE_RELATIVE) ∷
-    (codes "QUAD_FRAGMENT_COMPUTE", QUAD_FRAGMENT_COMPUTE) ∷
-    []
+    (codes "QUAD_FRAGMENT_COMPUTE", QUAD_FRAGMENT_COMPUTE) ∷ []
 
 -- whether `set` has all of `flags`
 abbrev pub has : ℕ → ℕ → Bool

@@ -4,19 +4,13 @@ use Rattle.naga_flags.specs.Bits.{ARITHMETIC, BALLOT, QUAD_FRAGMENT_COMPUTE, SHU
 use Rattle.naga_ir.specs.declared.statement.GatherMode.{GatherMode}
 use Rattle.naga_ir.specs.declared.statement.GatherMode.TheVariants.{BroadcastFirst, Broadcast, Shuffle, ShuffleDown, ShuffleUp, ShuffleXor, QuadBroadcast, QuadSwap}
 use Rattle.naga_ir.specs.declared.statement.SubgroupOperation.{SubgroupOperation}
-use Rattle.naga_ir.specs.declared.statement.SubgroupOperation.TheVariants.{All, Any, Add, Mul, Min, Max, And, Or, Xor}
+use Rattle.naga_ir.specs.declared.statement.SubgroupOperation.TheVariants.{All, Any}
 
 -- what a collective operation needs: all and any are votes, the others are arithmetic
 abbrev pub required_operations : SubgroupOperation → ℕ
 required_operations All = VOTE
 required_operations Any = VOTE
-required_operations Add = ARITHMETIC
-required_operations Mul = ARITHMETIC
-required_operations Min = ARITHMETIC
-required_operations Max = ARITHMETIC
-required_operations And = ARITHMETIC
-required_operations Or = ARITHMETIC
-required_operations Xor = ARITHMETIC
+required_operations _ = ARITHMETIC
 
 -- what a gather needs
 abbrev pub required_operations_of_gather : GatherMode → ℕ

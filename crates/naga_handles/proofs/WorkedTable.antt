@@ -1,5 +1,5 @@
 -- The table of expressions that name the types 1, 0 and 2.
-use Rattle.std.proofs.Common.{◌≡◌, List, [], ◌∷◌, Some, None, slice_get, refl, arith}
+use Rattle.std.proofs.Common.{◌≡◌, [], ◌∷◌, Some, None, slice_get, refl, arith}
 use Rattle.naga_ir.specs.ItemReferences.{GlobalLists}
 use Rattle.naga_ir.specs.References.{named_type}
 use Rattle.naga_ir.specs.declared.expression.Expression.TheVariants.{ZeroValue}

@@ -17,7 +17,9 @@ use Rattle.naga_handles.specs.declared.order.Item.TheVariants as item
 -- what types and global expressions refer to exists, and so do the initialisers that size types; references go back,
 -- and the types that size a type precede it
 pub record CanBeOrdered (m : Module) : Type 0 where
-  pub exist : All (Exists (module_counts m)) (flat_map (λ (t : «Type»). type_references t.inner) m.types ++ flat_map expression_references m.global_expressions)
+  pub exist : All (Exists (module_counts m))
+      (flat_map (λ (t : «Type»). type_references t.inner) m.types
+      ++ flat_map expression_references m.global_expressions)
   pub initialisers : (t n : ℕ) → size_initialiser (global_lists m) t ≡ Some n → n < length m.global_expressions
   pub back : ReferencesPrecede (OrderedReference (global_lists m))
   pub sizes : SizesResolveFirst (global_lists m)
@@ -26,13 +28,7 @@ pub record CanBeOrdered (m : Module) : Type 0 where
 abbrev pub rank_of : GlobalLists → Reference → ℕ
 rank_of g (to.Type_ t) = rank_of_type g t
 rank_of g (to.Expression e) = rank_of_expression g e
-rank_of g (to.Constant c) = 0
-rank_of g (to.Override o) = 0
-rank_of g (to.GlobalVariable v) = 0
-rank_of g (to.LocalVariable v) = 0
-rank_of g (to.Function f) = 0
-rank_of g (to.DiagnosticFilterNode d) = 0
-rank_of g (to.Emit range) = 0
+rank_of _ _ = 0
 
 -- whatever is needed has a lesser rank
 abbrev pub RanksFall : GlobalLists → Type 0
@@ -47,7 +43,8 @@ reference_to (item.Expression e) = to.Expression e
 pub record IsOrder (g : GlobalLists) (order : List Item) : Type 0 where
   pub ranked : (k : ℕ) (i : Item) → slice_get order k ≡ Some i → rank_of g (reference_to i) ≡ k
   pub types : (t : ℕ) → t < length g.types → slice_get order (rank_of_type g t) ≡ Some (item.Type_ t)
-  pub expressions : (e : ℕ) → e < length g.expressions → slice_get order (rank_of_expression g e) ≡ Some (item.Expression e)
+  pub expressions : (e : ℕ) → e < length g.expressions
+      → slice_get order (rank_of_expression g e) ≡ Some (item.Expression e)
   pub long : length order ≡ length g.types + length g.expressions
 
 -- the fault is one of types and global expressions

@@ -1,7 +1,7 @@
 -- Which condition of a list is broken first.
-use Rattle.std.proofs.Common.{◌≡◌, ◌∙◌, ℕ, zero, suc, List, [], ◌∷◌, Option, Some, None, ap, get_or, refl, sym, take}
-use Rattle.std.specs.Prelude.{Result, Ok, Err}
-use Rattle.naga_types.specs.Checks.{first, ok_unless, first_error_or}
+use Rattle.std.proofs.Common.{◌≡◌, ◌∙◌, ℕ, zero, suc, List, [], ◌∷◌, Option, Some, None, get_or, refl, take}
+use Rattle.std.specs.Prelude.{Ok, Err}
+use Rattle.naga_types.specs.Checks.{ok_unless, first_error_or}
 
 -- a check is passed that a condition decides
 abbrev pub IsPassed : {E : Type 0} → Option E → Type 0

@@ -1,5 +1,5 @@
 -- What is known of the operands of an expression of images that can be validated.
-use Rattle.std.proofs.Common.{◌≡◌, ◌<◌, ◌++◌, ℕ, List, [], ◌∷◌, Bool, Option, Some, None, All, Contains, IfSome, length, map, option_to_list, refl, subst, arith}
+use Rattle.std.proofs.Common.{◌≡◌, ◌<◌, ◌++◌, ℕ, [], ◌∷◌, Option, Some, None, All, Contains, IfSome, map, option_to_list, refl, subst, arith}
 use Rattle.std.proofs.lemmas.List.Elements.{All-contains, Contains-append_left}
 use Rattle.naga_arena.proofs.Elements.{all-left, all-right, contains-map}
 use Rattle.naga_image_exprs.specs.Samples.{expression_of}

@@ -35,7 +35,8 @@ abbrev pub is_index : TypeInner → Boolean
 is_index inner = is_scalar_that (λ scalar. is_integer scalar.kind && scalar.width == width_32) inner
 
 -- the error of an operand, unless its type satisfies `is`, or there is none
-abbrev pub unless_operand : ExpressionSurroundings → (TypeInner → Boolean) → Option ℕ → (ℕ → ExpressionError) → Option ExpressionError
+abbrev pub unless_operand : ExpressionSurroundings → (TypeInner → Boolean) → Option ℕ → (ℕ → ExpressionError)
+    → Option ExpressionError
 unless_operand s is None error = None
 unless_operand s is (Some e) error = require (is (form_at s e)) (error e)
 
@@ -45,4 +46,6 @@ layer_presence_error arrayed has_index = require (beq arrayed has_index) refusal
 
 -- the error of an array layer, unless it is chosen of an arrayed image, and the type of its index satisfies `is`
 abbrev pub layer_error : ExpressionSurroundings → (TypeInner → Boolean) → Boolean → Option ℕ → Option ExpressionError
-layer_error s is arrayed array_index = first (layer_presence_error arrayed (is_some array_index) ∷ unless_operand s is array_index refusal.InvalidImageArrayIndexType ∷ [])
+layer_error s is arrayed array_index =
+    first (layer_presence_error arrayed (is_some array_index) ∷
+    unless_operand s is array_index refusal.InvalidImageArrayIndexType ∷ [])

@@ -22,7 +22,9 @@ is_dimension dim (Some found) = of_dimension.ghosts.eq found dim
 
 -- the error of coordinates, unless they are integers, as many as the dimension of the image has
 abbrev pub coordinate_error : ExpressionSurroundings → ImageDimension → ℕ → Option ExpressionError
-coordinate_error s dim coordinate = require (is_dimension dim (image_storage_coordinates (form_at s coordinate))) (refusal.InvalidImageCoordinateType dim coordinate)
+coordinate_error s dim coordinate =
+    require (is_dimension dim (image_storage_coordinates (form_at s coordinate)))
+    (refusal.InvalidImageCoordinateType dim coordinate)
 
 -- the error of a sample, unless one is chosen of a multisampled image, by an integer of 32 bits, and none of another
 abbrev pub sample_index_error : ExpressionSurroundings → Boolean → Option ℕ → Option ExpressionError
@@ -39,14 +41,17 @@ level_error s false (Some e) = Some refusal.InvalidImageLevelSelector
 level_error s false None = None
 
 -- the conditions of a load from this image
-abbrev pub load_checks : ExpressionSurroundings → ImageType → ℕ → Option ℕ → Option ℕ → Option ℕ → List (Option ExpressionError)
+abbrev pub load_checks : ExpressionSurroundings → ImageType → ℕ → Option ℕ → Option ℕ → Option ℕ
+    → List (Option ExpressionError)
 load_checks s image coordinate array_index sample level =
     coordinate_error s image.dim coordinate ∷
     layer_error s is_index image.arrayed array_index ∷
     sample_index_error s (is_multisampled image.class) sample ∷
-    level_error s (is_mipmapped image.class) level ∷
-    []
+    level_error s (is_mipmapped image.class) level ∷ []
 
 -- the rule of a load of a texel
-abbrev pub image_load_rule : ExpressionSurroundings → ℕ → ℕ → Option ℕ → Option ℕ → Option ℕ → Result ShaderStages ExpressionError
-image_load_rule s image coordinate array_index sample level = and_then (image_at s image) (λ found. first_error_or (load_checks s found coordinate array_index sample level) every_stage)
+abbrev pub image_load_rule : ExpressionSurroundings → ℕ → ℕ → Option ℕ → Option ℕ → Option ℕ
+    → Result ShaderStages ExpressionError
+image_load_rule s image coordinate array_index sample level =
+    and_then (image_at s image)
+    (λ found. first_error_or (load_checks s found coordinate array_index sample level) every_stage)

@@ -19,8 +19,7 @@ abbrev pub level_error : ExpressionSurroundings → ImageType → ℕ → Option
 level_error s image level =
     first
     (require (is_index (form_at s level)) (refusal.InvalidImageOtherIndexType level) ∷
-    require (is_mipmapped image.class) (refusal.InvalidImageClass image.class) ∷
-    [])
+    require (is_mipmapped image.class) (refusal.InvalidImageClass image.class) ∷ [])
 
 -- the error of a query, unless the image has the property that is queried: each image has a size
 abbrev pub query_error : ExpressionSurroundings → ImageType → ImageQuery → Option ExpressionError
@@ -32,4 +31,5 @@ query_error s image NumSamples = require (is_multisampled image.class) (refusal.
 
 -- the rule of a query of an image
 abbrev pub image_query_rule : ExpressionSurroundings → ℕ → ImageQuery → Result ShaderStages ExpressionError
-image_query_rule s image query = and_then (image_at s image) (λ found. ok_unless (query_error s found query) every_stage)
+image_query_rule s image query =
+    and_then (image_at s image) (λ found. ok_unless (query_error s found query) every_stage)

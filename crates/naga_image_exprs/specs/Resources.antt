@@ -6,7 +6,7 @@ use Rattle.naga_ir.specs.declared.expression.Expression.TheVariants as form
 use Rattle.naga_ir.specs.declared.ir.FunctionArgument.{FunctionArgument}
 use Rattle.naga_ir.specs.declared.ir.GlobalVariable.{GlobalVariable}
 use Rattle.naga_ir.specs.declared.types.TypeInner.{TypeInner}
-use Rattle.naga_ir.specs.declared.types.TypeInner.TheVariants.{Scalar, Vector, Matrix, CooperativeMatrix, Atomic, Pointer, ValuePointer, Array, Struct, Image, Sampler, AccelerationStructure, RayQuery, BindingArray}
+use Rattle.naga_ir.specs.declared.types.TypeInner.TheVariants.{Image, Sampler, BindingArray}
 use Rattle.naga_info.specs.Surroundings.{ExpressionSurroundings}
 use Rattle.naga_info.specs.declared.expression_error.ExpressionError.{ExpressionError}
 use Rattle.naga_info.specs.declared.expression_error.ExpressionError.TheVariants as refusal
@@ -40,7 +40,8 @@ source_of (form.Splat size value) = elsewhere
 source_of (form.Swizzle size vector pattern) = elsewhere
 source_of (form.LocalVariable v) = elsewhere
 source_of (form.Load pointer) = elsewhere
-source_of (form.ImageSample image sampler gather coordinate array_index offset level depth_ref clamp_to_edge) = elsewhere
+source_of (form.ImageSample image sampler gather coordinate array_index offset level depth_ref clamp_to_edge) =
+    elsewhere
 source_of (form.ImageLoad image coordinate array_index sample level) = elsewhere
 source_of (form.ImageQuery image query) = elsewhere
 source_of (form.Unary op expr) = elsewhere
@@ -78,23 +79,13 @@ argument_type s i = option_map (λ (x : FunctionArgument). x.ty) (slice_get s.fu
 -- the type of the bindings of a binding array; other types have none
 abbrev pub binding_of : TypeInner → Option ℕ
 binding_of (BindingArray base size) = Some base
-binding_of (Scalar scalar) = None
-binding_of (Vector size scalar) = None
-binding_of (Matrix columns rows scalar) = None
-binding_of (CooperativeMatrix columns rows scalar role) = None
-binding_of (Atomic scalar) = None
-binding_of (Pointer base space) = None
-binding_of (ValuePointer size scalar space) = None
-binding_of (Array base size stride) = None
-binding_of (Struct members span) = None
-binding_of (Image dim arrayed class) = None
-binding_of (Sampler comparison) = None
-binding_of (AccelerationStructure vertex_return) = None
-binding_of (RayQuery vertex_return) = None
+binding_of _ = None
 
 -- the type of an element of a value of a type, which has to be a binding array
 abbrev pub binding_type : ExpressionSurroundings → ℕ → Result ℕ ExpressionError
-binding_type s array = ok_or (option_and_then binding_of (inner_in s.«module».types (Handle array))) (refusal.ExpectedBindingArrayType array)
+binding_type s array =
+    ok_or (option_and_then binding_of (inner_in s.«module».types (Handle array)))
+    (refusal.ExpectedBindingArrayType array)
 
 -- the type of an element of a variable of the module
 abbrev pub element_of_variable : ExpressionSurroundings → ℕ → Result ℕ ExpressionError
@@ -103,9 +94,7 @@ element_of_variable s v = and_then (ok_or (variable_type s v) refusal.ExpectedGl
 -- the type of an element of what comes from a source, which has to be a variable of the module
 abbrev pub element_of : ExpressionSurroundings → Source → Result ℕ ExpressionError
 element_of s (in_variable v) = element_of_variable s v
-element_of s (in_argument i) = Err refusal.ExpectedGlobalVariable
-element_of s (in_element base) = Err refusal.ExpectedGlobalVariable
-element_of s elsewhere = Err refusal.ExpectedGlobalVariable
+element_of _ _ = Err refusal.ExpectedGlobalVariable
 
 -- the type of an element of what an expression stands for
 abbrev pub element_type : ExpressionSurroundings → ℕ → Result ℕ ExpressionError
@@ -125,23 +114,12 @@ resource_type s e = type_of_source s (source_in (slice_get s.function.expression
 -- dimension, `arrayed` and class of a type, if it is an image
 abbrev pub image_of : TypeInner → Option ImageType
 image_of (Image dim arrayed class) = Some (record { dim = dim; arrayed = arrayed; class = class })
-image_of (Scalar scalar) = None
-image_of (Vector size scalar) = None
-image_of (Matrix columns rows scalar) = None
-image_of (CooperativeMatrix columns rows scalar role) = None
-image_of (Atomic scalar) = None
-image_of (Pointer base space) = None
-image_of (ValuePointer size scalar space) = None
-image_of (Array base size stride) = None
-image_of (Struct members span) = None
-image_of (Sampler comparison) = None
-image_of (AccelerationStructure vertex_return) = None
-image_of (RayQuery vertex_return) = None
-image_of (BindingArray base size) = None
+image_of _ = None
 
 -- dimension, `arrayed` and class of the type of index `ty`, or the error if it is not an image
 abbrev pub image_type : ExpressionSurroundings → ℕ → Result ImageType ExpressionError
-image_type s ty = ok_or (option_and_then image_of (inner_in s.«module».types (Handle ty))) (refusal.ExpectedImageType ty)
+image_type s ty =
+    ok_or (option_and_then image_of (inner_in s.«module».types (Handle ty))) (refusal.ExpectedImageType ty)
 
 -- the image that an expression stands for
 abbrev pub image_at : ExpressionSurroundings → ℕ → Result ImageType ExpressionError
@@ -150,20 +128,9 @@ image_at s image = and_then (resource_type s image) (image_type s)
 -- whether a sampler compares, if a type is a sampler
 abbrev pub sampler_of : TypeInner → Option Boolean
 sampler_of (Sampler comparison) = Some comparison
-sampler_of (Scalar scalar) = None
-sampler_of (Vector size scalar) = None
-sampler_of (Matrix columns rows scalar) = None
-sampler_of (CooperativeMatrix columns rows scalar role) = None
-sampler_of (Atomic scalar) = None
-sampler_of (Pointer base space) = None
-sampler_of (ValuePointer size scalar space) = None
-sampler_of (Array base size stride) = None
-sampler_of (Struct members span) = None
-sampler_of (Image dim arrayed class) = None
-sampler_of (AccelerationStructure vertex_return) = None
-sampler_of (RayQuery vertex_return) = None
-sampler_of (BindingArray base size) = None
+sampler_of _ = None
 
 -- whether the sampler of a type compares
 abbrev pub sampler_comparison : ExpressionSurroundings → ℕ → Result Boolean ExpressionError
-sampler_comparison s ty = ok_or (option_and_then sampler_of (inner_in s.«module».types (Handle ty))) (refusal.ExpectedSamplerType ty)
+sampler_comparison s ty =
+    ok_or (option_and_then sampler_of (inner_in s.«module».types (Handle ty))) (refusal.ExpectedSamplerType ty)

@@ -1,5 +1,5 @@
 -- The rule of samples of images.
-use Rattle.std.specs.Prelude.{◌≡◌, ◌&&◌, ◌||◌, ℕ, Bool as Boolean, true, false, not, List, [], ◌∷◌, Option, Some, None, Result, Ok, Err, String, is_some, slice_get}
+use Rattle.std.specs.Prelude.{◌≡◌, ◌&&◌, ◌||◌, ℕ, Bool as Boolean, true, false, not, List, [], ◌∷◌, Option, Some, None, Result, Ok, String, is_some, slice_get}
 use Rattle.std.specs.Bool.{beq}
 use Rattle.std.specs.declared.alloc.Global.{Global}
 use Rattle.naga_flags.specs.declared.flags.ShaderStages.{ShaderStages}
@@ -31,7 +31,8 @@ use Rattle.naga_typing.specs.Kinds.{is_const}
 
 -- the expression that a sample is
 abbrev pub expression_of : Sample → Expression
-expression_of x = form.ImageSample x.image x.sampler x.gather x.coordinate x.array_index x.offset x.level x.depth_ref x.clamp_to_edge
+expression_of x =
+    form.ImageSample x.image x.sampler x.gather x.coordinate x.array_index x.offset x.level x.depth_ref x.clamp_to_edge
 
 -- what is sampled, and whether the sampler compares: both are resources, the one an image and the other a sampler
 abbrev pub sampled : ExpressionSurroundings → ℕ → ℕ → Result (ImageType × Boolean) ExpressionError
@@ -56,18 +57,18 @@ class_error class gather = require (can_sample class (is_some gather)) (refusal.
 -- the class is `Depth`
 abbrev pub is_depth : ImageClass → Boolean
 is_depth (Depth multi) = true
-is_depth (Sampled kind multi) = false
-is_depth (Storage format access) = false
-is_depth External = false
+is_depth _ = false
 
 -- the error of a sampler, unless it compares exactly if there is a reference, and then the image holds depths
 abbrev pub comparison_error : ImageClass → Boolean → Option ℕ → Option ExpressionError
 comparison_error class comparison depth_ref =
-    require (beq comparison (is_some depth_ref) && (not comparison || is_depth class)) (refusal.ComparisonSamplingMismatch class comparison (is_some depth_ref))
+    require (beq comparison (is_some depth_ref) && (not comparison || is_depth class))
+    (refusal.ComparisonSamplingMismatch class comparison (is_some depth_ref))
 
 -- the error of coordinates, unless they are floating-point numbers, as many as an image of dimension `dim` needs
 abbrev pub coordinate_error : ExpressionSurroundings → ImageDimension → ℕ → Option ExpressionError
-coordinate_error s dim coordinate = require (are_coordinates dim (form_at s coordinate)) (refusal.InvalidImageCoordinateType dim coordinate)
+coordinate_error s dim coordinate =
+    require (are_coordinates dim (form_at s coordinate)) (refusal.InvalidImageCoordinateType dim coordinate)
 
 -- the error of an offset, unless it is known when the shader is compiled, and is signed integers, as many as the
 -- coordinates
@@ -76,16 +77,13 @@ sample_offset_error s dim None = None
 sample_offset_error s dim (Some e) =
     first
     (require (is_const (slice_get s.kinds e)) refusal.InvalidSampleOffsetExprType ∷
-    require (is_of_kind (coordinate_count dim) Sint (form_at s e)) (refusal.InvalidSampleOffset dim e) ∷
-    [])
+    require (is_of_kind (coordinate_count dim) Sint (form_at s e)) (refusal.InvalidSampleOffset dim e) ∷ [])
 
 -- the level is `Auto` or `Zero`
 abbrev pub is_auto_or_zero : SampleLevel → Boolean
 is_auto_or_zero Auto = true
 is_auto_or_zero Zero = true
-is_auto_or_zero (Exact e) = false
-is_auto_or_zero (Bias e) = false
-is_auto_or_zero (Gradient x y) = false
+is_auto_or_zero _ = false
 
 -- the error of a reference, unless it is a floating-point number, and the level is not given by an operand
 abbrev pub depth_reference_error : ExpressionSurroundings → Option ℕ → SampleLevel → Option ExpressionError
@@ -93,8 +91,7 @@ depth_reference_error s None level = None
 depth_reference_error s (Some e) level =
     first
     (require (is_of_kind 1 Float (form_at s e)) (refusal.InvalidDepthReference e) ∷
-    require (is_auto_or_zero level) refusal.InvalidDepthSampleLevel ∷
-    [])
+    require (is_auto_or_zero level) refusal.InvalidDepthSampleLevel ∷ [])
 
 -- texels of an image of this dimension can be gathered
 abbrev pub can_gather : ImageDimension → Boolean
@@ -126,30 +123,32 @@ gather_error image (Some component) level =
     first
     (require (can_gather image.dim) (refusal.InvalidGatherDimension image.dim) ∷
     require (not (is_depth image.class) || is_first_component component) (refusal.InvalidGatherComponent component) ∷
-    require (is_first_level level) refusal.InvalidGatherLevel ∷
-    [])
+    require (is_first_level level) refusal.InvalidGatherLevel ∷ [])
 
 -- images of the class hold floating-point numbers, and are not multisampled
 abbrev pub is_filtered : ImageClass → Boolean
 is_filtered (Sampled kind multi) = is_float kind && not multi
-is_filtered (Depth multi) = false
-is_filtered (Storage format access) = false
-is_filtered External = false
+is_filtered _ = false
 
 -- coordinates can be clamped in a 2D image of floating-point numbers or an external texture, at the level `Zero`, and
 -- without a gather, an array layer, an offset or a reference
 abbrev pub can_clamp : ImageType → Sample → Boolean
 can_clamp image sample =
     (is_filtered image.class || is_external image.class) && (is_2d image.dim && (is_first_level sample.level
-    && (not (is_some sample.gather) && (not (is_some sample.array_index) && (not (is_some sample.offset) && not (is_some sample.depth_ref))))))
+    && (not (is_some sample.gather)
+    && (not (is_some sample.array_index)
+    && (not (is_some sample.offset)
+    && not (is_some sample.depth_ref))))))
 
 -- the error of clamping, which holds a text, unless clamping is not wanted, or can be done
 abbrev pub clamp_error : String Global → ImageType → Sample → Option ExpressionError
-clamp_error text image sample = require (not sample.clamp_to_edge || can_clamp image sample) (refusal.InvalidSampleClampCoordinateToEdge text)
+clamp_error text image sample =
+    require (not sample.clamp_to_edge || can_clamp image sample) (refusal.InvalidSampleClampCoordinateToEdge text)
 
 -- the error for an external texture, unless coordinates in it are clamped
 abbrev pub external_error : ImageClass → Boolean → Option ExpressionError
-external_error class clamp_to_edge = require (not (is_external class) || clamp_to_edge) (refusal.InvalidImageClass class)
+external_error class clamp_to_edge =
+    require (not (is_external class) || clamp_to_edge) (refusal.InvalidImageClass class)
 
 -- values of type `inner` number the levels of an image of a class: integers for depths, and
 -- floating-point numbers for all others
@@ -176,8 +175,7 @@ bias_error s image e =
     first
     (require (is_of_kind 1 Float (form_at s e)) (refusal.InvalidSampleLevelBiasType e) ∷
     require (is_filtered image.class) (refusal.InvalidImageClass image.class) ∷
-    require (not (is_1d image.dim)) (refusal.InvalidSampleLevelBiasDimension image.dim) ∷
-    [])
+    require (not (is_1d image.dim)) (refusal.InvalidSampleLevelBiasDimension image.dim) ∷ [])
 
 -- the error of a derivative, unless it is as many floating-point numbers as the coordinates
 abbrev pub gradient_error : ExpressionSurroundings → ImageDimension → ℕ → Option ExpressionError
@@ -194,13 +192,12 @@ level_error s image (Gradient x y) = first (gradient_error s image.dim x ∷ gra
 -- the stages that may sample at a level: only fragments have derivatives of their own
 abbrev pub level_stages : SampleLevel → ShaderStages
 level_stages Auto = fragment_stage
-level_stages Zero = every_stage
-level_stages (Exact e) = every_stage
 level_stages (Bias e) = fragment_stage
-level_stages (Gradient x y) = every_stage
+level_stages _ = every_stage
 
 -- the conditions of a sample of `image` by a sampler that compares or doesn't, if the error of clamping holds `text`
-abbrev pub sample_checks : ExpressionSurroundings → String Global → Sample → ImageType → Boolean → List (Option ExpressionError)
+abbrev pub sample_checks : ExpressionSurroundings → String Global → Sample → ImageType → Boolean
+    → List (Option ExpressionError)
 sample_checks s text sample image comparison =
     layer_error s is_integer_scalar image.arrayed sample.array_index ∷
     class_error image.class sample.gather ∷
@@ -211,13 +208,13 @@ sample_checks s text sample image comparison =
     gather_error image sample.gather sample.level ∷
     clamp_error text image sample ∷
     external_error image.class sample.clamp_to_edge ∷
-    level_error s image sample.level ∷
-    []
+    level_error s image sample.level ∷ []
 
 -- the rule of a sample, if the error of clamping holds `text`
 abbrev pub image_sample_rule : ExpressionSurroundings → String Global → Sample → Result ShaderStages ExpressionError
 image_sample_rule s text sample =
-    and_then (sampled s sample.image sample.sampler) (λ found. first_error_or (sample_checks s text sample found.0 found.1) (level_stages sample.level))
+    and_then (sampled s sample.image sample.sampler)
+    (λ found. first_error_or (sample_checks s text sample found.0 found.1) (level_stages sample.level))
 
 -- `rule` is the rule of a sample, if the error of clamping holds some text
 abbrev pub IsImageSampleRule : ExpressionSurroundings → Sample → Result ShaderStages ExpressionError → Type 0
@@ -225,4 +222,5 @@ IsImageSampleRule s sample rule = (text : String Global) × (rule ≡ image_samp
 
 -- a call returns `result`, which is the rule of a sample, out of memory aside
 abbrev pub IsImageSampleResult : ExpressionSurroundings → Sample → Result ShaderStages ExpressionError → Type 0
-IsImageSampleResult s sample result = (rule : Result ShaderStages ExpressionError) × IsImageSampleRule s sample rule × IsRuleResult rule result
+IsImageSampleResult s sample result =
+    (rule : Result ShaderStages ExpressionError) × IsImageSampleRule s sample rule × IsRuleResult rule result

@@ -108,19 +108,30 @@ pub(crate) fn image_type(
     requires { ty < length context.«module».now.types }
     ensures { result ≡ rule.image_type (surroundings context.entry) ty }
 {
-    let TypeInner::Image {
-        dim,
-        arrayed,
-        class,
-    } = context.module.types[ty].inner
-    else {
-        return Err(ExpressionError::ExpectedImageType(ty));
-    };
-    Ok(ImageType {
-        dim,
-        arrayed,
-        class,
-    })
+    match context.module.types[ty].inner {
+        TypeInner::Image {
+            dim,
+            arrayed,
+            class,
+        } => Ok(ImageType {
+            dim,
+            arrayed,
+            class,
+        }),
+        TypeInner::Scalar(_)
+        | TypeInner::Vector { .. }
+        | TypeInner::Matrix { .. }
+        | TypeInner::CooperativeMatrix { .. }
+        | TypeInner::Atomic(_)
+        | TypeInner::Pointer { .. }
+        | TypeInner::ValuePointer { .. }
+        | TypeInner::Array { .. }
+        | TypeInner::Struct { .. }
+        | TypeInner::Sampler { .. }
+        | TypeInner::AccelerationStructure { .. }
+        | TypeInner::RayQuery { .. }
+        | TypeInner::BindingArray { .. } => Err(ExpressionError::ExpectedImageType(ty)),
+    }
 }
 
 /// Whether the sampler of a type of the module compares depths.
@@ -135,10 +146,22 @@ pub(crate) fn sampler_comparison(
     requires { ty < length context.«module».now.types }
     ensures { result ≡ rule.sampler_comparison (surroundings context.entry) ty }
 {
-    let TypeInner::Sampler { comparison } = context.module.types[ty].inner else {
-        return Err(ExpressionError::ExpectedSamplerType(ty));
-    };
-    Ok(comparison)
+    match context.module.types[ty].inner {
+        TypeInner::Sampler { comparison } => Ok(comparison),
+        TypeInner::Scalar(_)
+        | TypeInner::Vector { .. }
+        | TypeInner::Matrix { .. }
+        | TypeInner::CooperativeMatrix { .. }
+        | TypeInner::Atomic(_)
+        | TypeInner::Pointer { .. }
+        | TypeInner::ValuePointer { .. }
+        | TypeInner::Array { .. }
+        | TypeInner::Struct { .. }
+        | TypeInner::Image { .. }
+        | TypeInner::AccelerationStructure { .. }
+        | TypeInner::RayQuery { .. }
+        | TypeInner::BindingArray { .. } => Err(ExpressionError::ExpectedSamplerType(ty)),
+    }
 }
 
 /// The type of the image that an expression stands for.

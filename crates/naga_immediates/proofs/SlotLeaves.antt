@@ -1,5 +1,5 @@
 -- Which slots a type uses, by its leaves.
-use Rattle.std.proofs.Common.{◌≡◌, ◌<◌, ◌≤◌, ◌+◌, ◌↔◌, ℕ, true, List, [], ◌∷◌, Some, Contains, refl, sym, ap, subst, ◌∙◌, arith}
+use Rattle.std.proofs.Common.{◌≡◌, ◌<◌, ◌≤◌, ◌+◌, ◌↔◌, ℕ, true, true≢false, List, [], ◌∷◌, Some, Contains, refl, sym, ap, subst, ◌∙◌, arith}
 use Rattle.std.proofs.lemmas.Option.{none-some}
 use Rattle.naga_immediates.proofs.SlotParts.{contains_at}
 use Rattle.naga_immediates.specs.LeafSlots.{HasNoArray, HasSlotsOfLeaves, LeavesHaveSlots, SharesLeaf}
@@ -35,10 +35,10 @@ struct_by_part el _ i part other is = absurd (none-some part is)
 -- a leaf is not a struct
 leaf_is_plain : (inner : TypeInner) → is_leaf inner ≡ true → IsNotStruct inner
 leaf_is_plain (Struct members span) is = absurd cc
-leaf_is_plain _ is = tt
+leaf_is_plain _ is = refl
 
 no_struct : (inner : TypeInner) → IsNotStruct inner → IsStructOf inner → ⊥
-no_struct inner plain s = subst IsNotStruct s.is plain
+no_struct inner plain s = true≢false (subst IsNotStruct s.is plain)
 
 module _ (g : GlobalLists) (whole : ℕ) (aligned : (u : ℕ) → IsInside g whole u → (a : ℕ) × IsLeafAlignment g u a) (no_array : HasNoArray g whole) where
   array_free : (t : ℕ) (inner : TypeInner) → IsInside g whole t → inner_at g t ≡ Some inner → IsNotArray inner

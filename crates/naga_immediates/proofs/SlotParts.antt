@@ -1,5 +1,5 @@
 -- Which slots a type uses, by its members.
-use Rattle.std.proofs.Common.{◌≡◌, ◌<◌, ◌≤◌, ◌+◌, ◌↔◌, ◌⊎◌, ⊎_elim, ℕ, List, Option, Some, None, All, Contains, length, get_or, inl, inr, map, refl, replicate, sym, ap, subst, ◌∙◌, arith, ltb, if◌then◌else◌}
+use Rattle.std.proofs.Common.{◌≡◌, ◌<◌, ◌≤◌, ◌+◌, ◌↔◌, ◌⊎◌, ⊎_elim, ℕ, true≢false, List, Option, Some, None, All, Contains, length, get_or, inl, inr, map, refl, replicate, sym, ap, subst, ◌∙◌, arith, ltb, if◌then◌else◌}
 use Rattle.std.specs.Int.RustNames.{bit_or}
 use Rattle.std.specs.List.{slice_get}
 use Rattle.std.specs.Option.{option_map}
@@ -43,7 +43,7 @@ module _ (g : GlobalLists) where
     pub has : HasPart g inner (at + m.offset) part first
 
   part_of_struct : (whole : TypeInner) (members : List StructMember) (span at : ℕ) (part : TypeInner) (first : ℕ) → whole ≡ Struct members span → HasPart g whole at part first → InMember members at part first
-  part_of_struct _ members span _ _ _ e (itself inner at plain) = absurd (subst IsNotStruct e plain)
+  part_of_struct _ members span _ _ _ e (itself inner at plain) = absurd (true≢false (subst IsNotStruct e plain))
   part_of_struct _ members span _ _ _ e (in_member members′ span′ at m inner part first is_member is_its has) =
       let same : members′ ≡ members = cc in
       record { m = m; inner = inner; is_member = subst (λ ms. Contains ms m) same is_member; is_its = is_its; has = has }
@@ -51,7 +51,7 @@ module _ (g : GlobalLists) where
   -- a value that is not a struct is its own only part
   part_of_other : (whole : TypeInner) (at : ℕ) (part : TypeInner) (first : ℕ) → IsNotStruct whole → HasPart g whole at part first → (part ≡ whole) × (first ≡ at)
   part_of_other _ _ _ _ plain (itself inner at other) = (refl, refl)
-  part_of_other _ _ _ _ plain (in_member members span at m inner part first is_member is_its has) = absurd plain
+  part_of_other _ _ _ _ plain (in_member members span at m inner part first is_member is_its has) = absurd (true≢false plain)
 
   -- a part begins no earlier than the whole
   part_from : (inner : TypeInner) (at : ℕ) (part : TypeInner) (first : ℕ) → HasPart g inner at part first → at ≤ first
@@ -169,8 +169,8 @@ module _ (g : GlobalLists) where
 
 -- a value without members is not a struct
 pub plain : (inner : TypeInner) → ((members : List StructMember) (span : ℕ) → inner ≡ Struct members span → ⊥) → IsNotStruct inner
-plain (Struct members span) h = h members span refl
-plain _ h = tt
+plain (Struct members span) h = absurd (h members span refl)
+plain _ h = refl
 
 module _ (g : GlobalLists) (ok : GlobalReferencesOk g) (t : ℕ) (x : «Type») (members : List StructMember) (span : ℕ) where
   -- the members of a struct come before it

@@ -9,7 +9,8 @@ use Rattle.naga_typing.specs.Leaves.{IsInside, LeafBytes, elements, end_of, inne
 
 -- no array is inside the type of index `t`
 abbrev pub HasNoArray : GlobalLists → ℕ → Type 0
-HasNoArray g t = (u base : ℕ) (size : ArraySize) (stride : ℕ) → IsInside g t u → ¬ (inner_at g u ≡ Some (Array base size stride))
+HasNoArray g t =
+    (u base : ℕ) (size : ArraySize) (stride : ℕ) → IsInside g t u → ¬ (inner_at g u ≡ Some (Array base size stride))
 
 -- a leaf of a value of the type of index `t` that begins at byte `at` shares a byte with slot `k`
 pub record SharesLeaf (g : GlobalLists) (n t at k : ℕ) : Type 0 where
@@ -20,7 +21,8 @@ pub record SharesLeaf (g : GlobalLists) (n t at k : ℕ) : Type 0 where
 
 -- all bytes of the leaves of a value of the type of index `t` that begins at byte `at` are bytes of slots
 abbrev pub LeavesHaveSlots : GlobalLists → (n t at : ℕ) → Type 0
-LeavesHaveSlots g n t at = (path : List ℕ) (leaf : LeafBytes) → leaf_at g (elements g n) t path ≡ Some leaf → at + end_of leaf ≤ byte_count
+LeavesHaveSlots g n t at =
+    (path : List ℕ) (leaf : LeafBytes) → leaf_at g (elements g n) t path ≡ Some leaf → at + end_of leaf ≤ byte_count
 
 -- of the slots that there are, `slots` are exactly those that share a byte with a leaf of a value of the type of index
 -- `t` that begins at byte `at`; if all bytes of its leaves are bytes of slots, no leaf shares a byte with another slot

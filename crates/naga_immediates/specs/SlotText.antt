@@ -21,11 +21,14 @@ begins_run slots (suc before) = has_slot slots (suc before) && not (has_slot slo
 
 -- the run that begins with a slot ends before the first slot from there on that isn't in the set
 abbrev pub end_of_run : ImmediateSlots → ℕ → ℕ
-end_of_run slots first = unwrap_or (find (λ k. not (has_slot slots k)) (range_with_len first (slot_count - first))) slot_count
+end_of_run slots first =
+    unwrap_or (find (λ k. not (has_slot slots k)) (range_with_len first (slot_count - first))) slot_count
 
 -- the maximal runs of a set, rising: one from each slot with which a run begins
 abbrev pub runs : ImmediateSlots → List Run
-runs slots = map (λ first. let run : Run = record { first = first; end = end_of_run slots first } in run) (filter (begins_run slots) (range_with_len 0 slot_count))
+runs slots =
+    map (λ first. let run : Run = record { first = first; end = end_of_run slots first } in run)
+    (filter (begins_run slots) (range_with_len 0 slot_count))
 
 -- a run as its first byte and the byte after its last
 abbrev pub run_text : Run → List ℕ

@@ -41,7 +41,8 @@ HasSlot slots k = bit_at slots.0 k ≡ 1
 
 -- the `size` bytes from `first` on share a byte with slot `k`
 abbrev pub SharesByte : (first size k : ℕ) → Type 0
-SharesByte first size k = (byte : ℕ) × (first ≤ byte) × (byte < first + size) × (slot_size * k ≤ byte) × (byte < slot_size * k + slot_size)
+SharesByte first size k =
+    (byte : ℕ) × (first ≤ byte) × (byte < first + size) × (slot_size * k ≤ byte) × (byte < slot_size * k + slot_size)
 
 -- the set `slots` has exactly the slots of which `P` holds
 abbrev pub IsSetOf : (ℕ → Type 0) → ImmediateSlots → Type 0
@@ -51,7 +52,9 @@ IsSetOf P slots = (k : ℕ) → HasSlot slots k ↔ ((k < slot_count) × P k)
 -- if the value begins at byte `at`
 pub data HasPart (g : GlobalLists) : TypeInner → ℕ → TypeInner → ℕ → Type 0 where
   itself : (inner : TypeInner) (at : ℕ) → IsNotStruct inner → HasPart g inner at inner at
-  in_member : (members : List StructMember) (span at : ℕ) (m : StructMember) (inner part : TypeInner) (first : ℕ) → Contains members m → inner_at g m.ty ≡ Some inner → HasPart g inner (at + m.offset) part first → HasPart g (Struct members span) at part first
+  in_member : (members : List StructMember) (span at : ℕ) (m : StructMember) (inner part : TypeInner) (first : ℕ)
+      → Contains members m → inner_at g m.ty ≡ Some inner → HasPart g inner (at + m.offset) part first
+      → HasPart g (Struct members span) at part first
 
 -- a value of type `inner` that begins at byte `at` uses slot `k`: a part of it shares a byte with the slot
 pub record UsesSlot (g : GlobalLists) (inner : TypeInner) (at k : ℕ) : Type 0 where
@@ -83,7 +86,8 @@ BaseExists xs pointer = (base index : ℕ) → slice_get xs pointer ≡ Some (Ac
 -- what `pointer` into a variable of type `whole` reaches, as far as slots distinguish it: a
 -- value of a type, and its first byte
 pub data Touches (g : GlobalLists) (xs : List Expression) (whole : TypeInner) (pointer : ℕ) : TypeInner → ℕ → Type 0 where
-  member : (m : StructMember) (inner : TypeInner) → AccessesMember xs whole pointer m → inner_at g m.ty ≡ Some inner → Touches g xs whole pointer inner m.offset
+  member : (m : StructMember) (inner : TypeInner) → AccessesMember xs whole pointer m → inner_at g m.ty ≡ Some inner
+      → Touches g xs whole pointer inner m.offset
   all : AccessesNone xs whole pointer → Touches g xs whole pointer whole 0
 
 -- the type of a variable exists
@@ -119,4 +123,7 @@ is_immediate space.IncomingRayPayload = false
 
 -- the size of the first variable that holds immediate data, and 0 if there is none
 abbrev pub immediate_size : GlobalLists → List Variable → ℕ
-immediate_size g variables = unwrap_or (option_map (λ (v : Variable). size_at_index g v.ty) (find (λ (v : Variable). is_immediate v.space) variables)) 0
+immediate_size g variables =
+    unwrap_or
+    (option_map (λ (v : Variable). size_at_index g v.ty)
+    (find (λ (v : Variable). is_immediate v.space) variables)) 0

@@ -41,31 +41,45 @@ function_resolves resolves m f (form.Compose ty components) earlier = resolves m
 function_resolves resolves m f (form.Access base index) earlier = resolves m (form.Access base index) earlier
 function_resolves resolves m f (form.AccessIndex base index) earlier = resolves m (form.AccessIndex base index) earlier
 function_resolves resolves m f (form.Splat size value) earlier = resolves m (form.Splat size value) earlier
-function_resolves resolves m f (form.Swizzle size vector pattern) earlier = resolves m (form.Swizzle size vector pattern) earlier
+function_resolves resolves m f (form.Swizzle size vector pattern) earlier =
+    resolves m (form.Swizzle size vector pattern) earlier
 function_resolves resolves m f (form.GlobalVariable v) earlier = resolves m (form.GlobalVariable v) earlier
 function_resolves resolves m f (form.Load pointer) earlier = resolves m (form.Load pointer) earlier
-function_resolves resolves m f (form.ImageSample image sampler gather coordinate array_index offset level depth_ref clamp_to_edge) earlier =
-    resolves m (form.ImageSample image sampler gather coordinate array_index offset level depth_ref clamp_to_edge) earlier
-function_resolves resolves m f (form.ImageLoad image coordinate array_index sample level) earlier = resolves m (form.ImageLoad image coordinate array_index sample level) earlier
+function_resolves resolves m f
+    (form.ImageSample image sampler gather coordinate array_index offset level depth_ref clamp_to_edge) earlier =
+    resolves m
+    (form.ImageSample image sampler gather coordinate array_index offset level depth_ref clamp_to_edge) earlier
+function_resolves resolves m f (form.ImageLoad image coordinate array_index sample level) earlier =
+    resolves m (form.ImageLoad image coordinate array_index sample level) earlier
 function_resolves resolves m f (form.ImageQuery image query) earlier = resolves m (form.ImageQuery image query) earlier
 function_resolves resolves m f (form.Unary op expr) earlier = resolves m (form.Unary op expr) earlier
 function_resolves resolves m f (form.Binary op left right) earlier = resolves m (form.Binary op left right) earlier
-function_resolves resolves m f (form.Select condition accept reject) earlier = resolves m (form.Select condition accept reject) earlier
+function_resolves resolves m f (form.Select condition accept reject) earlier =
+    resolves m (form.Select condition accept reject) earlier
 function_resolves resolves m f (form.Derivative expr) earlier = resolves m (form.Derivative expr) earlier
-function_resolves resolves m f (form.Relational fun argument) earlier = resolves m (form.Relational fun argument) earlier
-function_resolves resolves m f (form.Math fun arg arg1 arg2 arg3) earlier = resolves m (form.Math fun arg arg1 arg2 arg3) earlier
+function_resolves resolves m f (form.Relational fun argument) earlier =
+    resolves m (form.Relational fun argument) earlier
+function_resolves resolves m f (form.Math fun arg arg1 arg2 arg3) earlier =
+    resolves m (form.Math fun arg arg1 arg2 arg3) earlier
 function_resolves resolves m f (form.As expr kind convert) earlier = resolves m (form.As expr kind convert) earlier
 function_resolves resolves m f (form.CallResult called) earlier = resolves m (form.CallResult called) earlier
-function_resolves resolves m f (form.AtomicResult ty comparison) earlier = resolves m (form.AtomicResult ty comparison) earlier
-function_resolves resolves m f (form.WorkGroupUniformLoadResult ty) earlier = resolves m (form.WorkGroupUniformLoadResult ty) earlier
+function_resolves resolves m f (form.AtomicResult ty comparison) earlier =
+    resolves m (form.AtomicResult ty comparison) earlier
+function_resolves resolves m f (form.WorkGroupUniformLoadResult ty) earlier =
+    resolves m (form.WorkGroupUniformLoadResult ty) earlier
 function_resolves resolves m f (form.ArrayLength expr) earlier = resolves m (form.ArrayLength expr) earlier
 function_resolves resolves m f form.RayQueryProceedResult earlier = resolves m form.RayQueryProceedResult earlier
-function_resolves resolves m f (form.RayQueryGetIntersection query committed) earlier = resolves m (form.RayQueryGetIntersection query committed) earlier
-function_resolves resolves m f (form.RayQueryVertexPositions query committed) earlier = resolves m (form.RayQueryVertexPositions query committed) earlier
+function_resolves resolves m f (form.RayQueryGetIntersection query committed) earlier =
+    resolves m (form.RayQueryGetIntersection query committed) earlier
+function_resolves resolves m f (form.RayQueryVertexPositions query committed) earlier =
+    resolves m (form.RayQueryVertexPositions query committed) earlier
 function_resolves resolves m f form.SubgroupBallotResult earlier = resolves m form.SubgroupBallotResult earlier
-function_resolves resolves m f (form.SubgroupOperationResult ty) earlier = resolves m (form.SubgroupOperationResult ty) earlier
-function_resolves resolves m f (form.CooperativeLoad pointer stride) earlier = resolves m (form.CooperativeLoad pointer stride) earlier
-function_resolves resolves m f (form.CooperativeMultiplyAdd a b c) earlier = resolves m (form.CooperativeMultiplyAdd a b c) earlier
+function_resolves resolves m f (form.SubgroupOperationResult ty) earlier =
+    resolves m (form.SubgroupOperationResult ty) earlier
+function_resolves resolves m f (form.CooperativeLoad pointer stride) earlier =
+    resolves m (form.CooperativeLoad pointer stride) earlier
+function_resolves resolves m f (form.CooperativeMultiplyAdd a b c) earlier =
+    resolves m (form.CooperativeMultiplyAdd a b c) earlier
 
 -- `function_resolves` as a rule in order
 abbrev pub type_in_order : Resolves → Module → Function → RuleInOrder Expression TypeResolution ResolveError
@@ -84,7 +98,8 @@ pub record AreTypesBefore (resolves : Resolves) (m : Module) (f : Function) (pla
 
 -- the expression at `place` has no type, and `error` is why, by `types`, the types of those before it
 abbrev pub IsUntyped : Resolves → Module → Function → ℕ → List TypeResolution → ResolveError → Type 0
-IsUntyped resolves m f place types error = given_at (type_in_order resolves m f) f.expressions types place ≡ Some (Err error)
+IsUntyped resolves m f place types error =
+    given_at (type_in_order resolves m f) f.expressions types place ≡ Some (Err error)
 
 -- what is known of a function, whether all its expressions have types or not
 abbrev pub info_of : Result FunctionInfo UntypedExpression → FunctionInfo

@@ -43,12 +43,7 @@ integer_of (literal.U64 n) = Some (pos n)
 integer_of (literal.I16 n) = Some n
 integer_of (literal.I32 n) = Some n
 integer_of (literal.I64 n) = Some n
-integer_of (literal.F64 bits) = None
-integer_of (literal.F32 bits) = None
-integer_of (literal.F16 bits) = None
-integer_of (literal.Bool value) = None
-integer_of (literal.AbstractInt n) = None
-integer_of (literal.AbstractFloat bits) = None
+integer_of _ = None
 
 -- the zero of a type is an integer, or a vector of integers
 abbrev pub is_integer_zero : Scope → ℕ → Boolean
@@ -63,7 +58,12 @@ pub data IsOwnInteger (s : Scope) : Expression → ℤ → Type 0 where
 -- a number is in the expression at a place: the expression is that integer itself, or the number is in what is
 -- splatted, in a component, or in the initialiser of a constant
 pub data ContainsInteger (s : Scope) : Place → ℤ → Type 0 where
-  itself : (p : Place) (x : Expression) (n : ℤ) → expression_at s p ≡ Some x → IsOwnInteger s x n → ContainsInteger s p n
-  splatted : (p : Place) (size : VectorSize) (value : ℕ) (n : ℤ) → expression_at s p ≡ Some (form.Splat size value) → ContainsInteger s (operand_place p value) n → ContainsInteger s p n
-  component : (p : Place) (ty : ℕ) (components : List ℕ) (c : ℕ) (n : ℤ) → expression_at s p ≡ Some (form.Compose ty components) → Contains components c → ContainsInteger s (operand_place p c) n → ContainsInteger s p n
-  initialiser : (p : Place) (c : ℕ) (d : Constant) (n : ℤ) → expression_at s p ≡ Some (form.Constant c) → slice_get s.«module».constants c ≡ Some d → ContainsInteger s (place.InModule d.init) n → ContainsInteger s p n
+  itself : (p : Place) (x : Expression) (n : ℤ) → expression_at s p ≡ Some x → IsOwnInteger s x n
+      → ContainsInteger s p n
+  splatted : (p : Place) (size : VectorSize) (value : ℕ) (n : ℤ) → expression_at s p ≡ Some (form.Splat size value)
+      → ContainsInteger s (operand_place p value) n → ContainsInteger s p n
+  component : (p : Place) (ty : ℕ) (components : List ℕ) (c : ℕ) (n : ℤ)
+      → expression_at s p ≡ Some (form.Compose ty components) → Contains components c
+      → ContainsInteger s (operand_place p c) n → ContainsInteger s p n
+  initialiser : (p : Place) (c : ℕ) (d : Constant) (n : ℤ) → expression_at s p ≡ Some (form.Constant c)
+      → slice_get s.«module».constants c ≡ Some d → ContainsInteger s (place.InModule d.init) n → ContainsInteger s p n

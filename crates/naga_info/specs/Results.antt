@@ -9,7 +9,8 @@ use Rattle.naga_info.specs.declared.expression_error.ExpressionError.TheVariants
 -- a result needs memory: it is an error that holds a copy of a struct, or a text
 abbrev pub NeedsMemory : Result ShaderStages ExpressionError → Type 0
 NeedsMemory (Ok stages) = ⊥
-NeedsMemory (Err (InvalidBinaryOperandTypes op lhs_expr lhs_type rhs_expr rhs_type)) = IsStruct lhs_type ⊎ IsStruct rhs_type
+NeedsMemory (Err (InvalidBinaryOperandTypes op lhs_expr lhs_type rhs_expr rhs_type)) =
+    IsStruct lhs_type ⊎ IsStruct rhs_type
 NeedsMemory (Err (SelectValuesTypeMismatch accept reject)) = IsStruct accept ⊎ IsStruct reject
 NeedsMemory (Err (SelectConditionNotABool actual)) = IsStruct actual
 NeedsMemory (Err (ShiftAmountTooLarge lhs_type rhs_expr)) = IsStruct lhs_type

@@ -36,38 +36,8 @@ pub record IsSourceOrItself (s : Scope) (p q : Place) : Type 0 where
 abbrev pub HasNoSource : Expression → Type 0
 HasNoSource (form.Constant c) = ⊥
 HasNoSource (form.Splat size value) = ⊥
-HasNoSource (form.Literal value) = ⊤
-HasNoSource (form.Override o) = ⊤
-HasNoSource (form.ZeroValue ty) = ⊤
 HasNoSource (form.Compose ty components) = length components ≡ 1 → ⊥
-HasNoSource (form.Access base index) = ⊤
-HasNoSource (form.AccessIndex base index) = ⊤
-HasNoSource (form.Swizzle size vector pattern) = ⊤
-HasNoSource (form.FunctionArgument index) = ⊤
-HasNoSource (form.GlobalVariable v) = ⊤
-HasNoSource (form.LocalVariable v) = ⊤
-HasNoSource (form.Load pointer) = ⊤
-HasNoSource (form.ImageSample image sampler gather coordinate array_index offset level depth_ref clamp_to_edge) = ⊤
-HasNoSource (form.ImageLoad image coordinate array_index sample level) = ⊤
-HasNoSource (form.ImageQuery image query) = ⊤
-HasNoSource (form.Unary op expr) = ⊤
-HasNoSource (form.Binary op left right) = ⊤
-HasNoSource (form.Select condition accept reject) = ⊤
-HasNoSource (form.Derivative expr) = ⊤
-HasNoSource (form.Relational fun argument) = ⊤
-HasNoSource (form.Math fun arg arg1 arg2 arg3) = ⊤
-HasNoSource (form.As expr kind convert) = ⊤
-HasNoSource (form.CallResult f) = ⊤
-HasNoSource (form.AtomicResult ty comparison) = ⊤
-HasNoSource (form.WorkGroupUniformLoadResult ty) = ⊤
-HasNoSource (form.ArrayLength expr) = ⊤
-HasNoSource form.RayQueryProceedResult = ⊤
-HasNoSource (form.RayQueryGetIntersection query committed) = ⊤
-HasNoSource (form.RayQueryVertexPositions query committed) = ⊤
-HasNoSource form.SubgroupBallotResult = ⊤
-HasNoSource (form.SubgroupOperationResult ty) = ⊤
-HasNoSource (form.CooperativeLoad pointer stride) = ⊤
-HasNoSource (form.CooperativeMultiplyAdd a b c) = ⊤
+HasNoSource _ = ⊤
 
 -- the expression at a place has its integers from no single other
 abbrev pub HasNoSourceAt : Scope → Place → Type 0

@@ -71,7 +71,9 @@ pub record AreSound (s : ExpressionSurroundings) : Type 0 where
 
 -- every argument that an expression before index `root` names exists
 abbrev pub ArgumentsExist : ExpressionSurroundings → ℕ → Type 0
-ArgumentsExist s root = (e i : ℕ) → e < root → slice_get s.function.expressions e ≡ Some (form.FunctionArgument i) → i < length s.function.arguments
+ArgumentsExist s root =
+    (e i : ℕ) → e < root → slice_get s.function.expressions e ≡ Some (form.FunctionArgument i)
+    → i < length s.function.arguments
 
 -- if the expression `x` is the result of a call, the function that was called is known
 abbrev pub ResultIsKnown : ExpressionSurroundings → Expression → Type 0
@@ -79,7 +81,8 @@ ResultIsKnown s x = (f : ℕ) → x ≡ form.CallResult f → f < length s.infos
 
 -- the operands of an expression whose kinds its rule needs: the offset of a sample
 abbrev pub kind_operands : Expression → List ℕ
-kind_operands (form.ImageSample image sampler gather coordinate array_index offset level depth_ref clamp_to_edge) = option_to_list offset
+kind_operands (form.ImageSample image sampler gather coordinate array_index offset level depth_ref clamp_to_edge) =
+    option_to_list offset
 kind_operands x = []
 
 -- expression `x` can be validated at place `root`: all that it refers to exists, its operands precede it, their types

@@ -11,6 +11,7 @@ use naga_ir::handle::Handle;
 use naga_ir::ir::{Function, Module};
 use naga_ir::list::List;
 use naga_ir::memory::OutOfMemory;
+use naga_ir::origin::Origin;
 use naga_ir::tags::ExpressionTag;
 use std::alloc::Global;
 
@@ -59,44 +60,19 @@ pub fn only_source(module: &Module, function: &Function, place: &Place) -> Optio
     ensures source { IfSome result (λ next. IsSource (scope_in «module».now function.now) place.now next) }
     ensures none { IfNone result (HasNoSourceAt (scope_in «module».now function.now) place.now) }
 {
-    match expression_at(module, function, place) {
-        Expression::Constant(handle) => Some(Place::InModule(module.constants[*handle].init)),
-        Expression::Splat { value, .. } => Some(place.operand_place(*value)),
-        Expression::Compose { components, .. } => match components.as_slice() {
+    let expression = expression_at(module, function, place);
+    match expression.origin() {
+        Origin::Constant(handle) => Some(Place::InModule(module.constants[handle].init)),
+        Origin::Splat(value) => Some(place.operand_place(value)),
+        Origin::Compose(_) => match expression.components() {
             [component] => Some(place.operand_place(*component)),
             _ => None,
         },
-        Expression::Literal(_)
-        | Expression::Override(_)
-        | Expression::ZeroValue(_)
-        | Expression::Access { .. }
-        | Expression::AccessIndex { .. }
-        | Expression::Swizzle { .. }
-        | Expression::FunctionArgument(_)
-        | Expression::GlobalVariable(_)
-        | Expression::LocalVariable(_)
-        | Expression::Load { .. }
-        | Expression::ImageSample { .. }
-        | Expression::ImageLoad { .. }
-        | Expression::ImageQuery { .. }
-        | Expression::Unary { .. }
-        | Expression::Binary { .. }
-        | Expression::Select { .. }
-        | Expression::Derivative { .. }
-        | Expression::Relational { .. }
-        | Expression::Math { .. }
-        | Expression::As { .. }
-        | Expression::CallResult(_)
-        | Expression::AtomicResult { .. }
-        | Expression::WorkGroupUniformLoadResult { .. }
-        | Expression::ArrayLength(_)
-        | Expression::RayQueryProceedResult
-        | Expression::RayQueryGetIntersection { .. }
-        | Expression::RayQueryVertexPositions { .. }
-        | Expression::SubgroupBallotResult
-        | Expression::SubgroupOperationResult { .. }
-        | Expression::CooperativeLoad { .. }
-        | Expression::CooperativeMultiplyAdd { .. } => None,
+        Origin::Literal(_)
+        | Origin::Override(_)
+        | Origin::ZeroValue(_)
+        | Origin::Computed
+        | Origin::Runtime => None,
     }
 }
 

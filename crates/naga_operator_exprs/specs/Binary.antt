@@ -9,7 +9,7 @@ use Rattle.naga_ir.specs.declared.types.Scalar.{Scalar as ScalarType}
 use Rattle.naga_ir.specs.declared.types.ScalarKind.{ScalarKind}
 use Rattle.naga_ir.specs.declared.types.ScalarKind.TheVariants.{Sint, Uint, Float, Bool, AbstractInt, AbstractFloat}
 use Rattle.naga_ir.specs.declared.types.TypeInner.{TypeInner}
-use Rattle.naga_ir.specs.declared.types.TypeInner.TheVariants.{Scalar, Vector, Matrix, CooperativeMatrix, Atomic, Pointer, ValuePointer, Array, Struct, Image, Sampler, AccelerationStructure, RayQuery, BindingArray}
+use Rattle.naga_ir.specs.declared.types.TypeInner.TheVariants.{Matrix, CooperativeMatrix}
 use Rattle.naga_ir.specs.declared.types.VectorSize.{VectorSize}
 use Rattle.naga_info.specs.Results.{IsRuleResult}
 use Rattle.naga_info.specs.Stages.{every_stage}
@@ -43,18 +43,7 @@ are_both is x y = consists_of (λ scalar. is scalar.kind) x && are_equal x y
 abbrev pub is_any_matrix : TypeInner → Boolean
 is_any_matrix (Matrix columns rows scalar) = true
 is_any_matrix (CooperativeMatrix columns rows scalar role) = true
-is_any_matrix (Scalar scalar) = false
-is_any_matrix (Vector size scalar) = false
-is_any_matrix (Atomic scalar) = false
-is_any_matrix (Pointer base space) = false
-is_any_matrix (ValuePointer size scalar space) = false
-is_any_matrix (Array base size stride) = false
-is_any_matrix (Struct members span) = false
-is_any_matrix (Image dim arrayed class) = false
-is_any_matrix (Sampler comparison) = false
-is_any_matrix (AccelerationStructure vertex_return) = false
-is_any_matrix (RayQuery vertex_return) = false
-is_any_matrix (BindingArray base size) = false
+is_any_matrix _ = false
 
 -- values of types `x` and `y` are added: the types are equal, and numbers, vectors of numbers, or matrices
 abbrev pub can_add : TypeInner → TypeInner → Boolean
@@ -109,20 +98,7 @@ forbidden_on_right ShiftLeft x = forbidden_shift (vector_size_and_scalar x)
 forbidden_on_right ShiftRight x = forbidden_shift (vector_size_and_scalar x)
 forbidden_on_right Divide x = when (consists_of (λ scalar. is_integer scalar.kind) x) (Some Zero)
 forbidden_on_right Modulo x = when (consists_of (λ scalar. is_integer scalar.kind) x) (Some Zero)
-forbidden_on_right Add x = None
-forbidden_on_right Subtract x = None
-forbidden_on_right Multiply x = None
-forbidden_on_right Equal x = None
-forbidden_on_right NotEqual x = None
-forbidden_on_right Less x = None
-forbidden_on_right LessEqual x = None
-forbidden_on_right Greater x = None
-forbidden_on_right GreaterEqual x = None
-forbidden_on_right And x = None
-forbidden_on_right ExclusiveOr x = None
-forbidden_on_right InclusiveOr x = None
-forbidden_on_right LogicalAnd x = None
-forbidden_on_right LogicalOr x = None
+forbidden_on_right _ _ = None
 
 -- the error of a constant on the right, by the type on the left
 abbrev pub refusal_of : Forbidden → TypeInner → ℕ → ExpressionError
@@ -131,16 +107,25 @@ refusal_of Zero x right = DivideByZero
 
 -- the operand `right` is a constant expression that contains a number which `op` forbids, and `forbidden` says which
 abbrev pub RightIsForbidden : ExpressionSurroundings → BinaryOperator → ℕ → ℕ → Forbidden → Type 0
-RightIsForbidden s op left right forbidden = (forbidden_on_right op (form_at s left) ≡ Some forbidden) × ContainsForbidden (scope_of s) forbidden (InFunction right)
+RightIsForbidden s op left right forbidden =
+    (forbidden_on_right op (form_at s left) ≡ Some forbidden)
+    × ContainsForbidden (scope_of s) forbidden (InFunction right)
 
 -- the rule of an operator: the operands don't fit; or they do, and a constant on the right is forbidden; or they do,
 -- and none is
-pub data IsBinaryRule (s : ExpressionSurroundings) (op : BinaryOperator) (left right : ℕ) : Result ShaderStages ExpressionError → Type 0 where
-  wrong_operands : operands_fit op (form_at s left) (form_at s right) ≡ false → IsBinaryRule s op left right (Err (InvalidBinaryOperandTypes op left (form_at s left) right (form_at s right)))
-  forbidden_constant : (forbidden : Forbidden) → operands_fit op (form_at s left) (form_at s right) ≡ true → RightIsForbidden s op left right forbidden
+pub data IsBinaryRule (s : ExpressionSurroundings) (op : BinaryOperator) (left right : ℕ) :
+    Result ShaderStages ExpressionError → Type 0 where
+  wrong_operands : operands_fit op (form_at s left) (form_at s right) ≡ false
+      → IsBinaryRule s op left right (Err (InvalidBinaryOperandTypes op left (form_at s left) right (form_at s right)))
+  forbidden_constant : (forbidden : Forbidden) → operands_fit op (form_at s left) (form_at s right) ≡ true
+      → RightIsForbidden s op left right forbidden
       → IsBinaryRule s op left right (Err (refusal_of forbidden (form_at s left) right))
-  accepted : operands_fit op (form_at s left) (form_at s right) ≡ true → ((forbidden : Forbidden) → RightIsForbidden s op left right forbidden → ⊥) → IsBinaryRule s op left right (Ok every_stage)
+  accepted : operands_fit op (form_at s left) (form_at s right) ≡ true
+      → ((forbidden : Forbidden) → RightIsForbidden s op left right forbidden → ⊥)
+      → IsBinaryRule s op left right (Ok every_stage)
 
 -- a call returns `result`, which is the rule of the operator `op`, out of memory aside
-abbrev pub IsBinaryResult : ExpressionSurroundings → BinaryOperator → ℕ → ℕ → Result ShaderStages ExpressionError → Type 0
-IsBinaryResult s op left right result = (rule : Result ShaderStages ExpressionError) × IsBinaryRule s op left right rule × IsRuleResult rule result
+abbrev pub IsBinaryResult : ExpressionSurroundings → BinaryOperator → ℕ → ℕ → Result ShaderStages ExpressionError
+    → Type 0
+IsBinaryResult s op left right result =
+    (rule : Result ShaderStages ExpressionError) × IsBinaryRule s op left right rule × IsRuleResult rule result

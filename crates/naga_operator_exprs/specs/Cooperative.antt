@@ -5,7 +5,7 @@ use Rattle.naga_ir.specs.contracts.types.CooperativeRolePartialEq.TheImpl as of_
 use Rattle.naga_ir.specs.declared.types.CooperativeRole.{CooperativeRole}
 use Rattle.naga_ir.specs.declared.types.CooperativeRole.TheVariants.{A, B, C}
 use Rattle.naga_ir.specs.declared.types.TypeInner.{TypeInner}
-use Rattle.naga_ir.specs.declared.types.TypeInner.TheVariants.{Scalar, Vector, Matrix, CooperativeMatrix, Atomic, Pointer, ValuePointer, Array, Struct, Image, Sampler, AccelerationStructure, RayQuery, BindingArray}
+use Rattle.naga_ir.specs.declared.types.TypeInner.TheVariants.{CooperativeMatrix}
 use Rattle.naga_info.specs.Stages.{compute_stage}
 use Rattle.naga_info.specs.Surroundings.{ExpressionSurroundings, form_at}
 use Rattle.naga_info.specs.declared.expression_error.ExpressionError.{ExpressionError}
@@ -15,19 +15,7 @@ use Rattle.naga_types.specs.Checks.{first_error_or, require}
 -- `inner` is a cooperative matrix of role `wanted`
 abbrev pub has_role : CooperativeRole → TypeInner → Boolean
 has_role wanted (CooperativeMatrix columns rows scalar role) = of_role.ghosts.eq role wanted
-has_role wanted (Scalar scalar) = false
-has_role wanted (Vector size scalar) = false
-has_role wanted (Matrix columns rows scalar) = false
-has_role wanted (Atomic scalar) = false
-has_role wanted (Pointer base space) = false
-has_role wanted (ValuePointer size scalar space) = false
-has_role wanted (Array base size stride) = false
-has_role wanted (Struct members span) = false
-has_role wanted (Image dim arrayed class) = false
-has_role wanted (Sampler comparison) = false
-has_role wanted (AccelerationStructure vertex_return) = false
-has_role wanted (RayQuery vertex_return) = false
-has_role wanted (BindingArray base size) = false
+has_role _ _ = false
 
 -- the error of an operand of `a * b + c`, unless it has its role
 abbrev pub role_error : ExpressionSurroundings → CooperativeRole → ℕ → Option ExpressionError
@@ -35,4 +23,5 @@ role_error s role operand = require (has_role role (form_at s operand)) (Invalid
 
 -- the rule of `a * b + c` of cooperative matrices, which only compute shaders may use
 abbrev pub cooperative_multiply_add_rule : ExpressionSurroundings → ℕ → ℕ → ℕ → Result ShaderStages ExpressionError
-cooperative_multiply_add_rule s a b c = first_error_or (role_error s A a ∷ role_error s B b ∷ role_error s C c ∷ []) compute_stage
+cooperative_multiply_add_rule s a b c =
+    first_error_or (role_error s A a ∷ role_error s B b ∷ role_error s C c ∷ []) compute_stage

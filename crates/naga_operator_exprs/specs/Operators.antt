@@ -12,7 +12,7 @@ use Rattle.naga_ir.specs.declared.types.Scalar.{Scalar as ScalarType}
 use Rattle.naga_ir.specs.declared.types.ScalarKind.{ScalarKind}
 use Rattle.naga_ir.specs.declared.types.ScalarKind.TheVariants.{Sint, Uint, Float, Bool, AbstractInt, AbstractFloat}
 use Rattle.naga_ir.specs.declared.types.TypeInner.{TypeInner}
-use Rattle.naga_ir.specs.declared.types.TypeInner.TheVariants.{Scalar, Vector, Matrix, CooperativeMatrix, Atomic, Pointer, ValuePointer, Array, Struct, Image, Sampler, AccelerationStructure, RayQuery, BindingArray}
+use Rattle.naga_ir.specs.declared.types.TypeInner.TheVariants.{Scalar, Vector, Matrix}
 use Rattle.naga_ir.specs.declared.types.VectorSize.{VectorSize}
 use Rattle.naga_info.specs.Stages.{every_stage, fragment_stage}
 use Rattle.naga_info.specs.Surroundings.{ExpressionSurroundings, form_at}
@@ -39,7 +39,9 @@ takes BitwiseNot kind = is_integer kind
 
 -- the rule of an operator on one value
 abbrev pub unary_rule : ExpressionSurroundings → UnaryOperator → ℕ → Result ShaderStages ExpressionError
-unary_rule s op e = ok_unless (require (consists_of (λ scalar. takes op scalar.kind) (form_at s e)) (refusal.InvalidUnaryOperandType op e)) every_stage
+unary_rule s op e =
+    ok_unless (require (consists_of (λ scalar. takes op scalar.kind) (form_at s e))
+    (refusal.InvalidUnaryOperandType op e)) every_stage
 
 -- one bool chooses between values of any size, and several between vectors of as many components
 abbrev pub chooses_size : Option VectorSize → Option VectorSize → Boolean
@@ -58,16 +60,19 @@ chooses None _ = false
 abbrev pub select_checks : TypeInner → TypeInner → TypeInner → List (Option ExpressionError)
 select_checks condition accept reject =
     require (are_equal accept reject) (refusal.SelectValuesTypeMismatch accept reject) ∷
-    require (chooses (vector_size_and_scalar condition) (vector_size_and_scalar accept)) (refusal.SelectConditionNotABool condition) ∷
-    []
+    require (chooses (vector_size_and_scalar condition) (vector_size_and_scalar accept))
+    (refusal.SelectConditionNotABool condition) ∷ []
 
 -- the rule of a selection
 abbrev pub select_rule : ExpressionSurroundings → ℕ → ℕ → ℕ → Result ShaderStages ExpressionError
-select_rule s condition accept reject = first_error_or (select_checks (form_at s condition) (form_at s accept) (form_at s reject)) every_stage
+select_rule s condition accept reject =
+    first_error_or (select_checks (form_at s condition) (form_at s accept) (form_at s reject)) every_stage
 
 -- the rule of a derivative: of floating-point numbers of at least 32 bits, and vectors of such, among fragments
 abbrev pub derivative_rule : ExpressionSurroundings → ℕ → Result ShaderStages ExpressionError
-derivative_rule s e = ok_unless (require (consists_of (λ scalar. is_float scalar.kind && leb width_32 scalar.width) (form_at s e)) refusal.InvalidDerivative) fragment_stage
+derivative_rule s e =
+    let is_float_32 = consists_of (λ scalar. is_float scalar.kind && leb width_32 scalar.width) (form_at s e) in
+    ok_unless (require is_float_32 refusal.InvalidDerivative) fragment_stage
 
 -- a type is a vector of bools
 abbrev pub is_vector_of_bools : Option (Option VectorSize × ScalarType) → Boolean
@@ -77,10 +82,14 @@ is_vector_of_bools None = false
 -- the error of an argument, unless it is a vector of bools for `All` and `Any`, and a floating-point number or a vector
 -- of such for `IsNan` and `IsInf`
 abbrev pub relational_argument_error : RelationalFunction → ℕ → TypeInner → Option ExpressionError
-relational_argument_error All e inner = require (is_vector_of_bools (vector_size_and_scalar inner)) (refusal.InvalidBooleanVector e)
-relational_argument_error Any e inner = require (is_vector_of_bools (vector_size_and_scalar inner)) (refusal.InvalidBooleanVector e)
-relational_argument_error IsNan e inner = require (consists_of (λ scalar. is_float scalar.kind) inner) (refusal.InvalidFloatArgument e)
-relational_argument_error IsInf e inner = require (consists_of (λ scalar. is_float scalar.kind) inner) (refusal.InvalidFloatArgument e)
+relational_argument_error All e inner =
+    require (is_vector_of_bools (vector_size_and_scalar inner)) (refusal.InvalidBooleanVector e)
+relational_argument_error Any e inner =
+    require (is_vector_of_bools (vector_size_and_scalar inner)) (refusal.InvalidBooleanVector e)
+relational_argument_error IsNan e inner =
+    require (consists_of (λ scalar. is_float scalar.kind) inner) (refusal.InvalidFloatArgument e)
+relational_argument_error IsInf e inner =
+    require (consists_of (λ scalar. is_float scalar.kind) inner) (refusal.InvalidFloatArgument e)
 
 -- the rule of a query of a value
 abbrev pub relational_rule : ExpressionSurroundings → RelationalFunction → ℕ → Result ShaderStages ExpressionError
@@ -91,23 +100,16 @@ abbrev pub cast_scalar : TypeInner → Option ScalarType
 cast_scalar (Scalar scalar) = Some scalar
 cast_scalar (Vector size scalar) = Some scalar
 cast_scalar (Matrix columns rows scalar) = Some scalar
-cast_scalar (CooperativeMatrix columns rows scalar role) = None
-cast_scalar (Atomic scalar) = None
-cast_scalar (Pointer base space) = None
-cast_scalar (ValuePointer size scalar space) = None
-cast_scalar (Array base size stride) = None
-cast_scalar (Struct members span) = None
-cast_scalar (Image dim arrayed class) = None
-cast_scalar (Sampler comparison) = None
-cast_scalar (AccelerationStructure vertex_return) = None
-cast_scalar (RayQuery vertex_return) = None
-cast_scalar (BindingArray base size) = None
+cast_scalar _ = None
 
 -- a scalar can be converted to `kind`, and to `width` if it is given, or else keeps its own width
 abbrev pub can_cast : ℕ → ScalarKind → Option ℕ → Option ScalarType → Boolean
-can_cast capabilities kind width (Some scalar) = is_good_width capabilities (record { kind = kind; width = unwrap_or width scalar.width })
+can_cast capabilities kind width (Some scalar) =
+    is_good_width capabilities (record { kind = kind; width = unwrap_or width scalar.width })
 can_cast capabilities kind width None = false
 
 -- the rule of a conversion
 abbrev pub as_rule : ExpressionSurroundings → ℕ → ScalarKind → Option ℕ → Result ShaderStages ExpressionError
-as_rule s e kind convert = ok_unless (require (can_cast s.capabilities kind convert (cast_scalar (form_at s e))) refusal.InvalidCastArgument) every_stage
+as_rule s e kind convert =
+    ok_unless (require (can_cast s.capabilities kind convert (cast_scalar (form_at s e))) refusal.InvalidCastArgument)
+    every_stage

@@ -15,6 +15,7 @@ use naga_info::sources::{Place, components_at, expression_at};
 use naga_info::type_methods::is_integer;
 use naga_ir::expression::{Expression, Literal};
 use naga_ir::handle::Handle;
+use naga_ir::origin::Origin;
 use naga_ir::tags::TypeTag;
 
 /// What a constant on the right of an operator must not be.
@@ -87,41 +88,15 @@ fn is_forbidden_itself(
     ensures yes { IsTrue result → OwnForbidden (scope_of (surroundings context.entry)) forbidden expression.now }
     ensures no { OwnForbidden (scope_of (surroundings context.entry)) forbidden expression.now → IsTrue result }
 {
-    match expression {
-        Expression::Literal(literal) => is_forbidden_literal(forbidden, *literal),
-        Expression::ZeroValue(ty) => is_forbidden(forbidden, 0) && is_integer_zero(context, *ty),
-        Expression::Constant(_)
-        | Expression::Splat { .. }
-        | Expression::Compose { .. }
-        | Expression::Override(_)
-        | Expression::Access { .. }
-        | Expression::AccessIndex { .. }
-        | Expression::Swizzle { .. }
-        | Expression::FunctionArgument(_)
-        | Expression::GlobalVariable(_)
-        | Expression::LocalVariable(_)
-        | Expression::Load { .. }
-        | Expression::ImageSample { .. }
-        | Expression::ImageLoad { .. }
-        | Expression::ImageQuery { .. }
-        | Expression::Unary { .. }
-        | Expression::Binary { .. }
-        | Expression::Select { .. }
-        | Expression::Derivative { .. }
-        | Expression::Relational { .. }
-        | Expression::Math { .. }
-        | Expression::As { .. }
-        | Expression::CallResult(_)
-        | Expression::AtomicResult { .. }
-        | Expression::WorkGroupUniformLoadResult { .. }
-        | Expression::ArrayLength(_)
-        | Expression::RayQueryProceedResult
-        | Expression::RayQueryGetIntersection { .. }
-        | Expression::RayQueryVertexPositions { .. }
-        | Expression::SubgroupBallotResult
-        | Expression::SubgroupOperationResult { .. }
-        | Expression::CooperativeLoad { .. }
-        | Expression::CooperativeMultiplyAdd { .. } => false,
+    match expression.origin() {
+        Origin::Literal(literal) => is_forbidden_literal(forbidden, literal),
+        Origin::ZeroValue(ty) => is_forbidden(forbidden, 0) && is_integer_zero(context, ty),
+        Origin::Constant(_)
+        | Origin::Override(_)
+        | Origin::Compose(_)
+        | Origin::Splat(_)
+        | Origin::Computed
+        | Origin::Runtime => false,
     }
 }
 

@@ -22,35 +22,41 @@ declared_resolves m (form.Splat size value) earlier = plain_resolves m (form.Spl
 declared_resolves m _ earlier = Err NotResolvable
 
 -- everything that a type which `DeclaredTyping` resolves refers to exists
-exist : (m : Module) (x : Expression) (earlier : List TypeResolution) (r : TypeResolution) → CanResolve m x earlier → declared_resolves m x earlier ≡ Ok r → ResolutionExists (global_lists m) r
+exist : (m : Module) (x : Expression) (earlier : List TypeResolution) (r : TypeResolution) → CanResolve m x earlier
+    → declared_resolves m x earlier ≡ Ok r → ResolutionExists (global_lists m) r
 unfolding declared_resolves
 exist m (form.Literal value) earlier r can is = plain_lawful.exist m (form.Literal value) earlier r can is
 exist m (form.Constant c) earlier r can is = plain_lawful.exist m (form.Constant c) earlier r can is
 exist m (form.Override o) earlier r can is = plain_lawful.exist m (form.Override o) earlier r can is
 exist m (form.ZeroValue ty) earlier r can is = plain_lawful.exist m (form.ZeroValue ty) earlier r can is
-exist m (form.Compose ty components) earlier r can is = plain_lawful.exist m (form.Compose ty components) earlier r can is
+exist m (form.Compose ty components) earlier r can is =
+    plain_lawful.exist m (form.Compose ty components) earlier r can is
 exist m (form.Splat size value) earlier r can is = plain_lawful.exist m (form.Splat size value) earlier r can is
 exist m _ earlier r can is = cc
 
 -- each type that `DeclaredTyping` resolves is proper
-proper : (m : Module) (x : Expression) (earlier : List TypeResolution) (r : TypeResolution) → CanResolve m x earlier → declared_resolves m x earlier ≡ Ok r → IsProperResolution r
+proper : (m : Module) (x : Expression) (earlier : List TypeResolution) (r : TypeResolution) → CanResolve m x earlier
+    → declared_resolves m x earlier ≡ Ok r → IsProperResolution r
 unfolding declared_resolves
 proper m (form.Literal value) earlier r can is = plain_lawful.proper m (form.Literal value) earlier r can is
 proper m (form.Constant c) earlier r can is = plain_lawful.proper m (form.Constant c) earlier r can is
 proper m (form.Override o) earlier r can is = plain_lawful.proper m (form.Override o) earlier r can is
 proper m (form.ZeroValue ty) earlier r can is = plain_lawful.proper m (form.ZeroValue ty) earlier r can is
-proper m (form.Compose ty components) earlier r can is = plain_lawful.proper m (form.Compose ty components) earlier r can is
+proper m (form.Compose ty components) earlier r can is =
+    plain_lawful.proper m (form.Compose ty components) earlier r can is
 proper m (form.Splat size value) earlier r can is = plain_lawful.proper m (form.Splat size value) earlier r can is
 proper m _ earlier r can is = cc
 
 -- `DeclaredTyping` is never out of memory
-decided : (m : Module) (x : Expression) (earlier : List TypeResolution) → CanResolve m x earlier → declared_resolves m x earlier ≡ Err OutOfMemory → ⊥
+decided : (m : Module) (x : Expression) (earlier : List TypeResolution) → CanResolve m x earlier
+    → declared_resolves m x earlier ≡ Err OutOfMemory → ⊥
 unfolding declared_resolves
 decided m (form.Literal value) earlier can is = plain_lawful.decided m (form.Literal value) earlier can is
 decided m (form.Constant c) earlier can is = plain_lawful.decided m (form.Constant c) earlier can is
 decided m (form.Override o) earlier can is = plain_lawful.decided m (form.Override o) earlier can is
 decided m (form.ZeroValue ty) earlier can is = plain_lawful.decided m (form.ZeroValue ty) earlier can is
-decided m (form.Compose ty components) earlier can is = plain_lawful.decided m (form.Compose ty components) earlier can is
+decided m (form.Compose ty components) earlier can is =
+    plain_lawful.decided m (form.Compose ty components) earlier can is
 decided m (form.Splat size value) earlier can is = plain_lawful.decided m (form.Splat size value) earlier can is
 decided m _ earlier can is = cc
 

@@ -6,11 +6,11 @@ use Rattle.naga_ir.specs.Sizes.{components}
 use Rattle.naga_ir.specs.contracts.types.ScalarPartialEq.TheImpl as of_scalar
 use Rattle.naga_ir.specs.contracts.types.VectorSizePartialEq.TheImpl as of_size
 use Rattle.naga_ir.specs.declared.types.«Type».{«Type»}
-use Rattle.naga_ir.specs.declared.types.ArraySize.TheVariants.{Constant, Pending, Dynamic}
+use Rattle.naga_ir.specs.declared.types.ArraySize.TheVariants.{Constant}
 use Rattle.naga_ir.specs.declared.types.Scalar.{Scalar as ScalarType}
 use Rattle.naga_ir.specs.declared.types.StructMember.{StructMember}
 use Rattle.naga_ir.specs.declared.types.TypeInner.{TypeInner}
-use Rattle.naga_ir.specs.declared.types.TypeInner.TheVariants.{Scalar, Vector, Matrix, CooperativeMatrix, Atomic, Pointer, ValuePointer, Array, Struct, Image, Sampler, AccelerationStructure, RayQuery, BindingArray}
+use Rattle.naga_ir.specs.declared.types.TypeInner.TheVariants.{Scalar, Vector, Matrix, Array, Struct}
 use Rattle.naga_ir.specs.declared.types.VectorSize.{VectorSize}
 use Rattle.naga_typing.specs.Resolutions.{inner_in}
 use Rattle.naga_typing.specs.Sameness.{are_same}
@@ -25,55 +25,17 @@ use Rattle.naga_types.specs.declared.error.ComposeError.TheVariants.{ComponentCo
 abbrev pub is_part_of : ScalarType → Option TypeInner → Boolean
 is_part_of scalar (Some (Scalar s)) = of_scalar.ghosts.eq s scalar
 is_part_of scalar (Some (Vector size s)) = of_scalar.ghosts.eq s scalar
-is_part_of scalar (Some (Matrix columns rows s)) = false
-is_part_of scalar (Some (CooperativeMatrix columns rows s role)) = false
-is_part_of scalar (Some (Atomic s)) = false
-is_part_of scalar (Some (Pointer base space)) = false
-is_part_of scalar (Some (ValuePointer size s space)) = false
-is_part_of scalar (Some (Array base size stride)) = false
-is_part_of scalar (Some (Struct members span)) = false
-is_part_of scalar (Some (Image dim arrayed class)) = false
-is_part_of scalar (Some (Sampler comparison)) = false
-is_part_of scalar (Some (AccelerationStructure vertex_return)) = false
-is_part_of scalar (Some (RayQuery vertex_return)) = false
-is_part_of scalar (Some (BindingArray base size)) = false
-is_part_of scalar None = false
+is_part_of _ _ = false
 
 -- how many components of a vector a value of a type makes: as many as it has, if it is a vector itself
 abbrev pub parts_in : Option TypeInner → ℕ
 parts_in (Some (Vector size scalar)) = components size
-parts_in (Some (Scalar scalar)) = 1
-parts_in (Some (Matrix columns rows scalar)) = 1
-parts_in (Some (CooperativeMatrix columns rows scalar role)) = 1
-parts_in (Some (Atomic scalar)) = 1
-parts_in (Some (Pointer base space)) = 1
-parts_in (Some (ValuePointer size scalar space)) = 1
-parts_in (Some (Array base size stride)) = 1
-parts_in (Some (Struct members span)) = 1
-parts_in (Some (Image dim arrayed class)) = 1
-parts_in (Some (Sampler comparison)) = 1
-parts_in (Some (AccelerationStructure vertex_return)) = 1
-parts_in (Some (RayQuery vertex_return)) = 1
-parts_in (Some (BindingArray base size)) = 1
-parts_in None = 1
+parts_in _ = 1
 
 -- whether a type is a vector of `rows` components of `scalar`
 abbrev pub is_vector_of : VectorSize → ScalarType → Option TypeInner → Boolean
 is_vector_of rows scalar (Some (Vector size s)) = of_size.ghosts.eq size rows && of_scalar.ghosts.eq s scalar
-is_vector_of rows scalar (Some (Scalar s)) = false
-is_vector_of rows scalar (Some (Matrix columns column s)) = false
-is_vector_of rows scalar (Some (CooperativeMatrix columns column s role)) = false
-is_vector_of rows scalar (Some (Atomic s)) = false
-is_vector_of rows scalar (Some (Pointer base space)) = false
-is_vector_of rows scalar (Some (ValuePointer size s space)) = false
-is_vector_of rows scalar (Some (Array base size stride)) = false
-is_vector_of rows scalar (Some (Struct members span)) = false
-is_vector_of rows scalar (Some (Image dim arrayed class)) = false
-is_vector_of rows scalar (Some (Sampler comparison)) = false
-is_vector_of rows scalar (Some (AccelerationStructure vertex_return)) = false
-is_vector_of rows scalar (Some (RayQuery vertex_return)) = false
-is_vector_of rows scalar (Some (BindingArray base size)) = false
-is_vector_of rows scalar None = false
+is_vector_of _ _ _ = false
 
 -- whether `r` is of the type of index `t`
 abbrev pub is_of : List «Type» → ℕ → TypeResolution → Boolean
@@ -89,7 +51,8 @@ first_component_type_error fits given = first (map (component_type_error fits) (
 
 -- the error, unless as many components are `given` as are `expected`
 abbrev pub component_count_error : ℕ → ℕ → Option ComposeError
-component_count_error given expected = require (given == expected) (ComponentCount (saturated given) (saturated expected))
+component_count_error given expected =
+    require (given == expected) (ComponentCount (saturated given) (saturated expected))
 
 -- how many components of a vector the components `given` make
 abbrev pub all_parts : List «Type» → List TypeResolution → ℕ
@@ -99,26 +62,19 @@ all_parts types given = sum_by (λ r. parts_in (inner_in types r)) given
 -- for all other types the number comes first
 abbrev pub compose_checks : List «Type» → ℕ → Option TypeInner → List TypeResolution → List (Option ComposeError)
 compose_checks types t (Some (Vector size scalar)) given =
-    first_component_type_error (λ at. is_part_of scalar (inner_in types at.1)) given ∷ component_count_error (all_parts types given) (components size) ∷ []
+    first_component_type_error (λ at. is_part_of scalar (inner_in types at.1)) given
+    ∷ component_count_error (all_parts types given) (components size) ∷ []
 compose_checks types t (Some (Matrix columns rows scalar)) given =
-    component_count_error (length given) (components columns) ∷ first_component_type_error (λ at. is_vector_of rows scalar (inner_in types at.1)) given ∷ []
+    component_count_error (length given) (components columns)
+    ∷ first_component_type_error (λ at. is_vector_of rows scalar (inner_in types at.1)) given ∷ []
 compose_checks types t (Some (Array base (Constant count) stride)) given =
-    component_count_error (length given) count.value ∷ first_component_type_error (λ at. is_of types base at.1) given ∷ []
+    component_count_error (length given) count.value ∷ first_component_type_error (λ at. is_of types base at.1) given
+    ∷ []
 compose_checks types t (Some (Struct members span)) given =
-    component_count_error (length given) (length members) ∷ first_component_type_error (λ at. option_map_or (λ (m : StructMember). is_of types m.ty at.1) (slice_get members at.0) false) given ∷ []
-compose_checks types t (Some (Array base (Pending over) stride)) given = Some (Type_ t) ∷ []
-compose_checks types t (Some (Array base Dynamic stride)) given = Some (Type_ t) ∷ []
-compose_checks types t (Some (Scalar scalar)) given = Some (Type_ t) ∷ []
-compose_checks types t (Some (CooperativeMatrix columns rows scalar role)) given = Some (Type_ t) ∷ []
-compose_checks types t (Some (Atomic scalar)) given = Some (Type_ t) ∷ []
-compose_checks types t (Some (Pointer base space)) given = Some (Type_ t) ∷ []
-compose_checks types t (Some (ValuePointer size scalar space)) given = Some (Type_ t) ∷ []
-compose_checks types t (Some (Image dim arrayed class)) given = Some (Type_ t) ∷ []
-compose_checks types t (Some (Sampler comparison)) given = Some (Type_ t) ∷ []
-compose_checks types t (Some (AccelerationStructure vertex_return)) given = Some (Type_ t) ∷ []
-compose_checks types t (Some (RayQuery vertex_return)) given = Some (Type_ t) ∷ []
-compose_checks types t (Some (BindingArray base size)) given = Some (Type_ t) ∷ []
-compose_checks types t None given = Some (Type_ t) ∷ []
+    component_count_error (length given) (length members)
+    ∷ first_component_type_error (λ at. option_map_or (λ (m : StructMember). is_of types m.ty at.1)
+    (slice_get members at.0) false) given ∷ []
+compose_checks _ t _ _ = Some (Type_ t) ∷ []
 
 -- whether a value of the type of index `t` may be composed of the components `given`, or the error
 abbrev pub compose_rule : List «Type» → ℕ → List TypeResolution → Result (Unit {0}) ComposeError

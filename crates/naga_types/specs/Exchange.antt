@@ -31,23 +31,12 @@ is_bool AbstractFloat = false
 -- values of a type are bools, of one byte
 abbrev pub is_bool_type : Option TypeInner → Boolean
 is_bool_type (Some (form.Scalar scalar)) = is_bool scalar.kind && scalar.width == bool_width
-is_bool_type (Some (form.Vector size scalar)) = false
-is_bool_type (Some (form.Matrix columns rows scalar)) = false
-is_bool_type (Some (form.CooperativeMatrix columns rows scalar role)) = false
-is_bool_type (Some (form.Atomic scalar)) = false
-is_bool_type (Some (form.Pointer base space)) = false
-is_bool_type (Some (form.ValuePointer size scalar space)) = false
-is_bool_type (Some (form.Array base size stride)) = false
-is_bool_type (Some (form.Struct members span)) = false
-is_bool_type (Some (form.Image dim arrayed class)) = false
-is_bool_type (Some (form.Sampler comparison)) = false
-is_bool_type (Some (form.AccelerationStructure vertex_return)) = false
-is_bool_type (Some (form.RayQuery vertex_return)) = false
-is_bool_type (Some (form.BindingArray base size)) = false
-is_bool_type None = false
+is_bool_type _ = false
 
 -- the type of the old value, if the members are `old_value` and a bool `exchanged`
 abbrev pub old_value_form : List «Type» → List StructMember → Option TypeInner
 old_value_form types (old ∷ flag ∷ []) =
-    when (is_named (codes "old_value") old && (is_named (codes "exchanged") flag && is_bool_type (form_in (slice_get types flag.ty)))) (form_in (slice_get types old.ty))
+    when (is_named (codes "old_value") old
+    && (is_named (codes "exchanged") flag && is_bool_type (form_in (slice_get types flag.ty))))
+    (form_in (slice_get types old.ty))
 old_value_form types _ = None

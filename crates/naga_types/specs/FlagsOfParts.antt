@@ -15,7 +15,8 @@ use Rattle.naga_typing.specs.Leaves.{inner_at}
 -- if the type of index `t` is a struct, the type of each member has all flags in `info`, except `IO_SHAREABLE`
 abbrev pub MembersHaveFlags : GlobalLists → List TypeInfo → ℕ → TypeInfo → Type 0
 MembersHaveFlags g infos t info =
-    (members : List StructMember) (span : ℕ) (m : StructMember) (flags : ℕ) → inner_at g t ≡ Some (Struct members span) → Contains members m → bit_and IO_SHAREABLE flags ≡ 0 → has info.flags.0 flags ≡ true
+    (members : List StructMember) (span : ℕ) (m : StructMember) (flags : ℕ) → inner_at g t ≡ Some (Struct members span)
+    → Contains members m → bit_and IO_SHAREABLE flags ≡ 0 → has info.flags.0 flags ≡ true
     → has (info_in (slice_get infos m.ty)).flags.0 flags ≡ true
 
 -- `info` has the flag `CONSTRUCTIBLE`

@@ -3,7 +3,7 @@ use Rattle.std.specs.Prelude.{ℕ, Bool as Boolean, true, false, [], ◌∷◌, 
 use Rattle.naga_flags.specs.Bits.{ARGUMENT, CONSTRUCTIBLE, COPY, CREATION_RESOLVED, DATA, HOST_SHAREABLE, SIZED, all_type_flags, union_of}
 use Rattle.naga_ir.specs.Sizes.{is_numeric}
 use Rattle.naga_ir.specs.declared.types.AddressSpace.{AddressSpace}
-use Rattle.naga_ir.specs.declared.types.AddressSpace.TheVariants.{Function, Private, WorkGroup, Uniform, Storage, Handle, Immediate, TaskPayload, RayPayload, IncomingRayPayload}
+use Rattle.naga_ir.specs.declared.types.AddressSpace.TheVariants.{Function, Private, RayPayload, IncomingRayPayload}
 use Rattle.naga_ir.specs.declared.types.ArraySize.{ArraySize}
 use Rattle.naga_ir.specs.declared.types.ArraySize.TheVariants.{Constant, Pending, Dynamic}
 use Rattle.naga_ir.specs.declared.types.ScalarKind.{ScalarKind}
@@ -26,12 +26,7 @@ is_argument_space Function = true
 is_argument_space Private = true
 is_argument_space RayPayload = true
 is_argument_space IncomingRayPayload = true
-is_argument_space WorkGroup = false
-is_argument_space Uniform = false
-is_argument_space (Storage access) = false
-is_argument_space Handle = false
-is_argument_space Immediate = false
-is_argument_space TaskPayload = false
+is_argument_space _ = false
 
 -- what pointers into a space may be used for
 abbrev pub pointer_flags : AddressSpace → ℕ
@@ -54,7 +49,8 @@ ray_query_flags = union_of (DATA ∷ SIZED ∷ CREATION_RESOLVED ∷ CONSTRUCTIB
 -- what arrays may be used for at most: the size of one that an override sizes is not known when a module is created,
 -- and one of unknown length has no fixed size
 abbrev pub array_flags : ArraySize → ℕ
-array_flags (Constant n) = union_of (DATA ∷ SIZED ∷ COPY ∷ HOST_SHAREABLE ∷ CREATION_RESOLVED ∷ ARGUMENT ∷ CONSTRUCTIBLE ∷ [])
+array_flags (Constant n) =
+    union_of (DATA ∷ SIZED ∷ COPY ∷ HOST_SHAREABLE ∷ CREATION_RESOLVED ∷ ARGUMENT ∷ CONSTRUCTIBLE ∷ [])
 array_flags (Pending o) = union_of (DATA ∷ SIZED ∷ COPY ∷ HOST_SHAREABLE ∷ ARGUMENT ∷ [])
 array_flags Dynamic = union_of (DATA ∷ COPY ∷ HOST_SHAREABLE ∷ CREATION_RESOLVED ∷ [])
 

@@ -40,9 +40,13 @@ uniform_alignment g t = uniform_alignment_in (inner_at g t)
 -- if the type of index `t` is a struct, its span is a multiple of its leaf alignment, and each offset of the leaf
 -- alignment of the member's type; if it is an array, its stride is a multiple of the leaf alignment of its base
 pub record IsStorageAligned (g : GlobalLists) (t : ℕ) : Type 0 where
-  pub of_span : (members : List StructMember) (span : ℕ) → inner_at g t ≡ Some (form.Struct members span) → OfLeafAlignment g t (λ a. span % a ≡ 0)
-  pub of_offset : (members : List StructMember) (span : ℕ) (m : StructMember) → inner_at g t ≡ Some (form.Struct members span) → Contains members m → OfLeafAlignment g m.ty (λ a. m.offset % a ≡ 0)
-  pub of_stride : (base : ℕ) (size : ArraySize) (stride : ℕ) → inner_at g t ≡ Some (form.Array base size stride) → OfLeafAlignment g base (λ a. stride % a ≡ 0)
+  pub of_span : (members : List StructMember) (span : ℕ) → inner_at g t ≡ Some (form.Struct members span)
+      → OfLeafAlignment g t (λ a. span % a ≡ 0)
+  pub of_offset : (members : List StructMember) (span : ℕ) (m : StructMember)
+      → inner_at g t ≡ Some (form.Struct members span) → Contains members m
+      → OfLeafAlignment g m.ty (λ a. m.offset % a ≡ 0)
+  pub of_stride : (base : ℕ) (size : ArraySize) (stride : ℕ) → inner_at g t ≡ Some (form.Array base size stride)
+      → OfLeafAlignment g base (λ a. stride % a ≡ 0)
 
 -- the type of index `t` has a storage layout in `info` exactly if all types inside it are aligned as
 -- `IsStorageAligned` says, and then the layout is its leaf alignment
@@ -54,16 +58,25 @@ pub record HasStorageByLeaves (g : GlobalLists) (t : ℕ) (info : TypeInfo) : Ty
 -- an offset that is a multiple of the uniform alignment of its type, and a member after a struct begins after the
 -- struct's span, rounded up to a multiple of 16; if it is an array, its stride is a multiple of its uniform alignment
 pub record IsUniformAligned (g : GlobalLists) (infos : List TypeInfo) (t : ℕ) : Type 0 where
-  pub of_span : (members : List StructMember) (span : ℕ) → inner_at g t ≡ Some (form.Struct members span) → OfLeafAlignment g t (λ a. span % a ≡ 0)
-  pub of_offset : (members : List StructMember) (span : ℕ) (m : StructMember) → inner_at g t ≡ Some (form.Struct members span) → Contains members m
+  pub of_span : (members : List StructMember) (span : ℕ) → inner_at g t ≡ Some (form.Struct members span)
+      → OfLeafAlignment g t (λ a. span % a ≡ 0)
+  pub of_offset : (members : List StructMember) (span : ℕ) (m : StructMember)
+      → inner_at g t ≡ Some (form.Struct members span) → Contains members m
       → OfLeafAlignment g m.ty (λ a. m.offset % uniform_alignment g m.ty a ≡ 0)
-  pub of_size : (members : List StructMember) (span : ℕ) (m : StructMember) → inner_at g t ≡ Some (form.Struct members span) → Contains members m → has (info_in (slice_get infos m.ty)).flags.0 SIZED ≡ true
-  pub of_room : (members : List StructMember) (span i : ℕ) (m next : StructMember) (inside : List StructMember) (room : ℕ) → inner_at g t ≡ Some (form.Struct members span) → slice_get members i ≡ Some m
-      → slice_get members (suc i) ≡ Some next → inner_at g m.ty ≡ Some (form.Struct inside room) → m.offset + rounded_up room ≤ next.offset
-  pub of_stride : (base : ℕ) (size : ArraySize) (stride : ℕ) → inner_at g t ≡ Some (form.Array base size stride) → OfLeafAlignment g t (λ a. stride % uniform_alignment g t a ≡ 0)
+  pub of_size : (members : List StructMember) (span : ℕ) (m : StructMember)
+      → inner_at g t ≡ Some (form.Struct members span) → Contains members m
+      → has (info_in (slice_get infos m.ty)).flags.0 SIZED ≡ true
+  pub of_room : (members : List StructMember) (span i : ℕ) (m next : StructMember) (inside : List StructMember)
+      (room : ℕ)
+      → inner_at g t ≡ Some (form.Struct members span) → slice_get members i ≡ Some m
+      → slice_get members (suc i) ≡ Some next → inner_at g m.ty ≡ Some (form.Struct inside room)
+      → m.offset + rounded_up room ≤ next.offset
+  pub of_stride : (base : ℕ) (size : ArraySize) (stride : ℕ) → inner_at g t ≡ Some (form.Array base size stride)
+      → OfLeafAlignment g t (λ a. stride % uniform_alignment g t a ≡ 0)
 
 -- the type of index `t` has a uniform layout in `info` exactly if all types inside it are aligned as
 -- `IsUniformAligned` says, and then the layout is its uniform alignment
 pub record HasUniformByLeaves (g : GlobalLists) (infos : List TypeInfo) (t : ℕ) (info : TypeInfo) : Type 0 where
   pub exactly : IsOk info.uniform_layout ↔ ((u : ℕ) → IsInside g t u → IsUniformAligned g infos u)
-  pub alignment : IsOk info.uniform_layout → OfLeafAlignment g t (λ a. info.uniform_layout ≡ Ok (uniform_alignment g t a))
+  pub alignment : IsOk info.uniform_layout
+      → OfLeafAlignment g t (λ a. info.uniform_layout ≡ Ok (uniform_alignment g t a))

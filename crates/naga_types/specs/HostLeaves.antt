@@ -24,14 +24,18 @@ resolved_for_hosts = union_of (DATA ∷ CREATION_RESOLVED ∷ HOST_SHAREABLE ∷
 
 -- `number` is a multiple of the alignment of each leaf of the type of index `t`
 abbrev pub AlignsLeaves : GlobalLists → ℕ → ℕ → Type 0
-AlignsLeaves g t number = (n : ℕ) (path : List ℕ) (leaf : LeafBytes) → leaf_at g (elements g n) t path ≡ Some leaf → number % leaf.alignment ≡ 0
+AlignsLeaves g t number =
+    (n : ℕ) (path : List ℕ) (leaf : LeafBytes) → leaf_at g (elements g n) t path ≡ Some leaf
+    → number % leaf.alignment ≡ 0
 
 -- each layout of a type that hosts may share is a multiple of the alignments of its leaves; these are aligned and share
 -- no byte, and end within its size, or where the elements of the runtime-sized array end that it ends in
 pub record LeavesAreSeparate (g : GlobalLists) (infos : List TypeInfo) (t : ℕ) : Type 0 where
-  pub layouts : (laid_out : IsLaidOutForHosts g infos t data_for_hosts) → IfOk laid_out.info.uniform_layout (AlignsLeaves g t) × IfOk laid_out.info.storage_layout (AlignsLeaves g t)
+  pub layouts : (laid_out : IsLaidOutForHosts g infos t data_for_hosts)
+      → IfOk laid_out.info.uniform_layout (AlignsLeaves g t) × IfOk laid_out.info.storage_layout (AlignsLeaves g t)
   pub sized : IsLaidOutForHosts g infos t sized_for_hosts → (n : ℕ) → AreSeparate g n t (size_at_index g t)
-  pub runtime_sized : IsLaidOutForHosts g infos t resolved_for_hosts → (first stride : ℕ) → EndsInArray g t first stride → (n : ℕ) → AreSeparate g n t (first + n * stride)
+  pub runtime_sized : IsLaidOutForHosts g infos t resolved_for_hosts → (first stride : ℕ) → EndsInArray g t first stride
+      → (n : ℕ) → AreSeparate g n t (first + n * stride)
 
 -- the leaves of each type are as hosts may rely on
 abbrev pub AllLeavesAreSeparate : GlobalLists → List TypeInfo → Type 0

@@ -18,9 +18,12 @@ pub record AreColumns {A B C D : Type 0} (flags : List A) (uniform : List B) (st
   pub immediates_long : length immediates ≡ length flags
 
 -- an info, by its fields
-abbrev pub info_of : TypeFlags × (Result ℕ (ℕ × Disalignment) × (Result ℕ (ℕ × Disalignment) × Result (Unit {0}) ImmediateError)) → TypeInfo
+abbrev pub info_of : TypeFlags
+    × (Result ℕ (ℕ × Disalignment) × (Result ℕ (ℕ × Disalignment) × Result (Unit {0}) ImmediateError))
+    → TypeInfo
 info_of p = record { flags = p.0; uniform_layout = p.1.0; storage_layout = p.1.1.0; immediates_compatibility = p.1.1.1 }
 
 -- infos, by the columns of their fields
-unfoldable pub infos_in : List TypeFlags → List (Result ℕ (ℕ × Disalignment)) → List (Result ℕ (ℕ × Disalignment)) → List (Result (Unit {0}) ImmediateError) → List TypeInfo
+unfoldable pub infos_in : List TypeFlags → List (Result ℕ (ℕ × Disalignment)) → List (Result ℕ (ℕ × Disalignment))
+    → List (Result (Unit {0}) ImmediateError) → List TypeInfo
 infos_in flags uniform storage immediates = map info_of (zip flags (zip uniform (zip storage immediates)))

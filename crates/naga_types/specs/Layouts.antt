@@ -48,22 +48,24 @@ offset_error t i offset (Ok a) = require (offset % a == 0) (t, MemberOffset (sat
 -- the error of a member that is not host-shareable, or not aligned
 abbrev pub member_layout_error : Surroundings → (TypeInfo → Layout) → ℕ → ℕ × StructMember → Option (ℕ × Disalignment)
 member_layout_error s layout t at =
-    option_or
-    (require (has (flags_at s at.1.ty) HOST_SHAREABLE) (at.1.ty, NonHostShareable))
+    option_or (require (has (flags_at s at.1.ty) HOST_SHAREABLE) (at.1.ty, NonHostShareable))
     (offset_error t at.0 at.1.offset (layout (info_at s at.1.ty)))
 
 -- for each member, the error if it is not host-shareable, or not aligned
-abbrev pub member_layout_errors : Surroundings → (TypeInfo → Layout) → ℕ → List StructMember → List (Option (ℕ × Disalignment))
+abbrev pub member_layout_errors : Surroundings → (TypeInfo → Layout) → ℕ → List StructMember
+    → List (Option (ℕ × Disalignment))
 member_layout_errors s layout t members = map (member_layout_error s layout t) (enumerate_from 0 members)
 
 -- the greatest alignment of the members, and 1 if none has one
 abbrev pub greatest_alignment : Surroundings → (TypeInfo → Layout) → List StructMember → ℕ
-greatest_alignment s layout members = greatest (map (λ (m : StructMember). result_unwrap_or (layout (info_at s m.ty)) 1) members)
+greatest_alignment s layout members =
+    greatest (map (λ (m : StructMember). result_unwrap_or (layout (info_at s m.ty)) 1) members)
 
 -- the layout in the storage address space: the span and all members are aligned
 abbrev pub storage_layout_of : Surroundings → ℕ → List StructMember → ℕ → Layout
 storage_layout_of s t members span =
-    first_error_or (span_error s t span ∷ first (member_layout_errors s in_storage t members) ∷ []) (greatest_alignment s in_storage members)
+    first_error_or (span_error s t span ∷ first (member_layout_errors s in_storage t members) ∷ [])
+    (greatest_alignment s in_storage members)
 
 -- the least multiple of `min_uniform` that is `n` bytes or more
 abbrev pub rounded_up : ℕ → ℕ
@@ -71,22 +73,8 @@ rounded_up n = (n + (min_uniform - 1)) / min_uniform * min_uniform
 
 -- the first byte that may follow a member in the uniform address space, if the member is a struct
 abbrev pub end_after_struct : Option StructMember → Option TypeInner → ℕ
-end_after_struct None inner = 0
 end_after_struct (Some m) (Some (form.Struct members span)) = m.offset + rounded_up span
-end_after_struct (Some m) (Some (form.Scalar scalar)) = 0
-end_after_struct (Some m) (Some (form.Vector size scalar)) = 0
-end_after_struct (Some m) (Some (form.Matrix columns rows scalar)) = 0
-end_after_struct (Some m) (Some (form.CooperativeMatrix columns rows scalar role)) = 0
-end_after_struct (Some m) (Some (form.Atomic scalar)) = 0
-end_after_struct (Some m) (Some (form.Pointer base space)) = 0
-end_after_struct (Some m) (Some (form.ValuePointer size scalar space)) = 0
-end_after_struct (Some m) (Some (form.Array base size stride)) = 0
-end_after_struct (Some m) (Some (form.Image dim arrayed class)) = 0
-end_after_struct (Some m) (Some (form.Sampler comparison)) = 0
-end_after_struct (Some m) (Some (form.AccelerationStructure vertex_return)) = 0
-end_after_struct (Some m) (Some (form.RayQuery vertex_return)) = 0
-end_after_struct (Some m) (Some (form.BindingArray base size)) = 0
-end_after_struct (Some m) None = 0
+end_after_struct _ _ = 0
 
 -- the member before the one at a place
 abbrev pub before : List StructMember → ℕ → Option StructMember
@@ -95,12 +83,14 @@ before members (suc i) = slice_get members i
 
 -- the first byte that may follow the member before the one at a place, and 0 if no struct is before it
 abbrev pub end_after_struct_before : Surroundings → List StructMember → ℕ → ℕ
-end_after_struct_before s members i = end_after_struct (before members i) (option_and_then (λ (m : StructMember). form_at s m.ty) (before members i))
+end_after_struct_before s members i =
+    end_after_struct (before members i) (option_and_then (λ (m : StructMember). form_at s m.ty) (before members i))
 
 -- the error of a member that begins in the room of the struct before it
 abbrev pub padding_error : Surroundings → ℕ → List StructMember → ℕ × StructMember → Option (ℕ × Disalignment)
 padding_error s t members at =
-    require (leb (end_after_struct_before s members at.0) at.1.offset) (t, MemberOffsetAfterStruct (saturated at.0) at.1.offset (saturated (end_after_struct_before s members at.0)))
+    require (leb (end_after_struct_before s members at.0) at.1.offset)
+    (t, MemberOffsetAfterStruct (saturated at.0) at.1.offset (saturated (end_after_struct_before s members at.0)))
 
 -- the error of the last member that begins in the room of the struct before it
 abbrev pub last_padding_error : Surroundings → ℕ → List StructMember → Option (ℕ × Disalignment)
@@ -117,7 +107,7 @@ unsized_errors s t members = map (unsized_error s t) (enumerate_from 0 members)
 -- the layout in the uniform address space: the span and all members are aligned, each member after a struct begins
 -- after the padded end of the struct, all have fixed sizes, and the alignment is at least `min_uniform`
 abbrev pub uniform_layout_of : Surroundings → ℕ → List StructMember → ℕ → Layout
-uniform_layout_of s t members span =
-    first_error_or
-    (span_error s t span ∷ last_padding_error s t members ∷ first (member_layout_errors s in_uniform t members) ∷ first (unsized_errors s t members) ∷ [])
+uniform_layout_of s t members span = first_error_or
+    (span_error s t span ∷ last_padding_error s t members ∷ first (member_layout_errors s in_uniform t members)
+    ∷ first (unsized_errors s t members) ∷ [])
     (max (greatest_alignment s in_uniform members) min_uniform)

@@ -15,7 +15,9 @@ no_multiple alignment = codes " is not a multiple of the required alignment " ++
 abbrev pub text_of : Disalignment → List ℕ
 text_of (ArrayStride stride alignment) = codes "The array stride " ++ decimal stride ++ no_multiple alignment
 text_of (StructSpan span alignment) = codes "The struct span " ++ decimal span ++ codes "," ++ no_multiple alignment
-text_of (MemberOffset index offset alignment) = of_member index ++ codes " offset " ++ decimal offset ++ no_multiple alignment
-text_of (MemberOffsetAfterStruct index offset expected) = of_member index ++ codes " offset " ++ decimal offset ++ codes " must be at least " ++ decimal expected
+text_of (MemberOffset index offset alignment) =
+    of_member index ++ codes " offset " ++ decimal offset ++ no_multiple alignment
+text_of (MemberOffsetAfterStruct index offset expected) =
+    of_member index ++ codes " offset " ++ decimal offset ++ codes " must be at least " ++ decimal expected
 text_of (UnsizedMember index) = of_member index ++ codes " is not statically sized"
 text_of NonHostShareable = codes "The type is not host-shareable"

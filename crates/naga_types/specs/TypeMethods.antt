@@ -25,14 +25,7 @@ is_sized (form.Sampler comparison) = false
 is_sized (form.AccelerationStructure vertex_return) = false
 is_sized (form.RayQuery vertex_return) = false
 is_sized (form.BindingArray base size) = false
-is_sized (form.Scalar scalar) = true
-is_sized (form.Vector size scalar) = true
-is_sized (form.Matrix columns rows scalar) = true
-is_sized (form.CooperativeMatrix columns rows scalar role) = true
-is_sized (form.Atomic scalar) = true
-is_sized (form.Pointer base space) = true
-is_sized (form.ValuePointer size scalar space) = true
-is_sized (form.Struct members span) = true
+is_sized _ = true
 
 -- the dimension of images in which so many integers are coordinates, if there is one
 abbrev pub dimension_of : VectorSize → Option ImageDimension
@@ -44,15 +37,4 @@ dimension_of Quad = None
 abbrev pub image_storage_coordinates : TypeInner → Option ImageDimension
 image_storage_coordinates (form.Scalar scalar) = when (is_integer scalar.kind) (Some D1)
 image_storage_coordinates (form.Vector size scalar) = when (is_integer scalar.kind) (dimension_of size)
-image_storage_coordinates (form.Matrix columns rows scalar) = None
-image_storage_coordinates (form.CooperativeMatrix columns rows scalar role) = None
-image_storage_coordinates (form.Atomic scalar) = None
-image_storage_coordinates (form.Pointer base space) = None
-image_storage_coordinates (form.ValuePointer size scalar space) = None
-image_storage_coordinates (form.Array base size stride) = None
-image_storage_coordinates (form.Struct members span) = None
-image_storage_coordinates (form.Image dim arrayed class) = None
-image_storage_coordinates (form.Sampler comparison) = None
-image_storage_coordinates (form.AccelerationStructure vertex_return) = None
-image_storage_coordinates (form.RayQuery vertex_return) = None
-image_storage_coordinates (form.BindingArray base size) = None
+image_storage_coordinates _ = None

@@ -1,20 +1,22 @@
 -- The rule of one type, by its variant.
 use Rattle.std.specs.Prelude.{◌==◌, ◌&&◌, ◌||◌, not, leb, max, ℕ, ◌%◌, Bool as Boolean, true, false, List, [], ◌∷◌, Option, Some, None, Result, Ok, Err, bit_and, is_some, if◌then◌else◌}
+use Rattle.std.specs.Option.{option_map_or}
 use Rattle.naga_flags.specs.Bits.{COOPERATIVE_MATRIX, CREATION_RESOLVED, CUBE_ARRAY_TEXTURES, DATA, RAY_HIT_VERTEX_POSITION, RAY_QUERY, RAY_TRACING_PIPELINE, SHADER_FLOAT32_ATOMIC, SHADER_INT64_ATOMIC_ALL_OPS, SHADER_INT64_ATOMIC_MIN_MAX, SIZED, TEXTURE_EXTERNAL}
 use Rattle.naga_flags.specs.Flags.{has}
 use Rattle.naga_flags.specs.Width.{immediates_of, is_good_width, width_16, width_32, width_64, width_error}
 use Rattle.naga_ir.specs.ItemReferences.{GlobalLists}
+use Rattle.naga_ir.specs.TypeWords.{is_struct}
 use Rattle.naga_ir.specs.declared.types.AddressSpace.{AddressSpace}
-use Rattle.naga_ir.specs.declared.types.AddressSpace.TheVariants.{Function, Private, WorkGroup, Uniform, Storage, Handle, Immediate, TaskPayload, RayPayload, IncomingRayPayload}
+use Rattle.naga_ir.specs.declared.types.AddressSpace.TheVariants.{Storage}
 use Rattle.naga_ir.specs.declared.types.ArraySize.{ArraySize}
 use Rattle.naga_ir.specs.declared.types.ArraySize.TheVariants.{Constant, Pending, Dynamic}
 use Rattle.naga_ir.specs.declared.types.ImageClass.{ImageClass}
 use Rattle.naga_ir.specs.declared.types.ImageClass.TheVariants as image
 use Rattle.naga_ir.specs.declared.types.ImageDimension.{ImageDimension}
-use Rattle.naga_ir.specs.declared.types.ImageDimension.TheVariants.{D1, D2, D3, Cube}
+use Rattle.naga_ir.specs.declared.types.ImageDimension.TheVariants.{D2, D3, Cube}
 use Rattle.naga_ir.specs.declared.types.Scalar.{Scalar}
 use Rattle.naga_ir.specs.declared.types.ScalarKind.{ScalarKind}
-use Rattle.naga_ir.specs.declared.types.ScalarKind.TheVariants.{Sint, Uint, Float, Bool, AbstractInt, AbstractFloat}
+use Rattle.naga_ir.specs.declared.types.ScalarKind.TheVariants.{Sint, Uint, Float}
 use Rattle.naga_ir.specs.declared.types.TypeInner.{TypeInner}
 use Rattle.naga_ir.specs.declared.types.TypeInner.TheVariants as form
 use Rattle.naga_typing.specs.Constants.{override_count}
@@ -32,33 +34,18 @@ use Rattle.naga_types.specs.declared.info.TypeInfo.{TypeInfo}
 -- the address space is `Storage`
 abbrev pub is_storage : AddressSpace → Boolean
 is_storage (Storage access) = true
-is_storage Function = false
-is_storage Private = false
-is_storage WorkGroup = false
-is_storage Uniform = false
-is_storage Handle = false
-is_storage Immediate = false
-is_storage TaskPayload = false
-is_storage RayPayload = false
-is_storage IncomingRayPayload = false
+is_storage _ = false
 
 -- the kind is `Sint` or `Uint`
 abbrev pub is_integer : ScalarKind → Boolean
 is_integer Sint = true
 is_integer Uint = true
-is_integer Float = false
-is_integer Bool = false
-is_integer AbstractInt = false
-is_integer AbstractFloat = false
+is_integer _ = false
 
 -- the kind is `Float`
 abbrev pub is_float : ScalarKind → Boolean
 is_float Float = true
-is_float Sint = false
-is_float Uint = false
-is_float Bool = false
-is_float AbstractInt = false
-is_float AbstractFloat = false
+is_float _ = false
 
 -- the error of a type that needs the capability `flag`, if it is missing
 abbrev pub capability_error : ℕ → ℕ → Option TypeError
@@ -77,7 +64,9 @@ of_scalars flags alignment scalar = record (shared flags alignment) { immediates
 abbrev pub atomic_error : ℕ → Scalar → Option TypeError
 atomic_error capabilities s =
     if is_integer s.kind && s.width == width_32 then None
-    else if is_integer s.kind && s.width == width_64 then require (has capabilities SHADER_INT64_ATOMIC_MIN_MAX || has capabilities SHADER_INT64_ATOMIC_ALL_OPS) (MissingCapability (record { 0 = SHADER_INT64_ATOMIC_ALL_OPS }))
+    else if is_integer s.kind && s.width == width_64
+    then require (has capabilities SHADER_INT64_ATOMIC_MIN_MAX || has capabilities SHADER_INT64_ATOMIC_ALL_OPS)
+    (MissingCapability (record { 0 = SHADER_INT64_ATOMIC_ALL_OPS }))
     else if is_float s.kind && s.width == width_32 then capability_error capabilities SHADER_FLOAT32_ATOMIC
     else Some (InvalidAtomicWidth s.kind s.width)
 
@@ -85,16 +74,14 @@ atomic_error capabilities s =
 abbrev pub cooperative_checks : ℕ → Scalar → List (Option TypeError)
 cooperative_checks capabilities scalar =
     capability_error capabilities COOPERATIVE_MATRIX ∷
-    require (is_float scalar.kind && (scalar.width == width_16 || scalar.width == width_32)) MatrixElementNotFloat ∷
-    []
+    require (is_float scalar.kind && (scalar.width == width_16 || scalar.width == width_32)) MatrixElementNotFloat ∷ []
 
 -- the conditions of a pointer, by what its base may be used for: the base is data, and has a fixed size unless the
 -- address space is `Storage`
 abbrev pub pointer_checks : ℕ → ℕ → AddressSpace → List (Option TypeError)
 pointer_checks flags base space =
     require (has flags DATA) (InvalidPointerBase base) ∷
-    require (has flags SIZED || is_storage space) (InvalidPointerToUnsized base space) ∷
-    []
+    require (has flags SIZED || is_storage space) (InvalidPointerToUnsized base space) ∷ []
 
 -- an override that sizes an array gives a count
 abbrev pub has_count : GlobalLists → ArraySize → Boolean
@@ -106,7 +93,8 @@ has_count g Dynamic = true
 -- there, and its stride is a multiple of it
 abbrev pub array_layout : ℕ → ℕ → ℕ → Layout → Layout
 array_layout handle least stride (Err e) = Err e
-array_layout handle least stride (Ok base) = ok_unless (require (stride % max base least == 0) (handle, ArrayStride stride (max base least))) (max base least)
+array_layout handle least stride (Ok base) =
+    ok_unless (require (stride % max base least == 0) (handle, ArrayStride stride (max base least))) (max base least)
 
 -- the conditions of an array: elements of a fixed size that is known when a module is created, a stride that is not
 -- below this size, which `any_stride` leaves out, and a count if overrides must have their values
@@ -114,8 +102,7 @@ abbrev pub array_checks : Boolean → Surroundings → ℕ → ℕ → ArraySize
 array_checks any_stride s handle base size stride =
     require (has (flags_at s base) element_flags) (InvalidArrayBaseType base) ∷
     when (not any_stride) (require (leb (size_at s base) stride) (InvalidArrayStride stride (size_at s base))) ∷
-    when s.resolved (require (has_count s.lists size) (InvalidArraySize handle)) ∷
-    []
+    when s.resolved (require (has_count s.lists size) (InvalidArraySize handle)) ∷ []
 
 -- the info of an array: in uniform buffers its alignment is at least the least alignment of arrays there
 abbrev pub array_info : Surroundings → ℕ → ℕ → ArraySize → ℕ → TypeInfo
@@ -132,30 +119,22 @@ array_info s handle base size stride =
 -- the dimension is `D3`
 abbrev pub is_3d : ImageDimension → Boolean
 is_3d D3 = true
-is_3d D1 = false
-is_3d D2 = false
-is_3d Cube = false
+is_3d _ = false
 
 -- the dimension is `Cube`
 abbrev pub is_cube : ImageDimension → Boolean
 is_cube Cube = true
-is_cube D1 = false
-is_cube D2 = false
-is_cube D3 = false
+is_cube _ = false
 
 -- the dimension is `D2`
 abbrev pub is_2d : ImageDimension → Boolean
 is_2d D2 = true
-is_2d D1 = false
-is_2d D3 = false
-is_2d Cube = false
+is_2d _ = false
 
 -- the class is `External`
 abbrev pub is_external : ImageClass → Boolean
 is_external image.External = true
-is_external (image.Sampled kind multi) = false
-is_external (image.Depth multi) = false
-is_external (image.Storage format access) = false
+is_external _ = false
 
 -- the conditions of an image: no 3D image is arrayed, arrayed cubes need a capability, and external textures are 2D,
 -- not arrayed, and need another capability
@@ -164,68 +143,38 @@ image_checks capabilities dim arrayed class =
     require (not (arrayed && is_3d dim)) (UnsupportedImageType dim arrayed class) ∷
     when (arrayed && is_cube dim) (capability_error capabilities CUBE_ARRAY_TEXTURES) ∷
     when (is_external class) (require (is_2d dim && not arrayed) (UnsupportedImageType dim arrayed class)) ∷
-    when (is_external class) (capability_error capabilities TEXTURE_EXTERNAL) ∷
-    []
+    when (is_external class) (capability_error capabilities TEXTURE_EXTERNAL) ∷ []
 
 -- the error of a type that returns the vertices of a hit, if the capability for that is missing
 abbrev pub vertex_return_condition : ℕ → Boolean → Option TypeError
-vertex_return_condition capabilities vertex_return = when vertex_return (capability_error capabilities RAY_HIT_VERTEX_POSITION)
+vertex_return_condition capabilities vertex_return =
+    when vertex_return (capability_error capabilities RAY_HIT_VERTEX_POSITION)
 
 -- the conditions of an acceleration structure: one of two capabilities, and another if it gives the vertices of a hit
 abbrev pub acceleration_checks : ℕ → Boolean → List (Option TypeError)
 acceleration_checks capabilities vertex_return =
-    require (has capabilities RAY_TRACING_PIPELINE || has capabilities RAY_QUERY) (MissingCapability (record { 0 = RAY_QUERY })) ∷
-    vertex_return_condition capabilities vertex_return ∷
-    []
+    require (has capabilities RAY_TRACING_PIPELINE || has capabilities RAY_QUERY)
+    (MissingCapability (record { 0 = RAY_QUERY })) ∷
+    vertex_return_condition capabilities vertex_return ∷ []
 
 -- the conditions of a ray query: a capability, and another if it gives the vertices of a hit
 abbrev pub ray_query_checks : ℕ → Boolean → List (Option TypeError)
-ray_query_checks capabilities vertex_return = capability_error capabilities RAY_QUERY ∷ vertex_return_condition capabilities vertex_return ∷ []
-
--- a type is a struct
-abbrev pub is_struct : Option TypeInner → Boolean
-is_struct (Some (form.Struct members span)) = true
-is_struct (Some (form.Scalar scalar)) = false
-is_struct (Some (form.Vector size scalar)) = false
-is_struct (Some (form.Matrix columns rows scalar)) = false
-is_struct (Some (form.CooperativeMatrix columns rows scalar role)) = false
-is_struct (Some (form.Atomic scalar)) = false
-is_struct (Some (form.Pointer base space)) = false
-is_struct (Some (form.ValuePointer size scalar space)) = false
-is_struct (Some (form.Array base size stride)) = false
-is_struct (Some (form.Image dim arrayed class)) = false
-is_struct (Some (form.Sampler comparison)) = false
-is_struct (Some (form.AccelerationStructure vertex_return)) = false
-is_struct (Some (form.RayQuery vertex_return)) = false
-is_struct (Some (form.BindingArray base size)) = false
-is_struct None = false
+ray_query_checks capabilities vertex_return =
+    capability_error capabilities RAY_QUERY ∷ vertex_return_condition capabilities vertex_return ∷ []
 
 -- a type is an external texture
 abbrev pub is_external_image : Option TypeInner → Boolean
 is_external_image (Some (form.Image dim arrayed class)) = is_external class
-is_external_image (Some (form.Scalar scalar)) = false
-is_external_image (Some (form.Vector size scalar)) = false
-is_external_image (Some (form.Matrix columns rows scalar)) = false
-is_external_image (Some (form.CooperativeMatrix columns rows scalar role)) = false
-is_external_image (Some (form.Atomic scalar)) = false
-is_external_image (Some (form.Pointer base space)) = false
-is_external_image (Some (form.ValuePointer size scalar space)) = false
-is_external_image (Some (form.Array base size stride)) = false
-is_external_image (Some (form.Struct members span)) = false
-is_external_image (Some (form.Sampler comparison)) = false
-is_external_image (Some (form.AccelerationStructure vertex_return)) = false
-is_external_image (Some (form.RayQuery vertex_return)) = false
-is_external_image (Some (form.BindingArray base size)) = false
-is_external_image None = false
+is_external_image _ = false
 
 -- the conditions of a binding array: elements that are data are structs, none are external textures, and no override
 -- sizes them
 abbrev pub binding_array_checks : Surroundings → ℕ → List (Option TypeError)
 binding_array_checks s base =
-    require (not (has (flags_at s base) DATA) || is_struct (form_at s base)) (BindingArrayBaseTypeNotStruct base) ∷
+    require (not (has (flags_at s base) DATA) || option_map_or is_struct (form_at s base) false)
+    (BindingArrayBaseTypeNotStruct base) ∷
     require (not (is_external_image (form_at s base))) BindingArrayBaseExternalTextures ∷
-    require (has (flags_at s base) CREATION_RESOLVED) (InvalidData base) ∷
-    []
+    require (has (flags_at s base) CREATION_RESOLVED) (InvalidData base) ∷ []
 
 -- what gives the info of a type by its index, or the first error
 abbrev pub TypeRule : Type 0
@@ -238,19 +187,28 @@ type_rule_with any_stride s t (form.Scalar scalar) =
 type_rule_with any_stride s t (form.Vector size scalar) =
     ok_unless (scalar_error s.capabilities scalar) (of_scalars (scalar_flags scalar.kind) (alignment_at s.layouts t) scalar)
 type_rule_with any_stride s t (form.Matrix columns rows scalar) =
-    first_error_or (require (is_float scalar.kind) MatrixElementNotFloat ∷ scalar_error s.capabilities scalar ∷ []) (of_scalars unshared_flags (alignment_at s.layouts t) scalar)
+    first_error_or (require (is_float scalar.kind) MatrixElementNotFloat ∷ scalar_error s.capabilities scalar ∷ [])
+    (of_scalars unshared_flags (alignment_at s.layouts t) scalar)
 type_rule_with any_stride s t (form.CooperativeMatrix columns rows scalar role) =
     first_error_or (cooperative_checks s.capabilities scalar) (shared unshared_flags (alignment_at s.layouts t))
-type_rule_with any_stride s t (form.Atomic scalar) = ok_unless (atomic_error s.capabilities scalar) (shared atomic_flags (alignment_at s.layouts t))
-type_rule_with any_stride s t (form.Pointer base space) = first_error_or (pointer_checks (flags_at s base) base space) (shared (pointer_flags space) 1)
-type_rule_with any_stride s t (form.ValuePointer size scalar space) = ok_unless (scalar_error s.capabilities scalar) (shared (pointer_flags space) 1)
-type_rule_with any_stride s t (form.Array base size stride) = first_error_or (array_checks any_stride s t base size stride) (array_info s t base size stride)
+type_rule_with any_stride s t (form.Atomic scalar) =
+    ok_unless (atomic_error s.capabilities scalar) (shared atomic_flags (alignment_at s.layouts t))
+type_rule_with any_stride s t (form.Pointer base space) =
+    first_error_or (pointer_checks (flags_at s base) base space) (shared (pointer_flags space) 1)
+type_rule_with any_stride s t (form.ValuePointer size scalar space) =
+    ok_unless (scalar_error s.capabilities scalar) (shared (pointer_flags space) 1)
+type_rule_with any_stride s t (form.Array base size stride) =
+    first_error_or (array_checks any_stride s t base size stride) (array_info s t base size stride)
 type_rule_with any_stride s t (form.Struct members span) = struct_rule s t members span
-type_rule_with any_stride s t (form.Image dim arrayed class) = first_error_or (image_checks s.capabilities dim arrayed class) (shared opaque_flags 1)
+type_rule_with any_stride s t (form.Image dim arrayed class) =
+    first_error_or (image_checks s.capabilities dim arrayed class) (shared opaque_flags 1)
 type_rule_with any_stride s t (form.Sampler comparison) = Ok (shared opaque_flags 1)
-type_rule_with any_stride s t (form.AccelerationStructure vertex_return) = first_error_or (acceleration_checks s.capabilities vertex_return) (shared opaque_flags 1)
-type_rule_with any_stride s t (form.RayQuery vertex_return) = first_error_or (ray_query_checks s.capabilities vertex_return) (shared ray_query_flags 1)
-type_rule_with any_stride s t (form.BindingArray base size) = first_error_or (binding_array_checks s base) (shared (bit_and (flags_at s base) (binding_array_flags size)) 1)
+type_rule_with any_stride s t (form.AccelerationStructure vertex_return) =
+    first_error_or (acceleration_checks s.capabilities vertex_return) (shared opaque_flags 1)
+type_rule_with any_stride s t (form.RayQuery vertex_return) =
+    first_error_or (ray_query_checks s.capabilities vertex_return) (shared ray_query_flags 1)
+type_rule_with any_stride s t (form.BindingArray base size) =
+    first_error_or (binding_array_checks s base) (shared (bit_and (flags_at s base) (binding_array_flags size)) 1)
 
 -- the rule of a type: strides are not below the size of elements
 abbrev pub type_rule : TypeRule

@@ -12,12 +12,13 @@ ghost use Rattle.naga_typing.specs.Context.{lists_of};
 
 use crate::error::{Disalignment, TypeError};
 use crate::info::{LayoutCompatibility, TypeContext, TypeInfo};
+use crate::type_rule::is_external;
 use bitflags::Flags;
 use naga_flags::flags::TypeFlags;
 use naga_ir::alignment::Alignment;
 use naga_ir::handle::Handle;
 use naga_ir::tags::TypeTag;
-use naga_ir::types::{ArraySize, ImageClass, TypeInner};
+use naga_ir::types::{ArraySize, TypeInner};
 use naga_typing::context::GlobalCtx;
 use naga_typing::type_methods::override_count;
 
@@ -131,6 +132,28 @@ pub(crate) fn validate_array<'a>(
     })
 }
 
+/// Whether a type is an external texture.
+fn is_external_image(inner: &TypeInner) -> bool
+    ensures { result ≡ rule.is_external_image (Some inner.now) }
+{
+    match inner {
+        TypeInner::Image { class, .. } => is_external(*class),
+        TypeInner::Scalar(_)
+        | TypeInner::Vector { .. }
+        | TypeInner::Matrix { .. }
+        | TypeInner::CooperativeMatrix { .. }
+        | TypeInner::Atomic(_)
+        | TypeInner::Pointer { .. }
+        | TypeInner::ValuePointer { .. }
+        | TypeInner::Array { .. }
+        | TypeInner::Struct { .. }
+        | TypeInner::Sampler { .. }
+        | TypeInner::AccelerationStructure { .. }
+        | TypeInner::RayQuery { .. }
+        | TypeInner::BindingArray { .. } => false,
+    }
+}
+
 /// The info of a binding array, or why it is refused.
 pub(crate) fn validate_binding_array<'a>(
     ctx: TypeContext<'a>,
@@ -146,15 +169,11 @@ pub(crate) fn validate_binding_array<'a>(
     let flags = ctx.infos.get(base).flags;
     let inner = &gctx.types[base].inner;
     // Ray queries are data too, so this also keeps them out of binding arrays (naga).
-    if flags.contains(TypeFlags::DATA) && !matches!(inner, TypeInner::Struct { .. }) {
+    if flags.contains(TypeFlags::DATA) && !inner.is_struct() {
         return Err(TypeError::BindingArrayBaseTypeNotStruct(base));
     }
     // naga doesn't support binding arrays of external textures yet.
-    if let TypeInner::Image {
-        class: ImageClass::External,
-        ..
-    } = inner
-    {
+    if is_external_image(inner) {
         return Err(TypeError::BindingArrayBaseExternalTextures);
     }
     if !flags.contains(TypeFlags::CREATION_RESOLVED) {

@@ -47,5 +47,20 @@ fn is_named(member: &StructMember, name: &str) -> bool
 fn is_bool_type(inner: &TypeInner) -> bool
     ensures { result ≡ spec.is_bool_type (Some inner.now) }
 {
-    matches!(inner, TypeInner::Scalar(scalar) if *scalar == Scalar::BOOL)
+    match inner {
+        TypeInner::Scalar(scalar) => *scalar == Scalar::BOOL,
+        TypeInner::Vector { .. }
+        | TypeInner::Matrix { .. }
+        | TypeInner::CooperativeMatrix { .. }
+        | TypeInner::Atomic(_)
+        | TypeInner::Pointer { .. }
+        | TypeInner::ValuePointer { .. }
+        | TypeInner::Array { .. }
+        | TypeInner::Struct { .. }
+        | TypeInner::Image { .. }
+        | TypeInner::Sampler { .. }
+        | TypeInner::AccelerationStructure { .. }
+        | TypeInner::RayQuery { .. }
+        | TypeInner::BindingArray { .. } => false,
+    }
 }

@@ -194,7 +194,22 @@ impl StructType<'_> {
             return Ok(());
         }
         // What came after a runtime-sized array would have no fixed offset, so it has to be last.
-        let is_array = matches!(self.gctx.types[member.ty].inner, TypeInner::Array { .. });
+        let is_array = match self.gctx.types[member.ty].inner {
+            TypeInner::Array { .. } => true,
+            TypeInner::Scalar(_)
+            | TypeInner::Vector { .. }
+            | TypeInner::Matrix { .. }
+            | TypeInner::CooperativeMatrix { .. }
+            | TypeInner::Atomic(_)
+            | TypeInner::Pointer { .. }
+            | TypeInner::ValuePointer { .. }
+            | TypeInner::Struct { .. }
+            | TypeInner::Image { .. }
+            | TypeInner::Sampler { .. }
+            | TypeInner::AccelerationStructure { .. }
+            | TypeInner::RayQuery { .. }
+            | TypeInner::BindingArray { .. } => false,
+        };
         let is_last = index + 1 == self.members.len();
         if is_array && is_last {
             return Ok(());

@@ -1,25 +1,26 @@
 -- Whether two types are the same: the bool and the relation agree.
-use Rattle.std.proofs.Common.{◌≡◌, ◌==◌, ◌&&◌, ◌↔◌, ◌⊎◌, inl, inr, ℕ, Bool, not, Decides, IsTrue, List, Option, Some, None, refl, sym, ap, subst₂, true≢false, ◌∙◌}
+use Rattle.std.proofs.Common.{◌≡◌, ◌==◌, ◌&&◌, ◌↔◌, ◌⊎◌, inl, inr, ℕ, Bool, true, false, not, Decides, IsFalse, IsTrue, List, Option, Some, None, refl, sym, ap, subst₂, true≢false, ◌∙◌}
 use Rattle.std.proofs.lemmas.Bool.Decides.{Decides-and, Decides-eqb, Decides-like, Decides-or, same_from_decides}
 use Rattle.std.proofs.lemmas.Option.{same_Some}
 use Rattle.naga_ir.proofs.SameInner.{inner_decides}
-use Rattle.naga_ir.specs.TypeWords.{IsNotStruct, IsStruct}
+use Rattle.naga_ir.specs.TypeWords.{IsNotStruct, IsStruct, is_struct}
 use Rattle.naga_ir.specs.contracts.types.TypeInnerPartialEq.TheImpl as of_inner
 use Rattle.naga_ir.specs.declared.types.«Type».{«Type»}
 use Rattle.naga_ir.specs.declared.types.TypeInner.{TypeInner}
-use Rattle.naga_ir.specs.declared.types.TypeInner.TheVariants.{Struct}
-use Rattle.naga_typing.specs.Sameness.{are_same, are_same_found, are_same_inners, is_one_handle, is_struct}
+use Rattle.naga_typing.specs.Sameness.{are_same, are_same_found, are_same_inners, is_one_handle}
 use Rattle.naga_typing.specs.Resolutions.{AreOneHandle, AreSameInners, AreSameTypes, canonical, handle_of, inner_in}
 use Rattle.naga_typing.specs.declared.typifier.TypeResolution.{TypeResolution}
 use Rattle.naga_typing.specs.declared.typifier.TypeResolution.TheVariants.{Handle}
 
 struct_decides : (x : TypeInner) → Decides (is_struct x) (IsStruct x)
-struct_decides (Struct members span) = (λ _. tt, λ _. refl)
-struct_decides _ = (λ e. absurd (true≢false (sym e)), λ h. absurd h)
+struct_decides x = (λ e. e, λ h. h)
+
+false_decides : (b : Bool) → Decides (not b) (IsFalse b)
+false_decides true = (λ e. absurd (true≢false (sym e)), λ h. absurd (true≢false h))
+false_decides false = (λ _. refl, λ _. refl)
 
 no_struct_decides : (x : TypeInner) → Decides (not (is_struct x)) (IsNotStruct x)
-no_struct_decides (Struct members span) = (λ e. absurd (true≢false (sym e)), λ h. absurd h)
-no_struct_decides _ = (λ _. tt, λ _. refl)
+no_struct_decides x = false_decides (is_struct x)
 
 same_handle : (t u : ℕ) → Handle t ≡ Handle u → t ≡ u
 same_handle t u e = cc
@@ -73,13 +74,13 @@ same_decides types lhs rhs = found_decides types lhs rhs _ _
 pub same_types : (types : List «Type») (lhs rhs : TypeResolution) (result : Bool) → IsTrue result ↔ AreSameTypes types lhs rhs → result ≡ are_same types lhs rhs
 same_types types lhs rhs result says = same_from_decides result (are_same types lhs rhs) says (same_decides types lhs rhs)
 
-struct_or_not : (x : TypeInner) → IsStruct x ⊎ IsNotStruct x
-struct_or_not (Struct members span) = inl tt
-struct_or_not _ = inr tt
+true_or_false : (b : Bool) → IsTrue b ⊎ IsFalse b
+true_or_false true = inl refl
+true_or_false false = inr refl
 
 -- resolutions that are one handle are of the same type
 pub one_handle_is_same : (types : List «Type») (lhs rhs : TypeResolution) (x : TypeInner) → inner_in types lhs ≡ Some x → AreOneHandle lhs rhs → AreSameTypes types lhs rhs
-one_handle_is_same types lhs rhs x at one = (x, x, at, ap (inner_in types) (one.2 ∙ sym one.1) ∙ at, same (struct_or_not x))
+one_handle_is_same types lhs rhs x at one = (x, x, at, ap (inner_in types) (one.2 ∙ sym one.1) ∙ at, same (true_or_false (is_struct x)))
   where
     same : IsStruct x ⊎ IsNotStruct x → AreSameInners types lhs rhs x x
     same (inl is) = inl (is, is, one)

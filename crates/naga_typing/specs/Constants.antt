@@ -30,14 +30,7 @@ literal_index (literal.U16 n) = Ok n
 literal_index (literal.U32 n) = Ok n
 literal_index (literal.I16 n) = not_negative n
 literal_index (literal.I32 n) = not_negative n
-literal_index (literal.F64 bits) = Err InvalidType
-literal_index (literal.F32 bits) = Err InvalidType
-literal_index (literal.F16 bits) = Err InvalidType
-literal_index (literal.U64 n) = Err InvalidType
-literal_index (literal.I64 n) = Err InvalidType
-literal_index (literal.Bool value) = Err InvalidType
-literal_index (literal.AbstractInt n) = Err InvalidType
-literal_index (literal.AbstractFloat bits) = Err InvalidType
+literal_index _ = Err InvalidType
 
 -- values of a scalar type can be indexes: integers of two or four bytes
 abbrev pub is_index_type : Scalar → Boolean
@@ -53,56 +46,14 @@ is_index_type s = elim s.kind [
 -- the zero of a scalar type is an index if values of the type can be
 abbrev pub zero_index : TypeInner → Result ℕ ConstValueError
 zero_index (form.Scalar s) = if is_index_type s then Ok 0 else Err InvalidType
-zero_index (form.Vector size scalar) = Err NonConst
-zero_index (form.Matrix columns rows scalar) = Err NonConst
-zero_index (form.CooperativeMatrix columns rows scalar role) = Err NonConst
-zero_index (form.Atomic scalar) = Err NonConst
-zero_index (form.Pointer base space) = Err NonConst
-zero_index (form.ValuePointer size scalar space) = Err NonConst
-zero_index (form.Array base size stride) = Err NonConst
-zero_index (form.Struct members span) = Err NonConst
-zero_index (form.Image dim arrayed class) = Err NonConst
-zero_index (form.Sampler comparison) = Err NonConst
-zero_index (form.AccelerationStructure vertex_return) = Err NonConst
-zero_index (form.RayQuery vertex_return) = Err NonConst
-zero_index (form.BindingArray base size) = Err NonConst
+zero_index _ = Err NonConst
 
 -- the index that an expression gives by itself: a constant gives none
 abbrev pub unnamed_index_of : List «Type» → Expression → Result ℕ ConstValueError
 unnamed_index_of types (expression.Literal value) = literal_index value
-unnamed_index_of types (expression.ZeroValue ty) = option_map_or (λ (t : «Type»). zero_index t.inner) (slice_get types ty) (Err NonConst)
-unnamed_index_of types (expression.Constant c) = Err NonConst
-unnamed_index_of types (expression.Override o) = Err NonConst
-unnamed_index_of types (expression.Compose ty components) = Err NonConst
-unnamed_index_of types (expression.Access base index) = Err NonConst
-unnamed_index_of types (expression.AccessIndex base index) = Err NonConst
-unnamed_index_of types (expression.Splat size value) = Err NonConst
-unnamed_index_of types (expression.Swizzle size vector pattern) = Err NonConst
-unnamed_index_of types (expression.FunctionArgument index) = Err NonConst
-unnamed_index_of types (expression.GlobalVariable v) = Err NonConst
-unnamed_index_of types (expression.LocalVariable v) = Err NonConst
-unnamed_index_of types (expression.Load pointer) = Err NonConst
-unnamed_index_of types (expression.ImageSample image sampler gather coordinate array_index offset level depth_ref clamp_to_edge) = Err NonConst
-unnamed_index_of types (expression.ImageLoad image coordinate array_index sample level) = Err NonConst
-unnamed_index_of types (expression.ImageQuery image query) = Err NonConst
-unnamed_index_of types (expression.Unary op expr) = Err NonConst
-unnamed_index_of types (expression.Binary op left right) = Err NonConst
-unnamed_index_of types (expression.Select condition accept reject) = Err NonConst
-unnamed_index_of types (expression.Derivative expr) = Err NonConst
-unnamed_index_of types (expression.Relational fun argument) = Err NonConst
-unnamed_index_of types (expression.Math fun arg arg1 arg2 arg3) = Err NonConst
-unnamed_index_of types (expression.As expr kind convert) = Err NonConst
-unnamed_index_of types (expression.CallResult f) = Err NonConst
-unnamed_index_of types (expression.AtomicResult ty comparison) = Err NonConst
-unnamed_index_of types (expression.WorkGroupUniformLoadResult ty) = Err NonConst
-unnamed_index_of types (expression.ArrayLength expr) = Err NonConst
-unnamed_index_of types expression.RayQueryProceedResult = Err NonConst
-unnamed_index_of types (expression.RayQueryGetIntersection query committed) = Err NonConst
-unnamed_index_of types (expression.RayQueryVertexPositions query committed) = Err NonConst
-unnamed_index_of types expression.SubgroupBallotResult = Err NonConst
-unnamed_index_of types (expression.SubgroupOperationResult ty) = Err NonConst
-unnamed_index_of types (expression.CooperativeLoad pointer stride) = Err NonConst
-unnamed_index_of types (expression.CooperativeMultiplyAdd a b c) = Err NonConst
+unnamed_index_of types (expression.ZeroValue ty) =
+    option_map_or (λ (t : «Type»). zero_index t.inner) (slice_get types ty) (Err NonConst)
+unnamed_index_of _ _ = Err NonConst
 
 -- the index that an expression of a list gives by itself
 abbrev pub unnamed_index : List «Type» → Option Expression → Result ℕ ConstValueError
@@ -129,12 +80,7 @@ abbrev pub NamedItemExists : GlobalLists → Reference → Type 0
 NamedItemExists g (to.Type_ t) = t < length g.types
 NamedItemExists g (to.Constant c) = c < length g.constants
 NamedItemExists g (to.Override o) = o < length g.overrides
-NamedItemExists g (to.GlobalVariable v) = ⊤
-NamedItemExists g (to.Expression e) = ⊤
-NamedItemExists g (to.LocalVariable v) = ⊤
-NamedItemExists g (to.Function f) = ⊤
-NamedItemExists g (to.DiagnosticFilterNode d) = ⊤
-NamedItemExists g (to.Emit range) = ⊤
+NamedItemExists _ _ = ⊤
 
 -- each type, constant and override that expressions name exists
 abbrev pub NamedItemsExist : GlobalLists → List Expression → Type 0

@@ -7,7 +7,12 @@ use Rattle.naga_typing.specs.declared.context.GlobalCtx.{GlobalCtx}
 
 -- the four lists of a context
 abbrev pub lists_of : GlobalCtx → GlobalLists
-lists_of g = record { types = g.types.now; constants = g.constants.now; overrides = g.overrides.now; expressions = g.global_expressions.now }
+lists_of g = record {
+  types = g.types.now;
+  constants = g.constants.now;
+  overrides = g.overrides.now;
+  expressions = g.global_expressions.now;
+}
 
 -- everything that a type refers to exists
 abbrev pub ReferencesExist : GlobalLists → TypeInner → Type 0

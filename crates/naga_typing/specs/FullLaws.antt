@@ -44,11 +44,14 @@ use Rattle.naga_typing.specs.declared.typifier.TypeResolution.{TypeResolution}
 use Rattle.naga_typing.specs.declared.typifier.TypeResolution.TheVariants.{Value}
 
 module _ (g : GlobalLists) (types_ok : AllPartsExist g.types) where
-  of_pointer : (base : ℕ) (space : AddressSpace) → base < length g.types → IsLawfulResult g (Ok (Value (Pointer base space)))
+  of_pointer : (base : ℕ) (space : AddressSpace) → base < length g.types
+      → IsLawfulResult g (Ok (Value (Pointer base space)))
   unfolding parts size_override
-  of_pointer base space within = (All-cons (ExistsGlobally g) (to.Type_ base) [] within (All-nil (ExistsGlobally g)), tt)
+  of_pointer base space within =
+      (All-cons (ExistsGlobally g) (to.Type_ base) [] within (All-nil (ExistsGlobally g)), tt)
 
-  of_value_pointer : (size : Option VectorSize) (scalar : ScalarType) (space : AddressSpace) → IsLawfulResult g (Ok (Value (ValuePointer size scalar space)))
+  of_value_pointer : (size : Option VectorSize) (scalar : ScalarType) (space : AddressSpace)
+      → IsLawfulResult g (Ok (Value (ValuePointer size scalar space)))
   unfolding parts size_override
   of_value_pointer size scalar space = (All-nil (ExistsGlobally g), tt)
 
@@ -56,7 +59,8 @@ module _ (g : GlobalLists) (types_ok : AllPartsExist g.types) where
   of_declared None all = tt
   of_declared (Some t) all = (all 0 t (omega arith), tt)
 
-  of_reference : (ty : ℕ) (in_space : AddressSpace) → ty < length g.types → IsLawfulResult g (Ok (reference_to ty in_space))
+  of_reference : (ty : ℕ) (in_space : AddressSpace) → ty < length g.types
+      → IsLawfulResult g (Ok (reference_to ty in_space))
   of_reference ty space.Handle within = (within, tt)
   of_reference ty space.Function within = of_pointer ty _ within
   of_reference ty space.Private within = of_pointer ty _ within
@@ -68,36 +72,50 @@ module _ (g : GlobalLists) (types_ok : AllPartsExist g.types) where
   of_reference ty space.RayPayload within = of_pointer ty _ within
   of_reference ty space.IncomingRayPayload within = of_pointer ty _ within
 
-  of_member_pointer : (space : AddressSpace) (members : List StructMember) (index : Option ℕ) → All (λ (m : StructMember). m.ty < length g.types) members
+  of_member_pointer : (space : AddressSpace) (members : List StructMember) (index : Option ℕ)
+      → All (λ (m : StructMember). m.ty < length g.types) members
       → IsLawfulResult g (member_pointer space (option_and_then (slice_get members) index))
   of_member_pointer space members None all = tt
   of_member_pointer space members (Some index) all = by_member (slice_get members index) refl
     where
-      by_member : (found : Option StructMember) → slice_get members index ≡ found → IsLawfulResult g (member_pointer space found)
+      by_member : (found : Option StructMember) → slice_get members index ≡ found
+          → IsLawfulResult g (member_pointer space found)
       by_member None at = tt
-      by_member (Some m) at = of_pointer m.ty space (all_at (λ (m : StructMember). m.ty < length g.types) members index m all at)
+      by_member (Some m) at =
+          of_pointer m.ty space (all_at (λ (m : StructMember). m.ty < length g.types) members index m all at)
 
-  of_part_pointer : (index : Option ℕ) (space : AddressSpace) (inner : TypeInner) → PartsExist g.types inner → IsLawfulResult g (part_pointer index space inner)
-  of_part_pointer index space (Struct members span) exist = of_member_pointer space members index (members_are (λ p. p < length g.types) (Struct members span) members span exist refl)
+  of_part_pointer : (index : Option ℕ) (space : AddressSpace) (inner : TypeInner) → PartsExist g.types inner
+      → IsLawfulResult g (part_pointer index space inner)
+  of_part_pointer index space (Struct members span) exist =
+      of_member_pointer space members index
+      (members_are (λ p. p < length g.types) (Struct members span) members span exist refl)
   of_part_pointer index space (Vector size scalar) exist = of_value_pointer None scalar space
   of_part_pointer index space (Matrix columns rows scalar) exist = of_value_pointer (Some rows) scalar space
-  of_part_pointer index space (Array base size stride) exist = of_pointer base space (base_is (λ p. p < length g.types) (Array base size stride) base size stride exist refl)
-  of_part_pointer index space (BindingArray base size) exist = of_pointer base space (exist base (parts_of_binding_array base size))
+  of_part_pointer index space (Array base size stride) exist =
+      of_pointer base space (base_is (λ p. p < length g.types) (Array base size stride) base size stride exist refl)
+  of_part_pointer index space (BindingArray base size) exist =
+      of_pointer base space (exist base (parts_of_binding_array base size))
   of_part_pointer index space _ exist = tt
 
   -- a rule on what a pointer points to keeps the laws if it keeps them for every type
-  of_target : (base : ℕ) (rule : TypeInner → ResolveResult) → ((inner : TypeInner) → PartsExist g.types inner → IsLawfulResult g (rule inner)) → IsLawfulResult g (at_target g.types base rule)
+  of_target : (base : ℕ) (rule : TypeInner → ResolveResult)
+      → ((inner : TypeInner) → PartsExist g.types inner → IsLawfulResult g (rule inner))
+      → IsLawfulResult g (at_target g.types base rule)
   of_target base rule lawful = by_type (slice_get g.types base) refl
     where
-      by_type : (found : Option «Type») → slice_get g.types base ≡ found → IsLawfulResult g (of_form (option_map (λ (t : «Type»). t.inner) found) rule)
+      by_type : (found : Option «Type») → slice_get g.types base ≡ found
+          → IsLawfulResult g (of_form (option_map (λ (t : «Type»). t.inner) found) rule)
       by_type None at = tt
-      by_type (Some t) at = lawful t.inner (all_at (λ (t : «Type»). PartsExist g.types t.inner) g.types base t types_ok at)
+      by_type (Some t) at =
+          lawful t.inner (all_at (λ (t : «Type»). PartsExist g.types t.inner) g.types base t types_ok at)
 
-  of_part_at : (index : Option ℕ) (inner : TypeInner) → PartsExist g.types inner → IsLawfulResult g (part_at index inner)
+  of_part_at : (index : Option ℕ) (inner : TypeInner) → PartsExist g.types inner
+      → IsLawfulResult g (part_at index inner)
   of_part_at None inner exist = of_element g inner exist
   of_part_at (Some index) inner exist = of_part g index inner exist
 
-  of_part_in : (index : Option ℕ) (inner : TypeInner) → PartsExist g.types inner → IsLawfulResult g (part_in g.types index inner)
+  of_part_in : (index : Option ℕ) (inner : TypeInner) → PartsExist g.types inner
+      → IsLawfulResult g (part_in g.types index inner)
   of_part_in index (Pointer base space) exist = of_target base (part_pointer index space) (of_part_pointer index space)
   of_part_in index (ValuePointer (Some size) scalar space) exist = of_value_pointer None scalar space
   of_part_in index (ValuePointer None scalar space) exist = tt
@@ -109,7 +127,9 @@ module _ (g : GlobalLists) (types_ok : AllPartsExist g.types) where
   of_loaded base _ within = (within, tt)
 
   of_load : (inner : TypeInner) → PartsExist g.types inner → IsLawfulResult g (load_of g.types inner)
-  of_load (Pointer base space) exist = of_target base (loaded base) (λ target target_exist. of_loaded base target (exist base (parts_of_pointer base space)))
+  of_load (Pointer base space) exist =
+      of_target base (loaded base)
+      (λ target target_exist. of_loaded base target (exist base (parts_of_pointer base space)))
   of_load (ValuePointer (Some size) scalar space) exist = of_vector g size scalar
   of_load (ValuePointer None scalar space) exist = of_scalar g scalar
   of_load _ exist = tt
@@ -140,11 +160,13 @@ module _ (g : GlobalLists) (types_ok : AllPartsExist g.types) where
   of_query (Size level) _ = tt
   of_query _ inner = of_scalar g _
 
-  of_full_product : (left right : ResolveResult) (x y : TypeInner) → IsLawfulResult g left → IsLawfulResult g right → IsLawfulResult g (full_product_of left right x y)
+  of_full_product : (left right : ResolveResult) (x y : TypeInner) → IsLawfulResult g left → IsLawfulResult g right
+      → IsLawfulResult g (full_product_of left right x y)
   of_full_product left right (Scalar s) (CooperativeMatrix columns rows scalar role) l r = r
   of_full_product left right x y l r = of_product g left right x y l r
 
-  of_full_cast : (kind : ScalarKind) (convert : Option ℕ) (inner : TypeInner) → IsLawfulResult g (full_cast_of kind convert inner)
+  of_full_cast : (kind : ScalarKind) (convert : Option ℕ) (inner : TypeInner)
+      → IsLawfulResult g (full_cast_of kind convert inner)
   of_full_cast kind convert (Matrix columns rows scalar) = of_matrix g columns rows _
   of_full_cast kind convert inner = of_cast g kind convert inner
 
@@ -158,59 +180,82 @@ module _ (m : Module) (handles : HandlesAccepted m) where
   of_variable : (k : ℕ) → IsLawfulResult g (type_of_variable (slice_get m.global_variables k))
   of_variable k = by_variable (slice_get m.global_variables k) refl
     where
-      by_variable : (found : Option GlobalVariable) → slice_get m.global_variables k ≡ found → IsLawfulResult g (type_of_variable found)
+      by_variable : (found : Option GlobalVariable) → slice_get m.global_variables k ≡ found
+          → IsLawfulResult g (type_of_variable found)
       by_variable None at = tt
       by_variable (Some v) at = of_reference g types_ok v.ty v.space (variable_type_exists m handles k v at)
 
   of_call : (k : ℕ) → IsLawfulResult g (declared (option_and_then result_of (slice_get m.functions k)))
   of_call k = by_function (slice_get m.functions k) refl
     where
-      by_result : (result : Option FunctionResult) → All (λ (r : FunctionResult). r.ty < length m.types) (option_to_list result) → IsLawfulResult g (declared (option_map (λ (r : FunctionResult). r.ty) result))
+      by_result : (result : Option FunctionResult)
+          → All (λ (r : FunctionResult). r.ty < length m.types) (option_to_list result)
+          → IsLawfulResult g (declared (option_map (λ (r : FunctionResult). r.ty) result))
       by_result None all = tt
       by_result (Some r) all = (all 0 r (omega arith), tt)
 
-      by_function : (found : Option Function) → slice_get m.functions k ≡ found → IsLawfulResult g (declared (option_and_then result_of found))
+      by_function : (found : Option Function) → slice_get m.functions k ≡ found
+          → IsLawfulResult g (declared (option_and_then result_of found))
       by_function None at = tt
       by_function (Some f) at = by_result f.result (result_type_exists m handles k f at)
 
 module _ (m : Module) (x : Expression) (earlier : List TypeResolution) (can : CanResolve m x earlier) where
-  lawful_full_binary : (op : BinaryOperator) (left right : ℕ) → IsLawfulResult (global_lists m) (full_binary_of m.types earlier op left right)
+  lawful_full_binary : (op : BinaryOperator) (left right : ℕ)
+      → IsLawfulResult (global_lists m) (full_binary_of m.types earlier op left right)
   lawful_full_binary Multiply left right =
       lawful_operand m x earlier can left _
       (λ a a_exist.
       lawful_operand m x earlier can right _
       (λ b b_exist.
-      of_full_product (global_lists m) (types_ok m can.handles) (same_type (slice_get earlier left)) (same_type (slice_get earlier right)) a b (lawful_same m x earlier can left)
+      of_full_product (global_lists m) (types_ok m can.handles) (same_type (slice_get earlier left))
+      (same_type (slice_get earlier right)) a b (lawful_same m x earlier can left)
       (lawful_same m x earlier can right)))
   lawful_full_binary op left right = lawful_binary m x earlier can op left right
 
 -- each result of `FullTyping` keeps the laws
-lawful : (m : Module) (x : Expression) (earlier : List TypeResolution) → CanResolve m x earlier → IsLawfulResult (global_lists m) (full_resolves m x earlier)
+lawful : (m : Module) (x : Expression) (earlier : List TypeResolution) → CanResolve m x earlier
+    → IsLawfulResult (global_lists m) (full_resolves m x earlier)
 unfolding full_resolves named_type
 lawful m (form.Access base index) earlier can =
-    lawful_operand m (form.Access base index) earlier can base (part_in m.types None) (of_part_in (global_lists m) (types_ok m can.handles) None)
+    lawful_operand m (form.Access base index) earlier can base (part_in m.types None)
+    (of_part_in (global_lists m) (types_ok m can.handles) None)
 lawful m (form.AccessIndex base index) earlier can =
-    lawful_operand m (form.AccessIndex base index) earlier can base (part_in m.types (Some index)) (of_part_in (global_lists m) (types_ok m can.handles) (Some index))
+    lawful_operand m (form.AccessIndex base index) earlier can base (part_in m.types (Some index))
+    (of_part_in (global_lists m) (types_ok m can.handles) (Some index))
 lawful m (form.GlobalVariable v) earlier can = of_variable m can.handles v
-lawful m (form.Load pointer) earlier can = lawful_operand m (form.Load pointer) earlier can pointer (load_of m.types) (of_load (global_lists m) (types_ok m can.handles))
-lawful m (form.ImageSample image sampler gather coordinate array_index offset level depth_ref clamp_to_edge) earlier can =
-    lawful_operand m _ earlier can image (sample_in gather) (λ inner exist. of_sample_in (global_lists m) (types_ok m can.handles) gather inner)
+lawful m (form.Load pointer) earlier can =
+    lawful_operand m (form.Load pointer) earlier can pointer (load_of m.types)
+    (of_load (global_lists m) (types_ok m can.handles))
+lawful m
+    (form.ImageSample image sampler gather coordinate array_index offset level depth_ref clamp_to_edge) earlier can =
+    lawful_operand m _ earlier can image (sample_in gather)
+    (λ inner exist. of_sample_in (global_lists m) (types_ok m can.handles) gather inner)
 lawful m (form.ImageLoad image coordinate array_index sample level) earlier can =
-    lawful_operand m _ earlier can image (sample_in None) (λ inner exist. of_sample_in (global_lists m) (types_ok m can.handles) None inner)
+    lawful_operand m _ earlier can image (sample_in None)
+    (λ inner exist. of_sample_in (global_lists m) (types_ok m can.handles) None inner)
 lawful m (form.ImageQuery image query) earlier can =
-    lawful_operand m _ earlier can image (query_of query) (λ inner exist. of_query (global_lists m) (types_ok m can.handles) query inner)
-lawful m (form.Binary op left right) earlier can = lawful_full_binary m (form.Binary op left right) earlier can op left right
+    lawful_operand m _ earlier can image (query_of query)
+    (λ inner exist. of_query (global_lists m) (types_ok m can.handles) query inner)
+lawful m (form.Binary op left right) earlier can =
+    lawful_full_binary m (form.Binary op left right) earlier can op left right
 lawful m (form.As expr kind convert) earlier can =
-    lawful_operand m (form.As expr kind convert) earlier can expr (full_cast_of kind convert) (λ inner exist. of_full_cast (global_lists m) (types_ok m can.handles) kind convert inner)
+    lawful_operand m (form.As expr kind convert) earlier can expr (full_cast_of kind convert)
+    (λ inner exist. of_full_cast (global_lists m) (types_ok m can.handles) kind convert inner)
 lawful m (form.CallResult f) earlier can = of_call m can.handles f
-lawful m (form.AtomicResult ty comparison) earlier can = lawful_named m (form.AtomicResult ty comparison) earlier can ty refl
-lawful m (form.WorkGroupUniformLoadResult ty) earlier can = lawful_named m (form.WorkGroupUniformLoadResult ty) earlier can ty refl
+lawful m (form.AtomicResult ty comparison) earlier can =
+    lawful_named m (form.AtomicResult ty comparison) earlier can ty refl
+lawful m (form.WorkGroupUniformLoadResult ty) earlier can =
+    lawful_named m (form.WorkGroupUniformLoadResult ty) earlier can ty refl
 lawful m form.RayQueryProceedResult earlier can = of_scalar (global_lists m) _
-lawful m (form.RayQueryGetIntersection query committed) earlier can = of_declared (global_lists m) (types_ok m can.handles) _ (ray_intersection_exists m can.handles)
-lawful m (form.RayQueryVertexPositions query committed) earlier can = of_declared (global_lists m) (types_ok m can.handles) _ (ray_vertex_return_exists m can.handles)
+lawful m (form.RayQueryGetIntersection query committed) earlier can =
+    of_declared (global_lists m) (types_ok m can.handles) _ (ray_intersection_exists m can.handles)
+lawful m (form.RayQueryVertexPositions query committed) earlier can =
+    of_declared (global_lists m) (types_ok m can.handles) _ (ray_vertex_return_exists m can.handles)
 lawful m form.SubgroupBallotResult earlier can = of_vector (global_lists m) _ _
-lawful m (form.SubgroupOperationResult ty) earlier can = lawful_named m (form.SubgroupOperationResult ty) earlier can ty refl
-lawful m (form.CooperativeMultiplyAdd a b c) earlier can = lawful_same m (form.CooperativeMultiplyAdd a b c) earlier can c
+lawful m (form.SubgroupOperationResult ty) earlier can =
+    lawful_named m (form.SubgroupOperationResult ty) earlier can ty refl
+lawful m (form.CooperativeMultiplyAdd a b c) earlier can =
+    lawful_same m (form.CooperativeMultiplyAdd a b c) earlier can c
 lawful m (form.FunctionArgument index) earlier can = tt
 lawful m (form.LocalVariable v) earlier can = tt
 lawful m (form.CooperativeLoad pointer stride) earlier can = tt

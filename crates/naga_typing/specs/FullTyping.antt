@@ -5,7 +5,7 @@ use Rattle.naga_ir.specs.declared.expression.BinaryOperator.TheVariants.{Multipl
 use Rattle.naga_ir.specs.declared.expression.Expression.{Expression}
 use Rattle.naga_ir.specs.declared.expression.Expression.TheVariants as form
 use Rattle.naga_ir.specs.declared.expression.ImageQuery.{ImageQuery as Query}
-use Rattle.naga_ir.specs.declared.expression.ImageQuery.TheVariants.{Size, NumLevels, NumLayers, NumSamples}
+use Rattle.naga_ir.specs.declared.expression.ImageQuery.TheVariants.{Size}
 use Rattle.naga_ir.specs.declared.expression.SwizzleComponent.{SwizzleComponent}
 use Rattle.naga_ir.specs.declared.ir.Function.{Function}
 use Rattle.naga_ir.specs.declared.ir.FunctionResult.{FunctionResult}
@@ -21,7 +21,7 @@ use Rattle.naga_ir.specs.declared.types.ImageDimension.TheVariants.{D1, D2, D3, 
 use Rattle.naga_ir.specs.declared.types.ScalarKind.{ScalarKind}
 use Rattle.naga_ir.specs.declared.types.StructMember.{StructMember}
 use Rattle.naga_ir.specs.declared.types.TypeInner.{TypeInner}
-use Rattle.naga_ir.specs.declared.types.TypeInner.TheVariants.{Scalar, Vector, Matrix, CooperativeMatrix, Atomic, Pointer, ValuePointer, Array, Struct, Image, Sampler, AccelerationStructure, RayQuery, BindingArray}
+use Rattle.naga_ir.specs.declared.types.TypeInner.TheVariants.{Scalar, Vector, Matrix, CooperativeMatrix, Atomic, Pointer, ValuePointer, Array, Struct, Image, BindingArray}
 use Rattle.naga_ir.specs.declared.types.VectorSize.TheVariants.{Bi, Tri, Quad}
 use Rattle.naga_typing.specs.Math.{f32_scalar, of_components, u32_scalar}
 use Rattle.naga_typing.specs.PlainTyping.{ResolveResult, binary_of, bool_scalar, cast_of, cast_scalar, element_of, of_form, part_of, plain_resolves, product_of, same_type}
@@ -75,15 +75,7 @@ part_pointer index space (Vector size scalar) = Ok (Value (ValuePointer None sca
 part_pointer index space (Matrix columns rows scalar) = Ok (Value (ValuePointer (Some rows) scalar space))
 part_pointer index space (Array base size stride) = Ok (Value (Pointer base space))
 part_pointer index space (BindingArray base size) = Ok (Value (Pointer base space))
-part_pointer index space (Scalar scalar) = Err IncompatibleOperands
-part_pointer index space (CooperativeMatrix columns rows scalar role) = Err IncompatibleOperands
-part_pointer index space (Atomic scalar) = Err IncompatibleOperands
-part_pointer index space (Pointer base of_space) = Err IncompatibleOperands
-part_pointer index space (ValuePointer size scalar of_space) = Err IncompatibleOperands
-part_pointer index space (Image dim arrayed class) = Err IncompatibleOperands
-part_pointer index space (Sampler comparison) = Err IncompatibleOperands
-part_pointer index space (AccelerationStructure vertex_return) = Err IncompatibleOperands
-part_pointer index space (RayQuery vertex_return) = Err IncompatibleOperands
+part_pointer _ _ _ = Err IncompatibleOperands
 
 -- the result of a rule on a type of a list, if there is one
 abbrev pub at_target : List «Type» → ℕ → (TypeInner → ResolveResult) → ResolveResult
@@ -95,71 +87,27 @@ part_in types index (Pointer base space) = at_target types base (part_pointer in
 part_in types index (ValuePointer (Some size) scalar space) = Ok (Value (ValuePointer None scalar space))
 part_in types index (ValuePointer None scalar space) = Err IncompatibleOperands
 part_in types index (BindingArray base size) = Ok (Handle base)
-part_in types index (Scalar scalar) = part_at index (Scalar scalar)
-part_in types index (Vector size scalar) = part_at index (Vector size scalar)
-part_in types index (Matrix columns rows scalar) = part_at index (Matrix columns rows scalar)
-part_in types index (CooperativeMatrix columns rows scalar role) = part_at index (CooperativeMatrix columns rows scalar role)
-part_in types index (Atomic scalar) = part_at index (Atomic scalar)
-part_in types index (Array base size stride) = part_at index (Array base size stride)
-part_in types index (Struct members span) = part_at index (Struct members span)
-part_in types index (Image dim arrayed class) = part_at index (Image dim arrayed class)
-part_in types index (Sampler comparison) = part_at index (Sampler comparison)
-part_in types index (AccelerationStructure vertex_return) = part_at index (AccelerationStructure vertex_return)
-part_in types index (RayQuery vertex_return) = part_at index (RayQuery vertex_return)
+part_in types index inner = part_at index inner
 
 -- what is loaded of a type of the module: the scalar of an atomic, and a value of the type itself else
 abbrev pub loaded : ℕ → TypeInner → ResolveResult
 loaded base (Atomic scalar) = Ok (Value (Scalar scalar))
-loaded base (Scalar scalar) = Ok (Handle base)
-loaded base (Vector size scalar) = Ok (Handle base)
-loaded base (Matrix columns rows scalar) = Ok (Handle base)
-loaded base (CooperativeMatrix columns rows scalar role) = Ok (Handle base)
-loaded base (Pointer of_base space) = Ok (Handle base)
-loaded base (ValuePointer size scalar space) = Ok (Handle base)
-loaded base (Array of_base size stride) = Ok (Handle base)
-loaded base (Struct members span) = Ok (Handle base)
-loaded base (Image dim arrayed class) = Ok (Handle base)
-loaded base (Sampler comparison) = Ok (Handle base)
-loaded base (AccelerationStructure vertex_return) = Ok (Handle base)
-loaded base (RayQuery vertex_return) = Ok (Handle base)
-loaded base (BindingArray of_base size) = Ok (Handle base)
+loaded base _ = Ok (Handle base)
 
 -- what is loaded through a pointer
 abbrev pub load_of : List «Type» → TypeInner → ResolveResult
 load_of types (Pointer base space) = at_target types base (loaded base)
 load_of types (ValuePointer size scalar space) = Ok (Value (of_components (size, scalar)))
-load_of types (Scalar scalar) = Err IncompatibleOperands
-load_of types (Vector size scalar) = Err IncompatibleOperands
-load_of types (Matrix columns rows scalar) = Err IncompatibleOperands
-load_of types (CooperativeMatrix columns rows scalar role) = Err IncompatibleOperands
-load_of types (Atomic scalar) = Err IncompatibleOperands
-load_of types (Array base size stride) = Err IncompatibleOperands
-load_of types (Struct members span) = Err IncompatibleOperands
-load_of types (Image dim arrayed class) = Err IncompatibleOperands
-load_of types (Sampler comparison) = Err IncompatibleOperands
-load_of types (AccelerationStructure vertex_return) = Err IncompatibleOperands
-load_of types (RayQuery vertex_return) = Err IncompatibleOperands
-load_of types (BindingArray base size) = Err IncompatibleOperands
+load_of _ _ = Err IncompatibleOperands
 
 -- the dimension and the class of an image; other types have none
 abbrev pub image_parts : TypeInner → Option (ImageDimension × ImageClass)
 image_parts (Image dim arrayed class) = Some (dim, class)
-image_parts (Scalar scalar) = None
-image_parts (Vector size scalar) = None
-image_parts (Matrix columns rows scalar) = None
-image_parts (CooperativeMatrix columns rows scalar role) = None
-image_parts (Atomic scalar) = None
-image_parts (Pointer base space) = None
-image_parts (ValuePointer size scalar space) = None
-image_parts (Array base size stride) = None
-image_parts (Struct members span) = None
-image_parts (Sampler comparison) = None
-image_parts (AccelerationStructure vertex_return) = None
-image_parts (RayQuery vertex_return) = None
-image_parts (BindingArray base size) = None
+image_parts _ = None
 
 -- the result of a rule on the dimension and the class of an image; other types don't fit
-abbrev pub of_image : Option (ImageDimension × ImageClass) → (ImageDimension → ImageClass → ResolveResult) → ResolveResult
+abbrev pub of_image : Option (ImageDimension × ImageClass) → (ImageDimension → ImageClass → ResolveResult)
+    → ResolveResult
 of_image None rule = Err IncompatibleOperands
 of_image (Some parts) rule = rule parts.0 parts.1
 
@@ -178,9 +126,7 @@ texel_of External = four_of f32_scalar.kind
 -- one component of four texels
 abbrev pub gathered_of : ImageClass → ResolveResult
 gathered_of (Sampled kind multi) = four_of kind
-gathered_of (Depth multi) = four_of f32_scalar.kind
-gathered_of (Storage format access) = four_of f32_scalar.kind
-gathered_of External = four_of f32_scalar.kind
+gathered_of _ = four_of f32_scalar.kind
 
 -- a texel, or what is gathered if a component is given
 abbrev pub sample_of : Option SwizzleComponent → ImageClass → ResolveResult
@@ -201,9 +147,7 @@ extent_of Cube = Ok (Value (Vector Bi u32_scalar))
 -- what a query of an image returns: its size, or a number
 abbrev pub query_of : Query → TypeInner → ResolveResult
 query_of (Size level) inner = of_image (image_parts inner) (λ dim class. extent_of dim)
-query_of NumLevels inner = Ok (Value (Scalar u32_scalar))
-query_of NumLayers inner = Ok (Value (Scalar u32_scalar))
-query_of NumSamples inner = Ok (Value (Scalar u32_scalar))
+query_of _ _ = Ok (Value (Scalar u32_scalar))
 
 -- the type of the product of `x` and `y`, whose types are `left` and `right`: the type of a cooperative matrix that a
 -- scalar is multiplied by, and else the one that `PlainTyping` resolves
@@ -214,7 +158,9 @@ full_product_of left right x y = product_of left right x y
 -- the type of the product of the operands `left` and `right`
 abbrev pub full_product : List «Type» → List TypeResolution → ℕ → ℕ → ResolveResult
 full_product types earlier left right =
-    of_form (operand types earlier left) (λ x. of_form (operand types earlier right) (λ y. full_product_of (same_type (slice_get earlier left)) (same_type (slice_get earlier right)) x y))
+    of_form (operand types earlier left)
+    (λ x. of_form (operand types earlier right)
+    (λ y. full_product_of (same_type (slice_get earlier left)) (same_type (slice_get earlier right)) x y))
 
 -- the type of the result of the operator `op` on the operands `left` and `right`
 abbrev pub full_binary_of : List «Type» → List TypeResolution → BinaryOperator → ℕ → ℕ → ResolveResult
@@ -223,33 +169,25 @@ full_binary_of types earlier op left right = binary_of types earlier op left rig
 
 -- the type of `inner` converted to `kind`, and to the width `convert` if one is given: a matrix keeps its kind
 abbrev pub full_cast_of : ScalarKind → Option ℕ → TypeInner → ResolveResult
-full_cast_of kind convert (Matrix columns rows scalar) = Ok (Value (Matrix columns rows (cast_scalar scalar.kind convert scalar)))
+full_cast_of kind convert (Matrix columns rows scalar) =
+    Ok (Value (Matrix columns rows (cast_scalar scalar.kind convert scalar)))
 full_cast_of kind convert inner = cast_of kind convert inner
 
 -- the type of an expression of the module `m`, by the types `earlier` of those before it; products and conversions as
 -- `full_binary_of` and `full_cast_of` say
 unfoldable pub full_resolves : Module → Expression → List TypeResolution → ResolveResult
-full_resolves m (form.Literal value) earlier = plain_resolves m (form.Literal value) earlier
-full_resolves m (form.Constant c) earlier = plain_resolves m (form.Constant c) earlier
-full_resolves m (form.Override o) earlier = plain_resolves m (form.Override o) earlier
-full_resolves m (form.ZeroValue ty) earlier = plain_resolves m (form.ZeroValue ty) earlier
-full_resolves m (form.Compose ty components) earlier = plain_resolves m (form.Compose ty components) earlier
-full_resolves m (form.Splat size value) earlier = plain_resolves m (form.Splat size value) earlier
-full_resolves m (form.Swizzle size vector pattern) earlier = plain_resolves m (form.Swizzle size vector pattern) earlier
-full_resolves m (form.Unary op expr) earlier = plain_resolves m (form.Unary op expr) earlier
-full_resolves m (form.Derivative expr) earlier = plain_resolves m (form.Derivative expr) earlier
-full_resolves m (form.Select condition accept reject) earlier = plain_resolves m (form.Select condition accept reject) earlier
 full_resolves m (form.Binary op left right) earlier = full_binary_of m.types earlier op left right
-full_resolves m (form.Relational fun argument) earlier = plain_resolves m (form.Relational fun argument) earlier
-full_resolves m (form.Math fun arg arg1 arg2 arg3) earlier = plain_resolves m (form.Math fun arg arg1 arg2 arg3) earlier
 full_resolves m (form.As expr kind convert) earlier = of_form (operand m.types earlier expr) (full_cast_of kind convert)
-full_resolves m (form.ArrayLength expr) earlier = plain_resolves m (form.ArrayLength expr) earlier
 full_resolves m (form.Access base index) earlier = of_form (operand m.types earlier base) (part_in m.types None)
-full_resolves m (form.AccessIndex base index) earlier = of_form (operand m.types earlier base) (part_in m.types (Some index))
+full_resolves m (form.AccessIndex base index) earlier =
+    of_form (operand m.types earlier base) (part_in m.types (Some index))
 full_resolves m (form.GlobalVariable v) earlier = type_of_variable (slice_get m.global_variables v)
 full_resolves m (form.Load pointer) earlier = of_form (operand m.types earlier pointer) (load_of m.types)
-full_resolves m (form.ImageSample image sampler gather coordinate array_index offset level depth_ref clamp_to_edge) earlier = of_form (operand m.types earlier image) (sample_in gather)
-full_resolves m (form.ImageLoad image coordinate array_index sample level) earlier = of_form (operand m.types earlier image) (sample_in None)
+full_resolves m
+    (form.ImageSample image sampler gather coordinate array_index offset level depth_ref clamp_to_edge) earlier =
+    of_form (operand m.types earlier image) (sample_in gather)
+full_resolves m (form.ImageLoad image coordinate array_index sample level) earlier =
+    of_form (operand m.types earlier image) (sample_in None)
 full_resolves m (form.ImageQuery image query) earlier = of_form (operand m.types earlier image) (query_of query)
 full_resolves m (form.CallResult f) earlier = declared (option_and_then result_of (slice_get m.functions f))
 full_resolves m (form.AtomicResult ty comparison) earlier = Ok (Handle ty)
@@ -263,3 +201,4 @@ full_resolves m (form.CooperativeMultiplyAdd a b c) earlier = same_type (slice_g
 full_resolves m (form.FunctionArgument index) earlier = Err NotResolvable
 full_resolves m (form.LocalVariable v) earlier = Err NotResolvable
 full_resolves m (form.CooperativeLoad pointer stride) earlier = Err NotResolvable
+full_resolves m x earlier = plain_resolves m x earlier

@@ -7,7 +7,7 @@ use Rattle.naga_ir.specs.declared.types.AddressSpace.{AddressSpace}
 use Rattle.naga_ir.specs.declared.types.ArraySize.{ArraySize}
 use Rattle.naga_ir.specs.declared.types.ArraySize.TheVariants as size
 use Rattle.naga_ir.specs.declared.types.TypeInner.{TypeInner}
-use Rattle.naga_ir.specs.declared.types.TypeInner.TheVariants.{Scalar, Vector, Matrix, CooperativeMatrix, Atomic, Pointer, ValuePointer, Array, Struct, Image, Sampler, AccelerationStructure, RayQuery, BindingArray}
+use Rattle.naga_ir.specs.declared.types.TypeInner.TheVariants.{Vector, Matrix, Pointer, ValuePointer, Array, BindingArray}
 use Rattle.naga_typing.specs.Constants.{override_count}
 use Rattle.naga_typing.specs.declared.index.IndexableLength.{IndexableLength}
 use Rattle.naga_typing.specs.declared.index.IndexableLength.TheVariants.{Known, Pending, Dynamic}
@@ -17,24 +17,13 @@ use Rattle.naga_typing.specs.declared.index.IndexableLengthError.TheVariants.{Ty
 -- `inner` is not a pointer to a type of the module
 abbrev pub IsNotPointer : TypeInner → Type 0
 IsNotPointer (Pointer base space) = ⊥
-IsNotPointer (Scalar scalar) = ⊤
-IsNotPointer (Vector size scalar) = ⊤
-IsNotPointer (Matrix columns rows scalar) = ⊤
-IsNotPointer (CooperativeMatrix columns rows scalar role) = ⊤
-IsNotPointer (Atomic scalar) = ⊤
-IsNotPointer (ValuePointer size scalar space) = ⊤
-IsNotPointer (Array base size stride) = ⊤
-IsNotPointer (Struct members span) = ⊤
-IsNotPointer (Image dim arrayed class) = ⊤
-IsNotPointer (Sampler comparison) = ⊤
-IsNotPointer (AccelerationStructure vertex_return) = ⊤
-IsNotPointer (RayQuery vertex_return) = ⊤
-IsNotPointer (BindingArray base size) = ⊤
+IsNotPointer _ = ⊤
 
 -- a type leads through any number of pointers to a type that is not a pointer
 pub data PointsTo (types : List «Type») : TypeInner → TypeInner → Type 0 where
   itself : (x : TypeInner) → IsNotPointer x → PointsTo types x x
-  pointed_to : (base : ℕ) (space : AddressSpace) (t : «Type») (x : TypeInner) → slice_get types base ≡ Some t → PointsTo types t.inner x → PointsTo types (Pointer base space) x
+  pointed_to : (base : ℕ) (space : AddressSpace) (t : «Type») (x : TypeInner) → slice_get types base ≡ Some t
+      → PointsTo types t.inner x → PointsTo types (Pointer base space) x
 
 -- the length of an array before overrides have their values
 abbrev pub pending_length : ArraySize → Result IndexableLength IndexableLengthError
@@ -62,18 +51,9 @@ abbrev pub length_of : LengthOfArray → TypeInner → Result IndexableLength In
 length_of of_array (Vector size scalar) = Ok (Known (components size))
 length_of of_array (Matrix columns rows scalar) = Ok (Known (components columns))
 length_of of_array (ValuePointer (Some size) scalar space) = Ok (Known (components size))
-length_of of_array (ValuePointer None scalar space) = Err TypeNotIndexable
 length_of of_array (Array base size stride) = of_array size
 length_of of_array (BindingArray base size) = of_array size
-length_of of_array (Scalar scalar) = Err TypeNotIndexable
-length_of of_array (CooperativeMatrix columns rows scalar role) = Err TypeNotIndexable
-length_of of_array (Atomic scalar) = Err TypeNotIndexable
-length_of of_array (Pointer base space) = Err TypeNotIndexable
-length_of of_array (Struct members span) = Err TypeNotIndexable
-length_of of_array (Image dim arrayed class) = Err TypeNotIndexable
-length_of of_array (Sampler comparison) = Err TypeNotIndexable
-length_of of_array (AccelerationStructure vertex_return) = Err TypeNotIndexable
-length_of of_array (RayQuery vertex_return) = Err TypeNotIndexable
+length_of _ _ = Err TypeNotIndexable
 
 -- the length of a type is the length of the type that it leads to through pointers
 abbrev pub IsLength : GlobalLists → LengthOfArray → TypeInner → Result IndexableLength IndexableLengthError → Type 0

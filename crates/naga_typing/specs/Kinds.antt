@@ -43,27 +43,11 @@ kind_of kinds (expression.Unary op expr) = of_operands kinds (expression.Unary o
 kind_of kinds (expression.Binary op left right) = of_operands kinds (expression.Binary op left right)
 kind_of kinds (expression.Math fun arg arg1 arg2 arg3) = of_operands kinds (expression.Math fun arg arg1 arg2 arg3)
 kind_of kinds (expression.As expr kind convert) = of_operands kinds (expression.As expr kind convert)
-kind_of kinds (expression.Select condition accept reject) = of_operands kinds (expression.Select condition accept reject)
+kind_of kinds (expression.Select condition accept reject) =
+    of_operands kinds (expression.Select condition accept reject)
 kind_of kinds (expression.Relational fun argument) = of_operands kinds (expression.Relational fun argument)
 kind_of kinds (expression.ArrayLength expr) = of_operands kinds (expression.ArrayLength expr)
-kind_of kinds (expression.FunctionArgument index) = Runtime
-kind_of kinds (expression.GlobalVariable v) = Runtime
-kind_of kinds (expression.LocalVariable v) = Runtime
-kind_of kinds (expression.Load pointer) = Runtime
-kind_of kinds (expression.ImageSample image sampler gather coordinate array_index offset level depth_ref clamp_to_edge) = Runtime
-kind_of kinds (expression.ImageLoad image coordinate array_index sample level) = Runtime
-kind_of kinds (expression.ImageQuery image query) = Runtime
-kind_of kinds (expression.Derivative expr) = Runtime
-kind_of kinds (expression.CallResult f) = Runtime
-kind_of kinds (expression.AtomicResult ty comparison) = Runtime
-kind_of kinds (expression.WorkGroupUniformLoadResult ty) = Runtime
-kind_of kinds expression.RayQueryProceedResult = Runtime
-kind_of kinds (expression.RayQueryGetIntersection query committed) = Runtime
-kind_of kinds (expression.RayQueryVertexPositions query committed) = Runtime
-kind_of kinds expression.SubgroupBallotResult = Runtime
-kind_of kinds (expression.SubgroupOperationResult ty) = Runtime
-kind_of kinds (expression.CooperativeLoad pointer stride) = Runtime
-kind_of kinds (expression.CooperativeMultiplyAdd a b c) = Runtime
+kind_of _ _ = Runtime
 
 -- `kind_of` as a rule in order, which refuses no expression
 abbrev pub kind_in_order : RuleInOrder Expression ExpressionKind ⊥
@@ -76,9 +60,7 @@ AreKinds xs kinds = AllAcceptedInOrder kind_in_order xs kinds
 -- whether a value is known when the shader is compiled
 abbrev pub is_const : Option ExpressionKind → Bool
 is_const (Some Const) = true
-is_const (Some Override) = false
-is_const (Some Runtime) = false
-is_const None = false
+is_const _ = false
 
 -- whether a value is known when a pipeline is created, if not before
 abbrev pub is_const_or_override : Option ExpressionKind → Bool

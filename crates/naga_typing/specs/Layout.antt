@@ -10,7 +10,7 @@ use Rattle.naga_ir.specs.declared.types.ArraySize.{ArraySize}
 use Rattle.naga_ir.specs.declared.types.ArraySize.TheVariants.{Constant, Pending, Dynamic}
 use Rattle.naga_ir.specs.declared.types.StructMember.{StructMember}
 use Rattle.naga_ir.specs.declared.types.TypeInner.{TypeInner}
-use Rattle.naga_ir.specs.declared.types.TypeInner.TheVariants.{Scalar, Vector, Matrix, CooperativeMatrix, Atomic, Pointer, ValuePointer, Array, Struct, Image, Sampler, AccelerationStructure, RayQuery, BindingArray}
+use Rattle.naga_ir.specs.declared.types.TypeInner.TheVariants.{Scalar, Vector, Matrix, CooperativeMatrix, Atomic, Pointer, ValuePointer, Array, Struct}
 use Rattle.naga_typing.specs.Constants.{override_count}
 use Rattle.naga_typing.specs.declared.layouter.TypeLayout.{TypeLayout}
 use Rattle.naga_typing.specs.declared.layouter.LayoutErrorInner.{LayoutErrorInner}
@@ -32,34 +32,19 @@ abbrev pub size_of : GlobalLists → TypeInner → ℕ
 size_of g (Scalar scalar) = scalar.width
 size_of g (Vector size scalar) = components size * scalar.width
 size_of g (Matrix columns rows scalar) = components columns * (vector_alignment rows * scalar.width)
-size_of g (CooperativeMatrix columns rows scalar role) = cooperative_components columns * (cooperative_components rows * scalar.width)
+size_of g (CooperativeMatrix columns rows scalar role) =
+    cooperative_components columns * (cooperative_components rows * scalar.width)
 size_of g (Atomic scalar) = scalar.width
 size_of g (Pointer base space) = 4
 size_of g (ValuePointer size scalar space) = 4
 size_of g (Array base size stride) = element_count g size * stride
 size_of g (Struct members span) = span
-size_of g (Image dim arrayed class) = 0
-size_of g (Sampler comparison) = 0
-size_of g (AccelerationStructure vertex_return) = 0
-size_of g (RayQuery vertex_return) = 0
-size_of g (BindingArray base size) = 0
+size_of _ _ = 0
 
 -- the size of a value is a number of 32 bits: the size of an array may not be, the size of any other type is
 abbrev pub SizeFits : GlobalLists → TypeInner → Type 0
 SizeFits g (Array base size stride) = element_count g size * stride ≤ largest_u32
-SizeFits g (Scalar scalar) = ⊤
-SizeFits g (Vector size scalar) = ⊤
-SizeFits g (Matrix columns rows scalar) = ⊤
-SizeFits g (CooperativeMatrix columns rows scalar role) = ⊤
-SizeFits g (Atomic scalar) = ⊤
-SizeFits g (Pointer base space) = ⊤
-SizeFits g (ValuePointer size scalar space) = ⊤
-SizeFits g (Struct members span) = ⊤
-SizeFits g (Image dim arrayed class) = ⊤
-SizeFits g (Sampler comparison) = ⊤
-SizeFits g (AccelerationStructure vertex_return) = ⊤
-SizeFits g (RayQuery vertex_return) = ⊤
-SizeFits g (BindingArray base size) = ⊤
+SizeFits _ _ = ⊤
 
 -- the greatest of some alignments, and 1 if there are none
 abbrev pub greatest : List ℕ → ℕ
@@ -83,15 +68,9 @@ alignment_of layouts (Vector size scalar) = vector_alignment size * scalar.width
 alignment_of layouts (Matrix columns rows scalar) = vector_alignment rows * scalar.width
 alignment_of layouts (CooperativeMatrix columns rows scalar role) = scalar.width
 alignment_of layouts (Atomic scalar) = scalar.width
-alignment_of layouts (Pointer base space) = 1
-alignment_of layouts (ValuePointer size scalar space) = 1
 alignment_of layouts (Array base size stride) = alignment_at layouts base
 alignment_of layouts (Struct members span) = greatest (map (λ (m : StructMember). alignment_at layouts m.ty) members)
-alignment_of layouts (Image dim arrayed class) = 1
-alignment_of layouts (Sampler comparison) = 1
-alignment_of layouts (AccelerationStructure vertex_return) = 1
-alignment_of layouts (RayQuery vertex_return) = 1
-alignment_of layouts (BindingArray base size) = 1
+alignment_of _ _ = 1
 
 -- the layout of a type, by the layouts of other types
 abbrev pub layout_of_inner : GlobalLists → List TypeLayout → TypeInner → TypeLayout
@@ -108,15 +87,7 @@ width_of (Vector size scalar) = scalar.width
 width_of (Matrix columns rows scalar) = scalar.width
 width_of (CooperativeMatrix columns rows scalar role) = scalar.width
 width_of (Atomic scalar) = scalar.width
-width_of (Pointer base space) = 1
-width_of (ValuePointer size scalar space) = 1
-width_of (Array base size stride) = 1
-width_of (Struct members span) = 1
-width_of (Image dim arrayed class) = 1
-width_of (Sampler comparison) = 1
-width_of (AccelerationStructure vertex_return) = 1
-width_of (RayQuery vertex_return) = 1
-width_of (BindingArray base size) = 1
+width_of _ = 1
 
 -- a size is not too large
 abbrev pub within_max_type_size : ℕ → Result (Unit {0}) LayoutErrorInner
@@ -125,19 +96,7 @@ within_max_type_size size = if leb size max_type_size then Ok tt else Err TooLar
 -- an array is not too large
 abbrev pub size_rule : GlobalLists → TypeInner → Result (Unit {0}) LayoutErrorInner
 size_rule g (Array base size stride) = within_max_type_size (element_count g size * stride)
-size_rule g (Scalar scalar) = Ok tt
-size_rule g (Vector size scalar) = Ok tt
-size_rule g (Matrix columns rows scalar) = Ok tt
-size_rule g (CooperativeMatrix columns rows scalar role) = Ok tt
-size_rule g (Atomic scalar) = Ok tt
-size_rule g (Pointer base space) = Ok tt
-size_rule g (ValuePointer size scalar space) = Ok tt
-size_rule g (Struct members span) = Ok tt
-size_rule g (Image dim arrayed class) = Ok tt
-size_rule g (Sampler comparison) = Ok tt
-size_rule g (AccelerationStructure vertex_return) = Ok tt
-size_rule g (RayQuery vertex_return) = Ok tt
-size_rule g (BindingArray base size) = Ok tt
+size_rule _ _ = Ok tt
 
 -- a type has a layout if the width of its scalars is a power of two, and an array if it is not too large
 abbrev pub layout_rule : GlobalLists → TypeInner → Result (Unit {0}) LayoutErrorInner

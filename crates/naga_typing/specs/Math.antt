@@ -12,7 +12,7 @@ use Rattle.naga_ir.specs.declared.types.Scalar.{Scalar as ScalarType}
 use Rattle.naga_ir.specs.declared.types.ScalarKind.{ScalarKind}
 use Rattle.naga_ir.specs.declared.types.ScalarKind.TheVariants.{Sint, Uint, Float}
 use Rattle.naga_ir.specs.declared.types.TypeInner.{TypeInner}
-use Rattle.naga_ir.specs.declared.types.TypeInner.TheVariants.{Scalar, Vector, Matrix, CooperativeMatrix, Atomic, Pointer, ValuePointer, Array, Struct, Image, Sampler, AccelerationStructure, RayQuery, BindingArray}
+use Rattle.naga_ir.specs.declared.types.TypeInner.TheVariants.{Scalar, Vector, Matrix}
 use Rattle.naga_ir.specs.declared.types.VectorSize.{VectorSize}
 use Rattle.naga_ir.specs.declared.types.VectorSize.TheVariants.{Bi, Tri, Quad}
 
@@ -26,19 +26,7 @@ pub record Signature : Type 0 where
 -- the numbers of columns and rows of a matrix, and its scalar; other types have none
 abbrev pub matrix_parts : TypeInner → Option (VectorSize × VectorSize × ScalarType)
 matrix_parts (Matrix columns rows scalar) = Some (columns, rows, scalar)
-matrix_parts (Scalar scalar) = None
-matrix_parts (Vector size scalar) = None
-matrix_parts (CooperativeMatrix columns rows scalar role) = None
-matrix_parts (Atomic scalar) = None
-matrix_parts (Pointer base space) = None
-matrix_parts (ValuePointer size scalar space) = None
-matrix_parts (Array base size stride) = None
-matrix_parts (Struct members span) = None
-matrix_parts (Image dim arrayed class) = None
-matrix_parts (Sampler comparison) = None
-matrix_parts (AccelerationStructure vertex_return) = None
-matrix_parts (RayQuery vertex_return) = None
-matrix_parts (BindingArray base size) = None
+matrix_parts _ = None
 
 -- the scalar, or the vector of it if there is a size
 abbrev pub of_components : Option VectorSize × ScalarType → TypeInner
@@ -142,33 +130,6 @@ ternary first = record { first = first; further = same ∷ same ∷ []; result =
 
 -- what each function takes and returns
 unfoldable pub signature : MathFunction → Signature
-signature math.Saturate = unary (values_of float)
-signature math.Cos = unary (values_of float)
-signature math.Cosh = unary (values_of float)
-signature math.Sin = unary (values_of float)
-signature math.Sinh = unary (values_of float)
-signature math.Tan = unary (values_of float)
-signature math.Tanh = unary (values_of float)
-signature math.Acos = unary (values_of float)
-signature math.Asin = unary (values_of float)
-signature math.Atan = unary (values_of float)
-signature math.Asinh = unary (values_of float)
-signature math.Acosh = unary (values_of float)
-signature math.Atanh = unary (values_of float)
-signature math.Radians = unary (values_of float)
-signature math.Degrees = unary (values_of float)
-signature math.Ceil = unary (values_of float)
-signature math.Floor = unary (values_of float)
-signature math.Round = unary (values_of float)
-signature math.Fract = unary (values_of float)
-signature math.Trunc = unary (values_of float)
-signature math.Exp = unary (values_of float)
-signature math.Exp2 = unary (values_of float)
-signature math.Log = unary (values_of float)
-signature math.Log2 = unary (values_of float)
-signature math.Sqrt = unary (values_of float)
-signature math.InverseSqrt = unary (values_of float)
-signature math.QuantizeToF16 = unary (values_of float)
 signature math.Length = record (unary (values_of float)) { result = scalar_type }
 signature math.Normalize = unary (vectors_of float)
 signature math.Atan2 = binary (values_of float)
@@ -194,12 +155,16 @@ signature math.CountOneBits = unary (values_of integer)
 signature math.ReverseBits = unary (values_of integer)
 signature math.FirstTrailingBit = unary (values_of integer)
 signature math.FirstLeadingBit = unary (values_of integer)
-signature math.ExtractBits = record (unary (values_of integer)) { further = exactly (Scalar u32_scalar) ∷ exactly (Scalar u32_scalar) ∷ [] }
+signature math.ExtractBits =
+    record (unary (values_of integer)) { further = exactly (Scalar u32_scalar) ∷ exactly (Scalar u32_scalar) ∷ [] }
 signature math.InsertBits = record (unary (values_of integer)) { further = same ∷ exactly (Scalar u32_scalar) ∷ exactly (Scalar u32_scalar) ∷ [] }
 signature math.Transpose = record (unary is_matrix) { result = transposed }
 signature math.Determinant = record (unary is_square) { result = scalar_type }
-signature math.Pack2x16float = record (unary (same (Vector Bi f32_scalar))) { result = λ first. Some (Scalar u32_scalar) }
-signature math.Unpack2x16float = record (unary (same (Scalar u32_scalar))) { result = λ first. Some (Vector Bi f32_scalar) }
+signature math.Pack2x16float =
+    record (unary (same (Vector Bi f32_scalar))) { result = λ first. Some (Scalar u32_scalar) }
+signature math.Unpack2x16float =
+    record (unary (same (Scalar u32_scalar))) { result = λ first. Some (Vector Bi f32_scalar) }
+signature _ = unary (values_of float)
 
 -- each further argument is as its rule says, by the first
 abbrev pub each_ok : List (TypeInner → TypeInner → Boolean) → TypeInner → List TypeInner → Boolean
@@ -226,7 +191,9 @@ argument_count fun = length (signature fun).further + 1
 -- the type of the result, if a function takes these arguments, and no others after them
 abbrev pub result_type : MathFunction → List TypeInner → Option TypeInner
 result_type fun [] = None
-result_type fun (first ∷ further) = if accepts fun (first ∷ further) && length (first ∷ further) == argument_count fun then (signature fun).result first else None
+result_type fun (first ∷ further) =
+    if accepts fun (first ∷ further)
+    && length (first ∷ further) == argument_count fun then (signature fun).result first else None
 
 -- no argument is given after one that isn't
 abbrev pub has_no_gap : {A : Type 0} → Option A → Option A → Option A → Boolean
@@ -237,5 +204,7 @@ abbrev pub arguments : {A : Type 0} → A → Option A → Option A → Option A
 arguments first second third fourth = first ∷ option_to_list second ++ (option_to_list third ++ option_to_list fourth)
 
 -- the type of the result of a function of these arguments, if there is no gap between them
-abbrev pub math_type : MathFunction → TypeInner → Option TypeInner → Option TypeInner → Option TypeInner → Option TypeInner
-math_type fun first second third fourth = if has_no_gap second third fourth then result_type fun (arguments first second third fourth) else None
+abbrev pub math_type : MathFunction → TypeInner → Option TypeInner → Option TypeInner → Option TypeInner
+    → Option TypeInner
+math_type fun first second third fourth =
+    if has_no_gap second third fourth then result_type fun (arguments first second third fourth) else None

@@ -2,7 +2,7 @@
 use Rattle.std.specs.Prelude.{ℕ, List, Option, Some, None, Result, Ok, Err, option_and_then, slice_get, unwrap_or}
 use Rattle.naga_ir.specs.Literals.{literal_scalar}
 use Rattle.naga_ir.specs.declared.expression.BinaryOperator.{BinaryOperator}
-use Rattle.naga_ir.specs.declared.expression.BinaryOperator.TheVariants.{Add, Subtract, Multiply, Divide, Modulo, Equal, NotEqual, Less, LessEqual, Greater, GreaterEqual, And, ExclusiveOr, InclusiveOr, LogicalAnd, LogicalOr, ShiftLeft, ShiftRight}
+use Rattle.naga_ir.specs.declared.expression.BinaryOperator.TheVariants.{Multiply, Equal, NotEqual, Less, LessEqual, Greater, GreaterEqual}
 use Rattle.naga_ir.specs.declared.expression.Expression.{Expression}
 use Rattle.naga_ir.specs.declared.expression.Expression.TheVariants as form
 use Rattle.naga_ir.specs.declared.expression.MathFunction.{MathFunction}
@@ -17,7 +17,7 @@ use Rattle.naga_ir.specs.declared.types.ScalarKind.{ScalarKind}
 use Rattle.naga_ir.specs.declared.types.ScalarKind.TheVariants as kind
 use Rattle.naga_ir.specs.declared.types.StructMember.{StructMember}
 use Rattle.naga_ir.specs.declared.types.TypeInner.{TypeInner}
-use Rattle.naga_ir.specs.declared.types.TypeInner.TheVariants.{Scalar, Vector, Matrix, CooperativeMatrix, Atomic, Pointer, ValuePointer, Array, Struct, Image, Sampler, AccelerationStructure, RayQuery, BindingArray}
+use Rattle.naga_ir.specs.declared.types.TypeInner.TheVariants.{Scalar, Vector, Matrix, Array, Struct}
 use Rattle.naga_ir.specs.declared.types.VectorSize.{VectorSize}
 use Rattle.naga_typing.specs.Math.{math_type, u32_scalar}
 use Rattle.naga_typing.specs.Resolutions.{operand}
@@ -59,17 +59,7 @@ abbrev pub element_of : TypeInner → ResolveResult
 element_of (Vector size scalar) = Ok (Value (Scalar scalar))
 element_of (Matrix columns rows scalar) = Ok (Value (Vector rows scalar))
 element_of (Array base size stride) = Ok (Handle base)
-element_of (Scalar scalar) = Err IncompatibleOperands
-element_of (CooperativeMatrix columns rows scalar role) = Err IncompatibleOperands
-element_of (Atomic scalar) = Err IncompatibleOperands
-element_of (Pointer base space) = Err IncompatibleOperands
-element_of (ValuePointer size scalar space) = Err IncompatibleOperands
-element_of (Struct members span) = Err IncompatibleOperands
-element_of (Image dim arrayed class) = Err IncompatibleOperands
-element_of (Sampler comparison) = Err IncompatibleOperands
-element_of (AccelerationStructure vertex_return) = Err IncompatibleOperands
-element_of (RayQuery vertex_return) = Err IncompatibleOperands
-element_of (BindingArray base size) = Err IncompatibleOperands
+element_of _ = Err IncompatibleOperands
 
 -- the type of a member, if there is one
 abbrev pub type_of_member : Option StructMember → ResolveResult
@@ -79,70 +69,23 @@ type_of_member (Some m) = Ok (Handle m.ty)
 -- a part of a constant index: a member of a struct, or an element
 abbrev pub part_of : ℕ → TypeInner → ResolveResult
 part_of index (Struct members span) = type_of_member (slice_get members index)
-part_of index (Scalar scalar) = element_of (Scalar scalar)
-part_of index (Vector size scalar) = element_of (Vector size scalar)
-part_of index (Matrix columns rows scalar) = element_of (Matrix columns rows scalar)
-part_of index (CooperativeMatrix columns rows scalar role) = element_of (CooperativeMatrix columns rows scalar role)
-part_of index (Atomic scalar) = element_of (Atomic scalar)
-part_of index (Pointer base space) = element_of (Pointer base space)
-part_of index (ValuePointer size scalar space) = element_of (ValuePointer size scalar space)
-part_of index (Array base size stride) = element_of (Array base size stride)
-part_of index (Image dim arrayed class) = element_of (Image dim arrayed class)
-part_of index (Sampler comparison) = element_of (Sampler comparison)
-part_of index (AccelerationStructure vertex_return) = element_of (AccelerationStructure vertex_return)
-part_of index (RayQuery vertex_return) = element_of (RayQuery vertex_return)
-part_of index (BindingArray base size) = element_of (BindingArray base size)
+part_of index inner = element_of inner
 
 -- a vector of one scalar
 abbrev pub splat_of : VectorSize → TypeInner → ResolveResult
 splat_of size (Scalar scalar) = Ok (Value (Vector size scalar))
-splat_of size (Vector of_size scalar) = Err IncompatibleOperands
-splat_of size (Matrix columns rows scalar) = Err IncompatibleOperands
-splat_of size (CooperativeMatrix columns rows scalar role) = Err IncompatibleOperands
-splat_of size (Atomic scalar) = Err IncompatibleOperands
-splat_of size (Pointer base space) = Err IncompatibleOperands
-splat_of size (ValuePointer of_size scalar space) = Err IncompatibleOperands
-splat_of size (Array base of_size stride) = Err IncompatibleOperands
-splat_of size (Struct members span) = Err IncompatibleOperands
-splat_of size (Image dim arrayed class) = Err IncompatibleOperands
-splat_of size (Sampler comparison) = Err IncompatibleOperands
-splat_of size (AccelerationStructure vertex_return) = Err IncompatibleOperands
-splat_of size (RayQuery vertex_return) = Err IncompatibleOperands
-splat_of size (BindingArray base of_size) = Err IncompatibleOperands
+splat_of _ _ = Err IncompatibleOperands
 
 -- a vector of components of a vector
 abbrev pub swizzle_of : VectorSize → TypeInner → ResolveResult
 swizzle_of size (Vector of_size scalar) = Ok (Value (Vector size scalar))
-swizzle_of size (Scalar scalar) = Err IncompatibleOperands
-swizzle_of size (Matrix columns rows scalar) = Err IncompatibleOperands
-swizzle_of size (CooperativeMatrix columns rows scalar role) = Err IncompatibleOperands
-swizzle_of size (Atomic scalar) = Err IncompatibleOperands
-swizzle_of size (Pointer base space) = Err IncompatibleOperands
-swizzle_of size (ValuePointer of_size scalar space) = Err IncompatibleOperands
-swizzle_of size (Array base of_size stride) = Err IncompatibleOperands
-swizzle_of size (Struct members span) = Err IncompatibleOperands
-swizzle_of size (Image dim arrayed class) = Err IncompatibleOperands
-swizzle_of size (Sampler comparison) = Err IncompatibleOperands
-swizzle_of size (AccelerationStructure vertex_return) = Err IncompatibleOperands
-swizzle_of size (RayQuery vertex_return) = Err IncompatibleOperands
-swizzle_of size (BindingArray base of_size) = Err IncompatibleOperands
+swizzle_of _ _ = Err IncompatibleOperands
 
 -- bools in the shape of `inner`, a scalar or a vector
 abbrev pub bools_of : TypeInner → ResolveResult
 bools_of (Scalar scalar) = Ok (Value (Scalar bool_scalar))
 bools_of (Vector size scalar) = Ok (Value (Vector size bool_scalar))
-bools_of (Matrix columns rows scalar) = Err IncompatibleOperands
-bools_of (CooperativeMatrix columns rows scalar role) = Err IncompatibleOperands
-bools_of (Atomic scalar) = Err IncompatibleOperands
-bools_of (Pointer base space) = Err IncompatibleOperands
-bools_of (ValuePointer size scalar space) = Err IncompatibleOperands
-bools_of (Array base size stride) = Err IncompatibleOperands
-bools_of (Struct members span) = Err IncompatibleOperands
-bools_of (Image dim arrayed class) = Err IncompatibleOperands
-bools_of (Sampler comparison) = Err IncompatibleOperands
-bools_of (AccelerationStructure vertex_return) = Err IncompatibleOperands
-bools_of (RayQuery vertex_return) = Err IncompatibleOperands
-bools_of (BindingArray base size) = Err IncompatibleOperands
+bools_of _ = Err IncompatibleOperands
 
 -- a scalar converted to a kind, and to a width if one is given
 abbrev pub cast_scalar : ScalarKind → Option ℕ → ScalarType → ScalarType
@@ -153,17 +96,7 @@ abbrev pub cast_of : ScalarKind → Option ℕ → TypeInner → ResolveResult
 cast_of kind convert (Scalar scalar) = Ok (Value (Scalar (cast_scalar kind convert scalar)))
 cast_of kind convert (Vector size scalar) = Ok (Value (Vector size (cast_scalar kind convert scalar)))
 cast_of kind convert (Matrix columns rows scalar) = Ok (Value (Matrix columns rows (cast_scalar kind convert scalar)))
-cast_of kind convert (CooperativeMatrix columns rows scalar role) = Err IncompatibleOperands
-cast_of kind convert (Atomic scalar) = Err IncompatibleOperands
-cast_of kind convert (Pointer base space) = Err IncompatibleOperands
-cast_of kind convert (ValuePointer size scalar space) = Err IncompatibleOperands
-cast_of kind convert (Array base size stride) = Err IncompatibleOperands
-cast_of kind convert (Struct members span) = Err IncompatibleOperands
-cast_of kind convert (Image dim arrayed class) = Err IncompatibleOperands
-cast_of kind convert (Sampler comparison) = Err IncompatibleOperands
-cast_of kind convert (AccelerationStructure vertex_return) = Err IncompatibleOperands
-cast_of kind convert (RayQuery vertex_return) = Err IncompatibleOperands
-cast_of kind convert (BindingArray base size) = Err IncompatibleOperands
+cast_of _ _ _ = Err IncompatibleOperands
 
 -- the type of a product: a new one if a matrix meets a vector or a matrix, the right factor's if a scalar precedes a
 -- vector or a matrix, and else the left factor's
@@ -172,7 +105,8 @@ product_of left right (Scalar s) (Vector size scalar) = right
 product_of left right (Scalar s) (Matrix columns rows scalar) = right
 product_of left right (Matrix columns rows scalar) (Vector size s) = Ok (Value (Vector rows scalar))
 product_of left right (Vector size s) (Matrix columns rows scalar) = Ok (Value (Vector columns scalar))
-product_of left right (Matrix columns rows scalar) (Matrix right_columns right_rows s) = Ok (Value (Matrix right_columns rows scalar))
+product_of left right (Matrix columns rows scalar) (Matrix right_columns right_rows s) =
+    Ok (Value (Matrix right_columns rows scalar))
 product_of left right x y = left
 
 -- the type of the product of two operands
@@ -189,17 +123,7 @@ binary_of types earlier LessEqual left right = of_form (operand types earlier le
 binary_of types earlier Greater left right = of_form (operand types earlier left) bools_of
 binary_of types earlier GreaterEqual left right = of_form (operand types earlier left) bools_of
 binary_of types earlier Multiply left right = product types earlier left right
-binary_of types earlier Add left right = same_type (slice_get earlier left)
-binary_of types earlier Subtract left right = same_type (slice_get earlier left)
-binary_of types earlier Divide left right = same_type (slice_get earlier left)
-binary_of types earlier Modulo left right = same_type (slice_get earlier left)
-binary_of types earlier And left right = same_type (slice_get earlier left)
-binary_of types earlier ExclusiveOr left right = same_type (slice_get earlier left)
-binary_of types earlier InclusiveOr left right = same_type (slice_get earlier left)
-binary_of types earlier LogicalAnd left right = same_type (slice_get earlier left)
-binary_of types earlier LogicalOr left right = same_type (slice_get earlier left)
-binary_of types earlier ShiftLeft left right = same_type (slice_get earlier left)
-binary_of types earlier ShiftRight left right = same_type (slice_get earlier left)
+binary_of _ earlier _ left _ = same_type (slice_get earlier left)
 
 -- the type of the result of a relational function
 abbrev pub relational_of : RelationalFunction → TypeInner → ResolveResult
@@ -214,7 +138,8 @@ value_of None = Err IncompatibleOperands
 value_of (Some inner) = Ok (Value inner)
 
 -- the type of the result of a mathematical function
-abbrev pub math_of : List «Type» → List TypeResolution → MathFunction → ℕ → Option ℕ → Option ℕ → Option ℕ → ResolveResult
+abbrev pub math_of : List «Type» → List TypeResolution → MathFunction → ℕ → Option ℕ → Option ℕ → Option ℕ
+    → ResolveResult
 math_of types earlier fun arg arg1 arg2 arg3 =
     let at = option_and_then (operand types earlier) in
     of_form (operand types earlier arg) (λ first. value_of (math_type fun first (at arg1) (at arg2) (at arg3)))
@@ -238,20 +163,4 @@ plain_resolves m (form.Relational fun argument) earlier = of_form (operand m.typ
 plain_resolves m (form.Math fun arg arg1 arg2 arg3) earlier = math_of m.types earlier fun arg arg1 arg2 arg3
 plain_resolves m (form.As expr kind convert) earlier = of_form (operand m.types earlier expr) (cast_of kind convert)
 plain_resolves m (form.ArrayLength expr) earlier = Ok (Value (Scalar u32_scalar))
-plain_resolves m (form.FunctionArgument index) earlier = Err NotResolvable
-plain_resolves m (form.GlobalVariable v) earlier = Err NotResolvable
-plain_resolves m (form.LocalVariable v) earlier = Err NotResolvable
-plain_resolves m (form.Load pointer) earlier = Err NotResolvable
-plain_resolves m (form.ImageSample image sampler gather coordinate array_index offset level depth_ref clamp_to_edge) earlier = Err NotResolvable
-plain_resolves m (form.ImageLoad image coordinate array_index sample level) earlier = Err NotResolvable
-plain_resolves m (form.ImageQuery image query) earlier = Err NotResolvable
-plain_resolves m (form.CallResult f) earlier = Err NotResolvable
-plain_resolves m (form.AtomicResult ty comparison) earlier = Err NotResolvable
-plain_resolves m (form.WorkGroupUniformLoadResult ty) earlier = Err NotResolvable
-plain_resolves m form.RayQueryProceedResult earlier = Err NotResolvable
-plain_resolves m (form.RayQueryGetIntersection query committed) earlier = Err NotResolvable
-plain_resolves m (form.RayQueryVertexPositions query committed) earlier = Err NotResolvable
-plain_resolves m form.SubgroupBallotResult earlier = Err NotResolvable
-plain_resolves m (form.SubgroupOperationResult ty) earlier = Err NotResolvable
-plain_resolves m (form.CooperativeLoad pointer stride) earlier = Err NotResolvable
-plain_resolves m (form.CooperativeMultiplyAdd a b c) earlier = Err NotResolvable
+plain_resolves _ _ _ = Err NotResolvable

@@ -49,17 +49,7 @@ abbrev pub IsValueForm : TypeInner → Type 0
 IsValueForm (form.Array base size stride) = ⊥
 IsValueForm (form.BindingArray base size) = ⊥
 IsValueForm (form.Struct members span) = ⊥
-IsValueForm (form.Scalar scalar) = ⊤
-IsValueForm (form.Vector size scalar) = ⊤
-IsValueForm (form.Matrix columns rows scalar) = ⊤
-IsValueForm (form.CooperativeMatrix columns rows scalar role) = ⊤
-IsValueForm (form.Atomic scalar) = ⊤
-IsValueForm (form.Pointer base space) = ⊤
-IsValueForm (form.ValuePointer size scalar space) = ⊤
-IsValueForm (form.Image dim arrayed class) = ⊤
-IsValueForm (form.Sampler comparison) = ⊤
-IsValueForm (form.AccelerationStructure vertex_return) = ⊤
-IsValueForm (form.RayQuery vertex_return) = ⊤
+IsValueForm _ = ⊤
 
 -- a resolution is a handle, or a `TypeInner` that may be given as a value
 abbrev pub IsProperResolution : TypeResolution → Type 0
@@ -75,35 +65,13 @@ IsStructValue (Value inner) = IsStruct inner
 abbrev pub pointer_to : ℕ → AddressSpace → TypeInner → TypeInner
 pointer_to base space (form.Scalar scalar) = form.ValuePointer None scalar space
 pointer_to base space (form.Vector size scalar) = form.ValuePointer (Some size) scalar space
-pointer_to base space (form.Matrix columns rows scalar) = form.Pointer base space
-pointer_to base space (form.CooperativeMatrix columns rows scalar role) = form.Pointer base space
-pointer_to base space (form.Atomic scalar) = form.Pointer base space
-pointer_to base space (form.Pointer base_of_base space_of_base) = form.Pointer base space
-pointer_to base space (form.ValuePointer size scalar space_of_base) = form.Pointer base space
-pointer_to base space (form.Array base_of_base size stride) = form.Pointer base space
-pointer_to base space (form.Struct members span) = form.Pointer base space
-pointer_to base space (form.Image dim arrayed class) = form.Pointer base space
-pointer_to base space (form.Sampler comparison) = form.Pointer base space
-pointer_to base space (form.AccelerationStructure vertex_return) = form.Pointer base space
-pointer_to base space (form.RayQuery vertex_return) = form.Pointer base space
-pointer_to base space (form.BindingArray base_of_base size) = form.Pointer base space
+pointer_to base space _ = form.Pointer base space
 
 -- a type as it is compared: pointers as `pointer_to` says, and other types as they are
 abbrev pub canonical : List «Type» → TypeInner → TypeInner
-canonical types (form.Pointer base space) = option_map_or (pointer_to base space) (inner_in types (Handle base)) (form.Pointer base space)
-canonical types (form.Scalar scalar) = form.Scalar scalar
-canonical types (form.Vector size scalar) = form.Vector size scalar
-canonical types (form.Matrix columns rows scalar) = form.Matrix columns rows scalar
-canonical types (form.CooperativeMatrix columns rows scalar role) = form.CooperativeMatrix columns rows scalar role
-canonical types (form.Atomic scalar) = form.Atomic scalar
-canonical types (form.ValuePointer size scalar space) = form.ValuePointer size scalar space
-canonical types (form.Array base size stride) = form.Array base size stride
-canonical types (form.Struct members span) = form.Struct members span
-canonical types (form.Image dim arrayed class) = form.Image dim arrayed class
-canonical types (form.Sampler comparison) = form.Sampler comparison
-canonical types (form.AccelerationStructure vertex_return) = form.AccelerationStructure vertex_return
-canonical types (form.RayQuery vertex_return) = form.RayQuery vertex_return
-canonical types (form.BindingArray base size) = form.BindingArray base size
+canonical types (form.Pointer base space) =
+    option_map_or (pointer_to base space) (inner_in types (Handle base)) (form.Pointer base space)
+canonical _ inner = inner
 
 -- `lhs` and `rhs` are the same handle
 abbrev pub AreOneHandle : TypeResolution → TypeResolution → Type 0
@@ -112,8 +80,12 @@ AreOneHandle lhs rhs = (t : ℕ) × (lhs ≡ Handle t) × (rhs ≡ Handle t)
 -- `x` and `y`, the types of `lhs` and `rhs`, are the same: structs if they have the same handle, other types if they
 -- are equal as they are compared
 abbrev pub AreSameInners : List «Type» → TypeResolution → TypeResolution → TypeInner → TypeInner → Type 0
-AreSameInners types lhs rhs x y = (IsStruct x × IsStruct y × AreOneHandle lhs rhs) ⊎ (IsNotStruct x × IsNotStruct y × (canonical types x ≡ canonical types y))
+AreSameInners types lhs rhs x y =
+    (IsStruct x × IsStruct y × AreOneHandle lhs rhs)
+    ⊎ (IsNotStruct x × IsNotStruct y × (canonical types x ≡ canonical types y))
 
 -- `lhs` and `rhs` are of the same type
 abbrev pub AreSameTypes : List «Type» → TypeResolution → TypeResolution → Type 0
-AreSameTypes types lhs rhs = (x : TypeInner) × (y : TypeInner) × (inner_in types lhs ≡ Some x) × (inner_in types rhs ≡ Some y) × AreSameInners types lhs rhs x y
+AreSameTypes types lhs rhs =
+    (x : TypeInner) × (y : TypeInner) × (inner_in types lhs ≡ Some x) × (inner_in types rhs ≡ Some y)
+    × AreSameInners types lhs rhs x y

@@ -1,28 +1,11 @@
 -- Whether two types are the same, as a bool.
-use Rattle.std.specs.Prelude.{◌==◌, ◌&&◌, ◌||◌, not, ℕ, Bool as Boolean, true, false, List, Option, Some, None}
+use Rattle.std.specs.Prelude.{◌==◌, ◌&&◌, ◌||◌, not, ℕ, Bool as Boolean, false, List, Option, Some, None}
+use Rattle.naga_ir.specs.TypeWords.{is_struct}
 use Rattle.naga_ir.specs.contracts.types.TypeInnerPartialEq.TheImpl as of_inner
 use Rattle.naga_ir.specs.declared.types.«Type».{«Type»}
 use Rattle.naga_ir.specs.declared.types.TypeInner.{TypeInner}
-use Rattle.naga_ir.specs.declared.types.TypeInner.TheVariants.{Scalar, Vector, Matrix, CooperativeMatrix, Atomic, Pointer, ValuePointer, Array, Struct, Image, Sampler, AccelerationStructure, RayQuery, BindingArray}
 use Rattle.naga_typing.specs.Resolutions.{canonical, handle_of, inner_in}
 use Rattle.naga_typing.specs.declared.typifier.TypeResolution.{TypeResolution}
-
--- whether `inner` is a struct
-abbrev pub is_struct : TypeInner → Boolean
-is_struct (Struct members span) = true
-is_struct (Scalar scalar) = false
-is_struct (Vector size scalar) = false
-is_struct (Matrix columns rows scalar) = false
-is_struct (CooperativeMatrix columns rows scalar role) = false
-is_struct (Atomic scalar) = false
-is_struct (Pointer base space) = false
-is_struct (ValuePointer size scalar space) = false
-is_struct (Array base size stride) = false
-is_struct (Image dim arrayed class) = false
-is_struct (Sampler comparison) = false
-is_struct (AccelerationStructure vertex_return) = false
-is_struct (RayQuery vertex_return) = false
-is_struct (BindingArray base size) = false
 
 -- whether there are two handles, and they are equal
 abbrev pub is_one_handle : Option ℕ → Option ℕ → Boolean
@@ -34,7 +17,8 @@ is_one_handle None _ = false
 -- are equal as they are compared
 abbrev pub are_same_inners : List «Type» → Boolean → TypeInner → TypeInner → Boolean
 are_same_inners types one_handle x y =
-    is_struct x && (is_struct y && one_handle) || not (is_struct x) && (not (is_struct y) && of_inner.ghosts.eq (canonical types x) (canonical types y))
+    is_struct x && (is_struct y && one_handle)
+    || not (is_struct x) && (not (is_struct y) && of_inner.ghosts.eq (canonical types x) (canonical types y))
 
 -- whether there are two types, and they are the same
 abbrev pub are_same_found : List «Type» → Boolean → Option TypeInner → Option TypeInner → Boolean
@@ -44,4 +28,5 @@ are_same_found types one_handle None _ = false
 
 -- whether two resolutions are of the same type
 unfoldable pub are_same : List «Type» → TypeResolution → TypeResolution → Boolean
-are_same types lhs rhs = are_same_found types (is_one_handle (handle_of lhs) (handle_of rhs)) (inner_in types lhs) (inner_in types rhs)
+are_same types lhs rhs =
+    are_same_found types (is_one_handle (handle_of lhs) (handle_of rhs)) (inner_in types lhs) (inner_in types rhs)

@@ -22,7 +22,10 @@ use Rattle.naga_typing.specs.declared.typifier.TypeResolution.TheVariants as res
 
 -- what an expression can refer to: so many earlier expressions, so many local variables, and the items of the module
 abbrev pub counts_in_sight : Module → ℕ → ℕ → Counts
-counts_in_sight m expressions local_variables = record (module_counts m) { expressions = expressions; local_variables = local_variables }
+counts_in_sight m expressions local_variables = record (module_counts m) {
+  expressions = expressions;
+  local_variables = local_variables;
+}
 
 -- an expression can be resolved: the handles of the module are right, everything that the expression refers to exists,
 -- each operand among the earlier expressions, and the types of these exist and are proper
@@ -39,8 +42,11 @@ IsResolveResult rule result = UnlessOutOfMemory (λ e. e ≡ OutOfMemory) result
 
 -- the type that `rule` says was added to the types `old`, which are now `new`, or the rule says
 -- the error, out of memory aside
-abbrev pub IsPushResult : {A : Type 0} → Result TypeResolution ResolveError → List TypeResolution → List TypeResolution → Result A ResolveError → Type 0
-IsPushResult rule old new result = UnlessOutOfMemory (λ e. e ≡ OutOfMemory) result (λ _. (r : TypeResolution) × (rule ≡ Ok r) × (new ≡ old ++ r ∷ [])) (λ e. rule ≡ Err e)
+abbrev pub IsPushResult : {A : Type 0} → Result TypeResolution ResolveError → List TypeResolution → List TypeResolution
+    → Result A ResolveError → Type 0
+IsPushResult rule old new result =
+    UnlessOutOfMemory (λ e. e ≡ OutOfMemory) result (λ _. (r : TypeResolution) × (rule ≡ Ok r) × (new ≡ old ++ r ∷ []))
+    (λ e. rule ≡ Err e)
 
 -- how the type of an expression follows from a module, the expression, and the types of earlier expressions
 abbrev pub Resolves : Type 0
@@ -57,13 +63,22 @@ AreResolved resolves m resolutions = AllAcceptedInOrder (resolve_in_order resolv
 -- the laws of typings: an expression with a declared type has that type, a literal its scalar type and a splat of a
 -- scalar the vector type; everything that a type refers to exists, and the type is proper; no error is `OutOfMemory`
 pub record IsLawful (resolves : Resolves) : Type 0 where
-  pub literals : (m : Module) (value : Value) (earlier : List TypeResolution) → resolves m (form.Literal value) earlier ≡ Ok (resolution.Value (Scalar (literal_scalar value)))
-  pub constants : (m : Module) (c : ℕ) (d : Constant) (earlier : List TypeResolution) → slice_get m.constants c ≡ Some d → resolves m (form.Constant c) earlier ≡ Ok (resolution.Handle d.ty)
-  pub overrides : (m : Module) (o : ℕ) (d : Override) (earlier : List TypeResolution) → slice_get m.overrides o ≡ Some d → resolves m (form.Override o) earlier ≡ Ok (resolution.Handle d.ty)
-  pub zero_values : (m : Module) (t : ℕ) (earlier : List TypeResolution) → resolves m (form.ZeroValue t) earlier ≡ Ok (resolution.Handle t)
-  pub compositions : (m : Module) (t : ℕ) (components : List ℕ) (earlier : List TypeResolution) → resolves m (form.Compose t components) earlier ≡ Ok (resolution.Handle t)
+  pub literals : (m : Module) (value : Value) (earlier : List TypeResolution)
+      → resolves m (form.Literal value) earlier ≡ Ok (resolution.Value (Scalar (literal_scalar value)))
+  pub constants : (m : Module) (c : ℕ) (d : Constant) (earlier : List TypeResolution) → slice_get m.constants c ≡ Some d
+      → resolves m (form.Constant c) earlier ≡ Ok (resolution.Handle d.ty)
+  pub overrides : (m : Module) (o : ℕ) (d : Override) (earlier : List TypeResolution) → slice_get m.overrides o ≡ Some d
+      → resolves m (form.Override o) earlier ≡ Ok (resolution.Handle d.ty)
+  pub zero_values : (m : Module) (t : ℕ) (earlier : List TypeResolution)
+      → resolves m (form.ZeroValue t) earlier ≡ Ok (resolution.Handle t)
+  pub compositions : (m : Module) (t : ℕ) (components : List ℕ) (earlier : List TypeResolution)
+      → resolves m (form.Compose t components) earlier ≡ Ok (resolution.Handle t)
   pub splats : (m : Module) (size : VectorSize) (e : ℕ) (scalar : ScalarType) (earlier : List TypeResolution)
-      → operand m.types earlier e ≡ Some (Scalar scalar) → resolves m (form.Splat size e) earlier ≡ Ok (resolution.Value (Vector size scalar))
-  pub exist : (m : Module) (x : Expression) (earlier : List TypeResolution) (r : TypeResolution) → CanResolve m x earlier → resolves m x earlier ≡ Ok r → ResolutionExists (global_lists m) r
-  pub proper : (m : Module) (x : Expression) (earlier : List TypeResolution) (r : TypeResolution) → CanResolve m x earlier → resolves m x earlier ≡ Ok r → IsProperResolution r
-  pub decided : (m : Module) (x : Expression) (earlier : List TypeResolution) → CanResolve m x earlier → resolves m x earlier ≡ Err OutOfMemory → ⊥
+      → operand m.types earlier e ≡ Some (Scalar scalar)
+      → resolves m (form.Splat size e) earlier ≡ Ok (resolution.Value (Vector size scalar))
+  pub exist : (m : Module) (x : Expression) (earlier : List TypeResolution) (r : TypeResolution)
+      → CanResolve m x earlier → resolves m x earlier ≡ Ok r → ResolutionExists (global_lists m) r
+  pub proper : (m : Module) (x : Expression) (earlier : List TypeResolution) (r : TypeResolution)
+      → CanResolve m x earlier → resolves m x earlier ≡ Ok r → IsProperResolution r
+  pub decided : (m : Module) (x : Expression) (earlier : List TypeResolution) → CanResolve m x earlier
+      → resolves m x earlier ≡ Err OutOfMemory → ⊥

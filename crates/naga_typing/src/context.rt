@@ -13,6 +13,7 @@ use naga_ir::arena::Arena;
 use naga_ir::expression::{Expression, Literal};
 use naga_ir::handle::Handle;
 use naga_ir::ir::{Constant, Module, Override};
+use naga_ir::origin::Origin;
 use naga_ir::tags::{ConstantTag, ExpressionTag, OverrideTag};
 use naga_ir::types::{Scalar, ScalarKind, TypeInner};
 use naga_ir::unique_arena::UniqueArena;
@@ -109,41 +110,15 @@ fn unnamed_index(expression: &Expression, types: &UniqueArena) -> Result<u32, Co
     requires { IfSome (named_type expression.now) (λ ty. ty < length types.now) }
     ensures { result ≡ spec.unnamed_index types.now (Some expression.now) }
 {
-    match expression {
-        Expression::Literal(literal) => literal_index(*literal),
-        Expression::ZeroValue(ty) => zero_index(&types[*ty].inner),
-        Expression::Constant(_)
-        | Expression::Override(_)
-        | Expression::Compose { .. }
-        | Expression::Access { .. }
-        | Expression::AccessIndex { .. }
-        | Expression::Splat { .. }
-        | Expression::Swizzle { .. }
-        | Expression::FunctionArgument(_)
-        | Expression::GlobalVariable(_)
-        | Expression::LocalVariable(_)
-        | Expression::Load { .. }
-        | Expression::ImageSample { .. }
-        | Expression::ImageLoad { .. }
-        | Expression::ImageQuery { .. }
-        | Expression::Unary { .. }
-        | Expression::Binary { .. }
-        | Expression::Select { .. }
-        | Expression::Derivative { .. }
-        | Expression::Relational { .. }
-        | Expression::Math { .. }
-        | Expression::As { .. }
-        | Expression::CallResult(_)
-        | Expression::AtomicResult { .. }
-        | Expression::WorkGroupUniformLoadResult { .. }
-        | Expression::ArrayLength(_)
-        | Expression::RayQueryProceedResult
-        | Expression::RayQueryGetIntersection { .. }
-        | Expression::RayQueryVertexPositions { .. }
-        | Expression::SubgroupBallotResult
-        | Expression::SubgroupOperationResult { .. }
-        | Expression::CooperativeLoad { .. }
-        | Expression::CooperativeMultiplyAdd { .. } => Err(ConstValueError::NonConst),
+    match expression.origin() {
+        Origin::Literal(literal) => literal_index(literal),
+        Origin::ZeroValue(ty) => zero_index(&types[ty].inner),
+        Origin::Constant(_)
+        | Origin::Override(_)
+        | Origin::Compose(_)
+        | Origin::Splat(_)
+        | Origin::Computed
+        | Origin::Runtime => Err(ConstValueError::NonConst),
     }
 }
 

@@ -11,6 +11,7 @@ use naga_ir::expression::Expression;
 use naga_ir::handle::Handle;
 use naga_ir::handle_vec::HandleVec;
 use naga_ir::memory::OutOfMemory;
+use naga_ir::origin::Origin;
 use naga_ir::tags::ExpressionTag;
 use std::alloc::Global;
 use std::marker::Model;
@@ -93,7 +94,10 @@ impl ExpressionKindTracker {
         requires { value < length self.now }
         ensures { result ≡ is_const (slice_get self.now value) }
     {
-        matches!(self.inner[value], ExpressionKind::Const)
+        match self.inner[value] {
+            ExpressionKind::Const => true,
+            ExpressionKind::Override | ExpressionKind::Runtime => false,
+        }
     }
 
     /// Whether the value of an expression is known when a pipeline is created, if not before.
@@ -112,41 +116,13 @@ impl ExpressionKindTracker {
         requires { (o : ℕ) → Contains (references.operands expression.now) o → o < length self.now }
         ensures { result ≡ spec.kind_of self.now expression.now }
     {
-        match expression {
-            Expression::Literal(_) | Expression::ZeroValue(_) | Expression::Constant(_) => {
+        match expression.origin() {
+            Origin::Literal(_) | Origin::ZeroValue(_) | Origin::Constant(_) => {
                 ExpressionKind::Const
             }
-            Expression::Override(_) => ExpressionKind::Override,
-            Expression::Compose { .. }
-            | Expression::Splat { .. }
-            | Expression::Access { .. }
-            | Expression::AccessIndex { .. }
-            | Expression::Swizzle { .. }
-            | Expression::Unary { .. }
-            | Expression::Binary { .. }
-            | Expression::Math { .. }
-            | Expression::As { .. }
-            | Expression::Select { .. }
-            | Expression::Relational { .. }
-            | Expression::ArrayLength(_) => self.latest(expression),
-            Expression::FunctionArgument(_)
-            | Expression::GlobalVariable(_)
-            | Expression::LocalVariable(_)
-            | Expression::Load { .. }
-            | Expression::ImageSample { .. }
-            | Expression::ImageLoad { .. }
-            | Expression::ImageQuery { .. }
-            | Expression::Derivative { .. }
-            | Expression::CallResult(_)
-            | Expression::AtomicResult { .. }
-            | Expression::WorkGroupUniformLoadResult { .. }
-            | Expression::RayQueryProceedResult
-            | Expression::RayQueryGetIntersection { .. }
-            | Expression::RayQueryVertexPositions { .. }
-            | Expression::SubgroupBallotResult
-            | Expression::SubgroupOperationResult { .. }
-            | Expression::CooperativeLoad { .. }
-            | Expression::CooperativeMultiplyAdd { .. } => ExpressionKind::Runtime,
+            Origin::Override(_) => ExpressionKind::Override,
+            Origin::Compose(_) | Origin::Splat(_) | Origin::Computed => self.latest(expression),
+            Origin::Runtime => ExpressionKind::Runtime,
         }
     }
 

@@ -179,11 +179,23 @@ pub(crate) fn part_in(
 fn loaded(base: Handle<TypeTag>, target: &TypeInner) -> Result<TypeResolution, ResolveError>
     ensures { result ≡ spec.loaded base target.now }
 {
-    // Atomics are not values: loading one gives its scalar.
-    if let TypeInner::Atomic(of) = *target {
-        return scalar(of);
+    match *target {
+        // Atomics are not values: loading one gives its scalar.
+        TypeInner::Atomic(of) => scalar(of),
+        TypeInner::Scalar(_)
+        | TypeInner::Vector { .. }
+        | TypeInner::Matrix { .. }
+        | TypeInner::CooperativeMatrix { .. }
+        | TypeInner::Pointer { .. }
+        | TypeInner::ValuePointer { .. }
+        | TypeInner::Array { .. }
+        | TypeInner::Struct { .. }
+        | TypeInner::Image { .. }
+        | TypeInner::Sampler { .. }
+        | TypeInner::AccelerationStructure { .. }
+        | TypeInner::RayQuery { .. }
+        | TypeInner::BindingArray { .. } => Ok(TypeResolution::Handle(base)),
     }
-    Ok(TypeResolution::Handle(base))
 }
 
 /// The type of what is loaded through a pointer.
@@ -225,10 +237,22 @@ pub(crate) fn load_of(
 fn image_parts(inner: &TypeInner) -> Option<(ImageDimension, ImageClass)>
     ensures { result ≡ spec.image_parts inner.now }
 {
-    let TypeInner::Image { dim, class, .. } = *inner else {
-        return None;
-    };
-    Some((dim, class))
+    match *inner {
+        TypeInner::Image { dim, class, .. } => Some((dim, class)),
+        TypeInner::Scalar(_)
+        | TypeInner::Vector { .. }
+        | TypeInner::Matrix { .. }
+        | TypeInner::CooperativeMatrix { .. }
+        | TypeInner::Atomic(_)
+        | TypeInner::Pointer { .. }
+        | TypeInner::ValuePointer { .. }
+        | TypeInner::Array { .. }
+        | TypeInner::Struct { .. }
+        | TypeInner::Sampler { .. }
+        | TypeInner::AccelerationStructure { .. }
+        | TypeInner::RayQuery { .. }
+        | TypeInner::BindingArray { .. } => None,
+    }
 }
 
 /// The type of a vector of four scalars of a kind, of four bytes each.

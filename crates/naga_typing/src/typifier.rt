@@ -1,7 +1,6 @@
 //! The types of expressions, and whether two types are the same.
 
 ghost use Rattle.std.specs.Prelude.{◌≡◌, ◌↔◌, List, IfOk, IsFalse, IsOk, IsTrue, OnErr, Some, unwrap_or};
-ghost use Rattle.naga_ir.specs.TypeWords.{IsNotStruct, IsStruct};
 ghost use Rattle.naga_ir.specs.declared.types.«Type».{«Type»};
 ghost use Rattle.naga_typing.specs.ErrorNames.{resolve_error_name};
 ghost use Rattle.naga_typing.specs.Resolutions as spec;
@@ -143,7 +142,7 @@ fn compare_types_inner(lhs: &TypeResolution, rhs: &TypeResolution, types: &Uniqu
     let right = rhs.inner_with(types);
     // WGSL tells structs apart by their declarations, even if their members are equal;
     // a struct that is given as a value has none.
-    if is_struct(left) || is_struct(right) {
+    if left.is_struct() || right.is_struct() {
         return false;
     }
     are_equivalent(left, right, types)
@@ -157,14 +156,6 @@ fn are_one_handle(lhs: &TypeResolution, rhs: &TypeResolution) -> bool
         (TypeResolution::Handle(left), TypeResolution::Handle(right)) => left == right,
         (TypeResolution::Handle(_) | TypeResolution::Value(_), _) => false,
     }
-}
-
-/// Whether `inner` is a struct.
-fn is_struct(inner: &TypeInner) -> bool
-    ensures yes { IsTrue result ↔ IsStruct inner.now }
-    ensures no { IsFalse result ↔ IsNotStruct inner.now }
-{
-    matches!(inner, TypeInner::Struct { .. })
 }
 
 /// Whether two types are equal as they are compared.
@@ -183,7 +174,22 @@ fn are_equivalent(left: &TypeInner, right: &TypeInner, types: &UniqueArena) -> b
 fn is_pointer(inner: &TypeInner) -> bool
     ensures { IsFalse result → (types : List «Type») → spec.canonical types inner.now ≡ inner.now }
 {
-    matches!(inner, TypeInner::Pointer { .. })
+    match inner {
+        TypeInner::Pointer { .. } => true,
+        TypeInner::Scalar(_)
+        | TypeInner::Vector { .. }
+        | TypeInner::Matrix { .. }
+        | TypeInner::CooperativeMatrix { .. }
+        | TypeInner::Atomic(_)
+        | TypeInner::ValuePointer { .. }
+        | TypeInner::Array { .. }
+        | TypeInner::Struct { .. }
+        | TypeInner::Image { .. }
+        | TypeInner::Sampler { .. }
+        | TypeInner::AccelerationStructure { .. }
+        | TypeInner::RayQuery { .. }
+        | TypeInner::BindingArray { .. } => false,
+    }
 }
 
 /// Whether two types of which one is a pointer are equal as they are compared.

@@ -26,12 +26,17 @@ use Rattle.naga_typing.specs.declared.typifier.ResolveError.{ResolveError}
 use Rattle.naga_valid.specs.State.{Facts, Settings}
 use Rattle.naga_valid.specs.Values.{AreValueResults}
 use Rattle.naga_valid.specs.declared.error.ValidationError.{ValidationError}
-use Rattle.naga_valid.specs.declared.error.ValidationError.TheVariants.{InvalidHandle, Layouter, Type_, ConstExpression, ArraySizeError, Constant, Override, Corrupted, OutOfMemory}
+use Rattle.naga_valid.specs.declared.error.ValidationError.TheVariants.{InvalidHandle, Layouter, Type_, ConstExpression}
 
 -- what a module's users learn of its `facts`: what each type may be used for, and the type of each global expression;
 -- functions and entry points are not validated
 abbrev pub lists_of : Facts → ModuleInfoLists
-lists_of facts = record { type_flags = map (λ (i : TypeInfo). i.flags) facts.infos; functions = []; entry_points = []; const_expression_types = facts.resolutions }
+lists_of facts = record {
+  type_flags = map (λ (i : TypeInfo). i.flags) facts.infos;
+  functions = [];
+  entry_points = [];
+  const_expression_types = facts.resolutions;
+}
 
 -- the types of `m` are accepted by `rule`, and `infos` are their infos
 pub record AreValidTypesBy (rule : TypeRule) (m : Module) (settings : Settings) (infos : List TypeInfo) : Type 0 where
@@ -40,7 +45,8 @@ pub record AreValidTypesBy (rule : TypeRule) (m : Module) (settings : Settings) 
 
 -- the types of `m` are accepted by `rule`, and its global expressions have types: their infos and these types are
 -- `facts`
-pub record AreTypesAndExpressionsAcceptedBy (rule : TypeRule) (resolves : Resolves) (m : Module) (settings : Settings) (facts : Facts) : Type 0 where
+pub record AreTypesAndExpressionsAcceptedBy (rule : TypeRule) (resolves : Resolves) (m : Module) (settings : Settings)
+    (facts : Facts) : Type 0 where
   pub types : AreValidTypesBy rule m settings facts.infos
   pub resolutions : AreResolved resolves m facts.resolutions
 
@@ -130,13 +136,10 @@ pub record IsValueRefusal (resolves : Resolves) (m : Module) (settings : Setting
 abbrev pub IsEarlyRefusal : Resolves → Module → Settings → ValidationError → Type 0
 IsEarlyRefusal resolves m settings (InvalidHandle e) = IsHandleFault m e
 IsEarlyRefusal resolves m settings (Layouter e) = IsLayoutRefusal m e
-IsEarlyRefusal resolves m settings (Type_ handle name source) = IsMissingMember m handle name source ⊎ IsTypeRefusal m settings handle name source
+IsEarlyRefusal resolves m settings (Type_ handle name source) =
+    IsMissingMember m handle name source ⊎ IsTypeRefusal m settings handle name source
 IsEarlyRefusal resolves m settings (ConstExpression handle source) = IsUnresolved resolves m settings handle source
-IsEarlyRefusal resolves m settings (ArraySizeError handle) = ⊥
-IsEarlyRefusal resolves m settings (Constant handle name source) = ⊥
-IsEarlyRefusal resolves m settings (Override handle name source) = ⊥
-IsEarlyRefusal resolves m settings Corrupted = ⊥
-IsEarlyRefusal resolves m settings OutOfMemory = ⊥
+IsEarlyRefusal _ _ _ _ = ⊥
 
 -- `e` is a refusal of the module `m`: one before its values are validated, or the first error of its values
 abbrev pub IsRefusal : Resolves → Module → Settings → ValidationError → Type 0

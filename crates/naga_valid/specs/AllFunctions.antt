@@ -36,8 +36,12 @@ EachInOrder {V} P values = (k : ℕ) (v : V) → slice_get values k ≡ Some v �
 -- each info in `lists` is the info of the function, or of the entry point, of its index, which is accepted by the infos
 -- before it: of the functions before a function, and of all functions and the entry points before an entry point
 pub record AreInfosInOrder (by : Validation) (m : Module) (lists : ModuleInfoLists) : Type 0 where
-  pub functions : EachInOrder (λ before i info. IsInfoOf by m (record lists { functions = before; entry_points = [] }) (callable.Function i) info) lists.functions
-  pub entry_points : EachInOrder (λ before i info. IsInfoOf by m (record lists { entry_points = before }) (callable.EntryPoint i) info) lists.entry_points
+  pub functions :
+      EachInOrder (λ before i info. IsInfoOf by m (record lists { functions = before; entry_points = [] })
+      (callable.Function i) info) lists.functions
+  pub entry_points :
+      EachInOrder (λ before i info. IsInfoOf by m (record lists { entry_points = before }) (callable.EntryPoint i) info)
+      lists.entry_points
 
 -- each function and each entry point has an info in `lists`
 pub record HaveInfos (m : Module) (lists : ModuleInfoLists) : Type 0 where
@@ -46,8 +50,10 @@ pub record HaveInfos (m : Module) (lists : ModuleInfoLists) : Type 0 where
 
 -- `at` is the first function or entry point that has no info in `lists`; the functions come first
 abbrev pub IsNext : Module → ModuleInfoLists → Callable → Type 0
-IsNext m lists (callable.Function i) = (i < length m.functions) × (length lists.functions ≡ i) × (lists.entry_points ≡ [])
-IsNext m lists (callable.EntryPoint i) = (i < length m.entry_points) × (length lists.functions ≡ length m.functions) × (length lists.entry_points ≡ i)
+IsNext m lists (callable.Function i) =
+    (i < length m.functions) × (length lists.functions ≡ i) × (lists.entry_points ≡ [])
+IsNext m lists (callable.EntryPoint i) =
+    (i < length m.entry_points) × (length lists.functions ≡ length m.functions) × (length lists.entry_points ≡ i)
 
 -- the first function or entry point that has no info in `lists` is refused, or memory was
 -- refused while it was validated
@@ -66,5 +72,6 @@ pub record AddsInfos (by : Validation) (m : Module) (Complete : ModuleInfoLists 
 
 -- a call that adds infos to `old` leaves `new`, with an info of each function and each entry point of
 -- `m` unless `result` is an error
-abbrev pub ValidatesFunctions : Validation → Module → ModuleInfoLists → ModuleInfoLists → Result (Unit {0}) FunctionsError → Type 0
+abbrev pub ValidatesFunctions : Validation → Module → ModuleInfoLists → ModuleInfoLists
+    → Result (Unit {0}) FunctionsError → Type 0
 ValidatesFunctions by m old new result = AddsInfos by m (HaveInfos m) old new result

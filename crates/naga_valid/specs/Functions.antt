@@ -9,10 +9,12 @@ use Rattle.naga_info.specs.declared.module_info.FunctionInfo.{FunctionInfo}
 use Rattle.naga_ir.specs.Handles.{FunctionReferencesOk}
 use Rattle.naga_ir.specs.declared.expression.Expression.{Expression}
 use Rattle.naga_ir.specs.declared.expression.Expression.TheVariants as form
+use Rattle.naga_ir.specs.declared.expression.MathFunction.{MathFunction}
 use Rattle.naga_ir.specs.declared.ir.EntryPoint.{EntryPoint}
 use Rattle.naga_ir.specs.declared.ir.Function.{Function}
 use Rattle.naga_ir.specs.declared.ir.Module.{Module}
-use Rattle.naga_exprs.specs.Math.{MathTyping}
+use Rattle.naga_ir.specs.declared.types.TypeInner.{TypeInner}
+use Rattle.naga_exprs.specs.Math.{MathTyping, math_typing}
 use Rattle.naga_info.specs.Surroundings.{ExpressionSurroundings}
 use Rattle.naga_info.specs.declared.expression_error.ExpressionError.{ExpressionError}
 use Rattle.naga_info.specs.declared.expression_error.ExpressionError.TheVariants.{Type_}
@@ -39,7 +41,8 @@ pub record FunctionSurroundings : Type 0 where
   pub infos : ModuleInfoLists
 
 -- what the validation of a function `f` depends on under a validator with this `state`
-abbrev pub function_surroundings : {T : Type 0} → Resolves → MathTyping → State T → Bool → Module → Function → ModuleInfoLists → FunctionSurroundings
+abbrev pub function_surroundings : {T : Type 0} → Resolves → MathTyping → State T → Bool → Module → Function
+    → ModuleInfoLists → FunctionSurroundings
 function_surroundings resolves math state resolved m f infos = record {
   resolves = resolves;
   math = math;
@@ -51,8 +54,18 @@ function_surroundings resolves math state resolved m f infos = record {
   infos = infos;
 }
 
+-- what the validation of a function `f` depends on under a validator with this `state`, by what typings resolve, which
+-- arguments of mathematical functions they accept, and how many these take at least
+abbrev pub validator_surroundings : {T : Type 0} → (T → Resolves) → (T → MathFunction → List TypeInner → Bool)
+    → (T → MathFunction → List TypeInner → ℕ) → State T → Bool → Module → Function → ModuleInfoLists
+    → FunctionSurroundings
+validator_surroundings resolves accepts least_arguments state =
+    function_surroundings (resolves state.typing) (math_typing (accepts state.typing) (least_arguments state.typing))
+    state
+
 -- what the validation of an expression of a function depends on, once `types` and `kinds` of its expressions are known
-abbrev pub expression_surroundings : FunctionSurroundings → List TypeResolution → List ExpressionKind → ExpressionSurroundings
+abbrev pub expression_surroundings : FunctionSurroundings → List TypeResolution → List ExpressionKind
+    → ExpressionSurroundings
 expression_surroundings s types kinds = record {
   capabilities = s.capabilities;
   resolved = s.resolved;
@@ -67,7 +80,8 @@ expression_surroundings s types kinds = record {
 -- what the validation of an expression of a function depends on under a validator with this `state`: whether overrides
 -- must have their values, the module, the function, what is known of the module, and the types and the kinds of the
 -- expressions
-abbrev pub surroundings_under : {T : Type 0} → State T → Bool → Module → Function → ModuleInfoLists → List TypeResolution → List ExpressionKind → ExpressionSurroundings
+abbrev pub surroundings_under : {T : Type 0} → State T → Bool → Module → Function → ModuleInfoLists
+    → List TypeResolution → List ExpressionKind → ExpressionSurroundings
 surroundings_under state resolved m f infos types kinds = record {
   capabilities = state.capabilities.0;
   resolved = resolved;
@@ -82,11 +96,13 @@ surroundings_under state resolved m f infos types kinds = record {
 -- by `types`, the rule of the expression at `place` says `rule`
 abbrev pub IsRuleAt : FunctionSurroundings → List TypeResolution → ℕ → Result ShaderStages ExpressionError → Type 0
 IsRuleAt s types place rule =
-    (x : Expression) × (kinds : List ExpressionKind) × (slice_get s.function.expressions place ≡ Some x) × AreKinds s.function.expressions kinds × IsRule s.math (expression_surroundings s types kinds) x rule
+    (x : Expression) × (kinds : List ExpressionKind) × (slice_get s.function.expressions place ≡ Some x)
+    × AreKinds s.function.expressions kinds × IsRule s.math (expression_surroundings s types kinds) x rule
 
 -- the expression at each index of `stages` keeps its rule, and the item of that index is the stages that may use it
 abbrev pub KeepRules : FunctionSurroundings → List TypeResolution → List ShaderStages → Type 0
-KeepRules s types stages = (place : ℕ) (allowed : ShaderStages) → slice_get stages place ≡ Some allowed → IsRuleAt s types place (Ok allowed)
+KeepRules s types stages =
+    (place : ℕ) (allowed : ShaderStages) → slice_get stages place ≡ Some allowed → IsRuleAt s types place (Ok allowed)
 
 -- the stages that are in each of some sets of stages
 abbrev pub common_stages : List ShaderStages → ShaderStages
@@ -104,16 +120,20 @@ pub record IsFunctionAccepted (s : FunctionSurroundings) (info : FunctionInfo) :
 -- the expression after the ones that have `types` is the first that has no type, and `error` is why
 abbrev pub IsFirstUntyped : FunctionSurroundings → List TypeResolution → ResolveError → Type 0
 IsFirstUntyped s types error =
-    AreTypesBefore s.resolves s.«module» s.function (length types) types × IsUntyped s.resolves s.«module» s.function (length types) types error
+    AreTypesBefore s.resolves s.«module» s.function (length types) types
+    × IsUntyped s.resolves s.«module» s.function (length types) types error
 
 -- `types` are the types of all expressions, or of the expressions before the first that has none
 abbrev pub AreTypesReached : FunctionSurroundings → List TypeResolution → Type 0
-AreTypesReached s types = AreFunctionTypes s.resolves s.«module» s.function types ⊎ ((error : ResolveError) × IsFirstUntyped s types error)
+AreTypesReached s types =
+    AreFunctionTypes s.resolves s.«module» s.function types ⊎ ((error : ResolveError) × IsFirstUntyped s types error)
 
 -- the expression at `place` is refused: its rule says so, or allows some stages, and it has no type
-pub data IsRefusedAt (s : FunctionSurroundings) (types : List TypeResolution) (place : ℕ) : ExpressionError → Type 0 where
+pub data IsRefusedAt (s : FunctionSurroundings) (types : List TypeResolution) (place : ℕ) : ExpressionError
+    → Type 0 where
   breaks_rule : (source : ExpressionError) → IsRuleAt s types place (Err source) → IsRefusedAt s types place source
-  has_no_type : (allowed : ShaderStages) (error : ResolveError) → IsRuleAt s types place (Ok allowed) → length types ≡ place → IsFirstUntyped s types error → IsRefusedAt s types place (Type_ error)
+  has_no_type : (allowed : ShaderStages) (error : ResolveError) → IsRuleAt s types place (Ok allowed)
+      → length types ≡ place → IsFirstUntyped s types error → IsRefusedAt s types place (Type_ error)
 
 -- the expression at `place` is the first that is refused, with the error `source`: the expressions before it have types
 -- and keep their rules
@@ -128,7 +148,8 @@ pub record IsFunctionRefusal (s : FunctionSurroundings) (place : ℕ) (source : 
 
 -- the function of `s` is refused with this error, and isn't accepted
 abbrev pub RefusesFunction : FunctionSurroundings → FunctionError → Type 0
-RefusesFunction s (Expression_ place source) = IsFunctionRefusal s place source × ((info : FunctionInfo) → ¬ (IsFunctionAccepted s info))
+RefusesFunction s (Expression_ place source) =
+    IsFunctionRefusal s place source × ((info : FunctionInfo) → ¬ (IsFunctionAccepted s info))
 RefusesFunction s OutOfMemory = ⊥
 
 -- each function whose result is an expression of the function `f` has an index below `count`
@@ -144,4 +165,5 @@ pub record IsFunctionReady (m : Module) (f : Function) (count : ℕ) : Type 0 wh
 -- entry points once all functions are
 pub record AreFunctionsReadyInOrder (m : Module) : Type 0 where
   pub functions : (i : ℕ) (f : Function) → slice_get m.functions i ≡ Some f → IsFunctionReady m f i
-  pub entry_points : (i : ℕ) (e : EntryPoint) → slice_get m.entry_points i ≡ Some e → IsFunctionReady m e.function (length m.functions)
+  pub entry_points : (i : ℕ) (e : EntryPoint) → slice_get m.entry_points i ≡ Some e
+      → IsFunctionReady m e.function (length m.functions)

@@ -35,6 +35,8 @@ pub record KnowsMoreStages (less more : ModuleInfoLists) : Type 0 where
 -- what is accepted of the functions of module `m` as `by` says is accepted as `by_more` says, and no fewer stages may
 -- use it: each function, and all functions and entry points in order
 pub record AcceptsFunctionsToo (by by_more : Validation) (m : Module) : Type 0 where
-  pub one : (f : Function) (less more : ModuleInfoLists) → KnowsMoreStages less more → (info : FunctionInfo) → IsFunctionAccepted (by f less) info
+  pub one : (f : Function) (less more : ModuleInfoLists) → KnowsMoreStages less more → (info : FunctionInfo)
+      → IsFunctionAccepted (by f less) info
       → (now : FunctionInfo) × IsFunctionAccepted (by_more f more) now × IsUsableByMore info now
-  pub all : (lists : ModuleInfoLists) → AreInfosInOrder by m lists → (known : ModuleInfoLists) × AreInfosInOrder by_more m known × KnowsMoreStages lists known
+  pub all : (lists : ModuleInfoLists) → AreInfosInOrder by m lists
+      → (known : ModuleInfoLists) × AreInfosInOrder by_more m known × KnowsMoreStages lists known

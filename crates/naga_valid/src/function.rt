@@ -7,11 +7,10 @@ ghost use Rattle.naga_info.specs.Sources.{AreSources, PlaceExists};
 ghost use Rattle.naga_info.specs.Surroundings.{kind_operands};
 ghost use Rattle.naga_ir.specs.Handles.{ExpressionReferencesOk, FunctionReferencesOk, HandlesAccepted, OrderedOperands, ReferencesPrecede};
 ghost use Rattle.naga_ir.specs.References.{operands};
-ghost use Rattle.naga_exprs.specs.Math.{math_typing};
 ghost use Rattle.naga_valid.specs.Accepted.{Accepts};
 ghost use Rattle.naga_valid.specs.AllFunctions.{AddsInfos, AreInfosInOrder, HaveInfos, IsNext, IsNextRefused, IsThere, ValidatesFunctions, function_of};
 ghost use Rattle.naga_valid.specs.ErrorNames.{function_error_name};
-ghost use Rattle.naga_valid.specs.Functions.{CallsBefore, IsFunctionAccepted, RefusesFunction, function_surroundings};
+ghost use Rattle.naga_valid.specs.Functions.{CallsBefore, IsFunctionAccepted, RefusesFunction, validator_surroundings};
 ghost use Rattle.naga_valid.specs.State.{settings_of};
 ghost use Rattle.naga_valid.specs.steps.AllFunctions.{HaveFunctionInfos, IsInfoAdded, with_info};
 ghost use Rattle.naga_valid.specs.steps.Functions.{AllowInCommon, AreFoundKinds, CanCheckRules, IsFirstBreachAs, SufficeFor};
@@ -282,8 +281,7 @@ impl<T: Typing> Validator<T> {
         requires in_function { FunctionReferencesOk «module».now function.now }
         requires flags { length «module».now.types ≤ length mod_info.now.lists.type_flags }
         requires calls { CallsBefore function.now (length mod_info.now.lists.functions) }
-        ensures { let s = function_surroundings (T.resolves self.now.typing)
-            (math_typing (T.accepts_types self.now.typing) (T.least_arguments self.now.typing))
+        ensures { let s = validator_surroundings T.resolves T.accepts_types T.least_arguments
             self.now overrides_resolved «module».now function.now mod_info.now.lists in
             UnlessOutOfMemory (λ e. e ≡ FunctionError.OutOfMemory) result (λ info. IsFunctionAccepted s info)
             (λ e. RefusesFunction s e) }
@@ -334,12 +332,10 @@ impl<T: Typing> Validator<T> {
         info: &FunctionInfo,
         overrides_resolved: bool,
     ) -> Result<ShaderStages, FunctionError>
-        requires { let s = function_surroundings (T.resolves self.now.typing)
-            (math_typing (T.accepts_types self.now.typing) (T.least_arguments self.now.typing))
+        requires { let s = validator_surroundings T.resolves T.accepts_types T.least_arguments
             self.now overrides_resolved «module».now function.now mod_info.now.lists in
             CanCheckRules s info.now.types }
-        ensures { let s = function_surroundings (T.resolves self.now.typing)
-            (math_typing (T.accepts_types self.now.typing) (T.least_arguments self.now.typing))
+        ensures { let s = validator_surroundings T.resolves T.accepts_types T.least_arguments
             self.now overrides_resolved «module».now function.now mod_info.now.lists in
             UnlessOutOfMemory (λ e. e ≡ FunctionError.OutOfMemory) result
             (λ common. AllowInCommon s info.now.types common)
@@ -396,8 +392,7 @@ impl<T: Typing> Validator<T> {
     ) -> Result<(), FunctionsError>
         requires { Accepts (T.resolves self.now.typing) «module».now (settings_of self.now overrides_resolved)
             self.now.infos mod_info.old.lists }
-        ensures { let by = function_surroundings (T.resolves self.now.typing)
-            (math_typing (T.accepts_types self.now.typing) (T.least_arguments self.now.typing))
+        ensures { let by = validator_surroundings T.resolves T.accepts_types T.least_arguments
             self.now overrides_resolved «module».now in
             ValidatesFunctions by «module».now mod_info.old.lists mod_info.new.lists result }
     {
@@ -421,8 +416,7 @@ impl<T: Typing> Validator<T> {
         requires flags { length «module».now.types ≤ length mod_info.old.lists.type_flags }
         requires functions { mod_info.old.lists.functions ≡ [] }
         requires entry_points { mod_info.old.lists.entry_points ≡ [] }
-        ensures { let by = function_surroundings (T.resolves self.now.typing)
-            (math_typing (T.accepts_types self.now.typing) (T.least_arguments self.now.typing))
+        ensures { let by = validator_surroundings T.resolves T.accepts_types T.least_arguments
             self.now overrides_resolved «module».now in
             AddsInfos by «module».now (HaveFunctionInfos «module».now) mod_info.old.lists mod_info.new.lists result }
     {
@@ -447,12 +441,10 @@ impl<T: Typing> Validator<T> {
         requires handles { HandlesAccepted «module».now }
         requires flags { length «module».now.types ≤ length mod_info.old.lists.type_flags }
         requires functions { HaveFunctionInfos «module».now mod_info.old.lists }
-        requires in_order { let by = function_surroundings (T.resolves self.now.typing)
-            (math_typing (T.accepts_types self.now.typing) (T.least_arguments self.now.typing))
+        requires in_order { let by = validator_surroundings T.resolves T.accepts_types T.least_arguments
             self.now overrides_resolved «module».now in
             AreInfosInOrder by «module».now mod_info.old.lists }
-        ensures { let by = function_surroundings (T.resolves self.now.typing)
-            (math_typing (T.accepts_types self.now.typing) (T.least_arguments self.now.typing))
+        ensures { let by = validator_surroundings T.resolves T.accepts_types T.least_arguments
             self.now overrides_resolved «module».now in
             ValidatesFunctions by «module».now mod_info.old.lists mod_info.new.lists result }
     {
@@ -482,13 +474,11 @@ impl<T: Typing> Validator<T> {
         requires handles { HandlesAccepted «module».now }
         requires flags { length «module».now.types ≤ length mod_info.old.lists.type_flags }
         requires next { IsNext «module».now mod_info.old.lists at }
-        ensures added { let by = function_surroundings (T.resolves self.now.typing)
-            (math_typing (T.accepts_types self.now.typing) (T.least_arguments self.now.typing))
+        ensures added { let by = validator_surroundings T.resolves T.accepts_types T.least_arguments
             self.now overrides_resolved «module».now in
             OnOk result (IsInfoAdded by «module».now at mod_info.old.lists mod_info.new.lists) }
         ensures same { OnErr result (mod_info.new.lists ≡ mod_info.old.lists) }
-        ensures refused { let by = function_surroundings (T.resolves self.now.typing)
-            (math_typing (T.accepts_types self.now.typing) (T.least_arguments self.now.typing))
+        ensures refused { let by = validator_surroundings T.resolves T.accepts_types T.least_arguments
             self.now overrides_resolved «module».now in
             IfErr result (IsNextRefused by «module».now mod_info.old.lists) }
     {

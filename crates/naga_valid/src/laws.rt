@@ -30,7 +30,7 @@ ghost use Rattle.naga_types.specs.declared.info.TypeInfo.{TypeInfo};
 ghost use Rattle.naga_types.specs.TypeRule.{type_rule_with};
 ghost use Rattle.naga_typing.specs.Leaves.{AreSeparate, EndsInArray, HasNoShortStride, inner_at, size_at_index};
 ghost use Rattle.naga_valid.specs.Accepted.{Accepts, AcceptsBy, AreValidTypes};
-ghost use Rattle.naga_valid.specs.Functions.{AreFunctionsReadyInOrder, function_surroundings};
+ghost use Rattle.naga_valid.specs.Functions.{AreFunctionsReadyInOrder, validator_surroundings};
 ghost use Rattle.naga_valid.specs.MoreCapabilities.{AcceptsFunctionsToo, HasMoreCapabilities};
 ghost use Rattle.naga_valid.specs.State.{settings_of, stages_with};
 
@@ -297,11 +297,6 @@ pub fn more_capabilities_functions<T: Typing>(
 )
     requires capabilities { HasMoreCapabilities validator.now more.now }
     requires stages { IsTrue (has more.now.subgroup_stages.0 validator.now.subgroup_stages.0) }
-    ensures { let by = function_surroundings (T.resolves validator.now.typing)
-        (math_typing (T.accepts_types validator.now.typing) (T.least_arguments validator.now.typing))
-        validator.now resolved «module».now in
-        let by_more = function_surroundings (T.resolves more.now.typing)
-        (math_typing (T.accepts_types more.now.typing) (T.least_arguments more.now.typing))
-        more.now resolved «module».now in
-        AcceptsFunctionsToo by by_more «module».now }
+    ensures { let by = validator_surroundings T.resolves T.accepts_types T.least_arguments in
+        AcceptsFunctionsToo (by validator.now resolved «module».now) (by more.now resolved «module».now) «module».now }
 {}

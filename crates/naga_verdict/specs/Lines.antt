@@ -14,7 +14,8 @@ use Rattle.naga_verdict.specs.declared.verdict.Verdict.TheVariants as verdict
 
 -- what an item is called: its kind, its label if it has one, and its letter and index
 abbrev pub called : Item → Option (String Global) → List ℕ
-called item (Some label) = kind_of item ++ (codes " " ++ (string_bytes label ++ (codes " (" ++ (short_text item ++ codes ")"))))
+called item (Some label) =
+    kind_of item ++ (codes " " ++ (string_bytes label ++ (codes " (" ++ (short_text item ++ codes ")"))))
 called item None = kind_of item ++ (codes " " ++ short_text item)
 
 -- what stands before an item that belongs to a function or an entry point, by the label of the latter
@@ -43,7 +44,10 @@ at_text None = []
 
 -- the line of an item that an error names
 abbrev pub name_text : Named → List ℕ
-name_text named = codes "    [" ++ (decimal (index_of named.item) ++ (codes "] is " ++ (called named.item named.label ++ (at_text named.line ++ codes "\n"))))
+name_text named =
+    codes "    ["
+    ++ (decimal (index_of named.item) ++ (codes "] is "
+    ++ (called named.item named.label ++ (at_text named.line ++ codes "\n"))))
 
 -- the lines of the items that an error names
 abbrev pub names_text : List Named → List ℕ
@@ -62,21 +66,29 @@ wrong_text refusal None = stage_name refusal.stage
 
 -- the error of a refusal: its name, what it holds, and then its words on a line of their own
 abbrev pub error_text : Refusal → List ℕ
-error_text refusal = codes ": " ++ (string_bytes refusal.error ++ (string_bytes refusal.fields ++ (codes "\n    " ++ (string_bytes refusal.text ++ codes "\n"))))
+error_text refusal =
+    codes ": "
+    ++ (string_bytes refusal.error
+    ++ (string_bytes refusal.fields ++ (codes "\n    " ++ (string_bytes refusal.text ++ codes "\n"))))
 
 -- the lines on a refused module of the file `file`, and of this case
 abbrev pub refused_text : List ℕ → Option (List ℕ) → Refusal → List ℕ
 refused_text file case refusal =
-    file ++ (line_text (wrong_line refusal.at) ++ (codes ": " ++ (case_text case ++ (wrong_text refusal refusal.at ++ (error_text refusal ++ names_text refusal.names.items)))))
+    file ++ (line_text (wrong_line refusal.at)
+    ++ (codes ": "
+    ++ (case_text case
+    ++ (wrong_text refusal refusal.at ++ (error_text refusal ++ names_text refusal.names.items)))))
 
 -- the file, the line and the column that can't be read
 abbrev pub position_text : List ℕ → Unreadable → List ℕ
-position_text file unreadable = file ++ (codes ":" ++ (decimal unreadable.line ++ (codes ":" ++ (decimal unreadable.why.column ++ codes ": "))))
+position_text file unreadable =
+    file ++ (codes ":" ++ (decimal unreadable.line ++ (codes ":" ++ (decimal unreadable.why.column ++ codes ": "))))
 
 -- the line on a file that can't be read
 abbrev pub unreadable_text : List ℕ → Option (List ℕ) → Unreadable → List ℕ
 unreadable_text file case unreadable =
-    position_text file unreadable ++ (case_text case ++ (codes "not readable: " ++ (reason_text unreadable.why.reason ++ codes "\n")))
+    position_text file unreadable
+    ++ (case_text case ++ (codes "not readable: " ++ (reason_text unreadable.why.reason ++ codes "\n")))
 
 -- the lines on a file or a case with this verdict
 abbrev pub verdict_text : List ℕ → Option (List ℕ) → Verdict → List ℕ

@@ -36,7 +36,8 @@ item_text item = owner_text (owner_of item) ++ short_text item
 -- the item, its label and its line, each `null` if it is not known
 abbrev pub named_fields : Option Named → List ℕ
 named_fields (Some named) =
-    codes "\"item\":\"" ++ (item_text named.item ++ (codes "\",\"label\":" ++ (optional_string (bytes_of named.label) ++ (codes ",\"line\":" ++ optional_number named.line))))
+    codes "\"item\":\"" ++ (item_text named.item ++ (codes "\",\"label\":"
+    ++ (optional_string (bytes_of named.label) ++ (codes ",\"line\":" ++ optional_number named.line))))
 named_fields None = codes "\"item\":null,\"label\":null,\"line\":null"
 
 -- the items of a list, behind the first
@@ -52,7 +53,8 @@ names_array (named ∷ rest) = codes "[{" ++ (named_fields (Some named) ++ (code
 -- the status, the stage and the item of a refused module
 abbrev pub wrong_fields : Refusal → List ℕ
 wrong_fields refusal =
-    codes ",\"status\":\"refused\",\"stage\":" ++ (quoted (stage_name refusal.stage) ++ (codes "," ++ named_fields refusal.at))
+    codes ",\"status\":\"refused\",\"stage\":"
+    ++ (quoted (stage_name refusal.stage) ++ (codes "," ++ named_fields refusal.at))
 
 -- the error of a refused module; `fields` is what it holds, as JSON
 abbrev pub error_fields : List ℕ → Refusal → List ℕ
@@ -61,7 +63,9 @@ error_fields fields refusal =
 
 -- the items that the error of a refused module names, and the error in words
 abbrev pub text_fields : Refusal → List ℕ
-text_fields refusal = codes ",\"names\":" ++ (names_array refusal.names.items ++ (codes ",\"text\":" ++ quoted (string_bytes refusal.text)))
+text_fields refusal =
+    codes ",\"names\":"
+    ++ (names_array refusal.names.items ++ (codes ",\"text\":" ++ quoted (string_bytes refusal.text)))
 
 -- the fields of a refused module; `fields` is what its error holds, as JSON
 abbrev pub refused_fields : List ℕ → Refusal → List ℕ
@@ -70,7 +74,8 @@ refused_fields fields refusal = wrong_fields refusal ++ (error_fields fields ref
 -- the status and the place of a file that can't be read
 abbrev pub position_fields : Unreadable → List ℕ
 position_fields unreadable =
-    codes ",\"status\":\"unreadable\",\"stage\":null,\"item\":null,\"label\":null,\"line\":" ++ (decimal unreadable.line ++ (codes ",\"column\":" ++ decimal unreadable.why.column))
+    codes ",\"status\":\"unreadable\",\"stage\":null,\"item\":null,\"label\":null,\"line\":"
+    ++ (decimal unreadable.line ++ (codes ",\"column\":" ++ decimal unreadable.why.column))
 
 -- the name of a reason
 abbrev pub name_field : List ℕ → List ℕ
@@ -82,12 +87,16 @@ words_field text = codes ",\"fields\":null,\"names\":[],\"text\":" ++ quoted tex
 
 -- the fields of a file that can't be read
 abbrev pub unreadable_fields : Unreadable → List ℕ
-unreadable_fields unreadable = position_fields unreadable ++ (name_field (reason_name unreadable.why.reason) ++ words_field (reason_text unreadable.why.reason))
+unreadable_fields unreadable =
+    position_fields unreadable
+    ++ (name_field (reason_name unreadable.why.reason) ++ words_field (reason_text unreadable.why.reason))
 
 -- the fields of a module or a file of which no item and no line is named
 abbrev pub plain_fields : List ℕ → Option (List ℕ) → List ℕ
 plain_fields status text =
-    codes ",\"status\":" ++ (quoted status ++ (codes ",\"stage\":null,\"item\":null,\"label\":null,\"line\":null,\"column\":null,\"error\":null,\"fields\":null,\"names\":[],\"text\":" ++ optional_string text))
+    codes ",\"status\":"
+    ++ (quoted status
+    ++ (codes ",\"stage\":null,\"item\":null,\"label\":null,\"line\":null,\"column\":null,\"error\":null,\"fields\":null,\"names\":[],\"text\":" ++ optional_string text))
 
 -- `text` is the fields that say what is found of a module. Of what the error of a refused module holds, nothing is said
 abbrev pub AreFields : Verdict → List ℕ → Type 0
@@ -99,4 +108,7 @@ AreFields (verdict.Failed why) text = text ≡ plain_fields (codes "failed") (So
 -- `text` is the line of JSON that says what is found of a module
 abbrev pub IsObject : Finding → List ℕ → Type 0
 IsObject finding text = (fields : List ℕ) × AreFields finding.verdict fields
-    × (text ≡ codes "{\"file\":" ++ (quoted finding.file.now ++ (codes ",\"case\":" ++ (optional_string (option_map (λ title. title.now) finding.case) ++ (fields ++ codes "}\n")))))
+    × (text ≡ codes "{\"file\":"
+    ++ (quoted finding.file.now
+    ++ (codes ",\"case\":"
+    ++ (optional_string (option_map (λ title. title.now) finding.case) ++ (fields ++ codes "}\n")))))

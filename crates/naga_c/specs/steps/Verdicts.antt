@@ -9,15 +9,8 @@ use Rattle.naga_c.specs.declared.status.Status.TheVariants as status
 
 -- the status of a module that is not accepted
 abbrev pub refused_status : ValidationError → Status
-refused_status (InvalidHandle e) = status.Refused
-refused_status (Layouter e) = status.Refused
-refused_status (Type_ handle name source) = status.Refused
-refused_status (ConstExpression handle source) = status.Refused
-refused_status (ArraySizeError handle) = status.Refused
-refused_status (Constant handle name source) = status.Refused
-refused_status (Override handle name source) = status.Refused
-refused_status Corrupted = status.Refused
 refused_status OutOfMemory = status.OutOfMemory
+refused_status _ = status.Refused
 
 -- what is written of a module that is not accepted
 abbrev pub refused_outcome : Module → ValidationError → Outcome

@@ -22,7 +22,9 @@ fault_of (Some s) r = forward s r
 
 -- `result` is `Ok` if the reference `r` precedes its subject, or exists if it has none, and else the error
 abbrev pub IsCheckResult : Counts → Subjects → Reference → Result (Unit {0}) InvalidHandleError → Type 0
-IsCheckResult n subjects r result = MatchResult result (λ _. Precedes n (subjects r) r) (λ e. (Precedes n (subjects r) r → ⊥) × (e ≡ fault_of (subjects r) r))
+IsCheckResult n subjects r result =
+    MatchResult result (λ _. Precedes n (subjects r) r)
+    (λ e. (Precedes n (subjects r) r → ⊥) × (e ≡ fault_of (subjects r) r))
 
 -- the subjects of an expression, whose operands precede it
 abbrev pub of_expression : ℕ → Subjects

@@ -40,7 +40,8 @@ IsResult l result = IsCheckResult l.there (λ r. l.subject) l.target result
 
 -- `result` is the result of checking that the operand of index `o` precedes the expression of index `e`
 abbrev pub IsOperandResult : ℕ → ℕ → Result (Unit {0}) InvalidHandleError → Type 0
-IsOperandResult e o result = MatchResult result (λ _. o < e) (λ error. (o < e → ⊥) × (error ≡ forward (to.Expression e) (to.Expression o)))
+IsOperandResult e o result =
+    MatchResult result (λ _. o < e) (λ error. (o < e → ⊥) × (error ≡ forward (to.Expression e) (to.Expression o)))
 
 -- the checks of references with these subjects
 abbrev pub checks : Counts → Subjects → List Reference → List Check
@@ -52,7 +53,9 @@ checks_in scope references = checks scope.counts (of_function scope.caller) refe
 
 -- the checks of an expression of a function
 abbrev pub expression_checks : Counts → Option ℕ → ℕ × Expression → List Check
-expression_checks n caller at = checks n (of_expression at.0) (map to.Expression (operands at.1)) ++ checks n (of_function caller) (named_references at.1)
+expression_checks n caller at =
+    checks n (of_expression at.0) (map to.Expression (operands at.1))
+    ++ checks n (of_function caller) (named_references at.1)
 
 -- the checks of a function, by its index if it is one of the module's
 abbrev pub function_checks : Counts → Option ℕ → Function → List Check
@@ -64,7 +67,9 @@ function_checks n caller f =
 
 -- the checks of an entry point
 abbrev pub entry_point_checks : Module → EntryPoint → List Check
-entry_point_checks m p = function_checks (function_counts m p.function) None p.function ++ checks (module_counts m) (of_function None) (entry_point_references p)
+entry_point_checks m p =
+    function_checks (function_counts m p.function) None p.function
+    ++ checks (module_counts m) (of_function None) (entry_point_references p)
 
 -- the checks of a function of the module, with its index
 abbrev pub numbered_checks : Module → ℕ × Function → List Check
@@ -83,13 +88,15 @@ valued_references m =
 
 -- the checks of the entry points and functions
 abbrev pub code_checks : Module → List Check
-code_checks m = flat_map (entry_point_checks m) m.entry_points ++ flat_map (numbered_checks m) (enumerate_from 0 m.functions)
+code_checks m =
+    flat_map (entry_point_checks m) m.entry_points ++ flat_map (numbered_checks m) (enumerate_from 0 m.functions)
 
 -- the checks of the filters
 abbrev pub all_filter_checks : Module → List Check
 all_filter_checks m =
     flat_map (filter_checks (module_counts m)) (enumerate_from 0 m.diagnostic_filters)
-    ++ checks (module_counts m) (of_function None) (map to.DiagnosticFilterNode (option_to_list m.diagnostic_filter_leaf))
+    ++ checks (module_counts m) (of_function None)
+    (map to.DiagnosticFilterNode (option_to_list m.diagnostic_filter_leaf))
 
 -- the items that comments document by a handle, the types of members aside
 abbrev pub documented_references : DocComments → List Reference
@@ -113,18 +120,22 @@ module_checks m =
 -- `result` is the result of checking that `place` is the index of an entry point
 abbrev pub IsEntryPointResult : Module → ℕ → Result (Unit {0}) InvalidHandleError → Type 0
 IsEntryPointResult m place result =
-    MatchResult result (λ _. place < length m.entry_points) (λ e. (place < length m.entry_points → ⊥) × (e ≡ BadHandle (record { kind = codes "EntryPoint"; index = place })))
+    MatchResult result (λ _. place < length m.entry_points)
+    (λ e. (place < length m.entry_points → ⊥)
+    × (e ≡ BadHandle (record { kind = codes "EntryPoint"; index = place })))
 
 -- the type `x` is a struct with a member of index `index`
 abbrev pub HasMember : «Type» → ℕ → Type 0
-HasMember x index = (members : List StructMember) × (span : ℕ) × (x.inner ≡ Struct members span) × (index < length members)
+HasMember x index =
+    (members : List StructMember) × (span : ℕ) × (x.inner ≡ Struct members span) × (index < length members)
 
 -- the fault of a comment on a missing member: its type is dangling, or the type has no such member, or
 -- memory was refused for its name
 abbrev pub NoMember : Module → ℕ × ℕ → ValidationFault → Type 0
 NoMember m place fault =
     ((length m.types ≤ place.0) × (fault ≡ Invalid (missing (to.Type_ place.0))))
-    ⊎ ((x : «Type») × (slice_get m.types place.0 ≡ Some x) × (MemberExists m.types place → ⊥) × ((fault ≡ OutOfMemory) ⊎ (fault ≡ MissingMember place.0 (display_name x))))
+    ⊎ ((x : «Type») × (slice_get m.types place.0 ≡ Some x) × (MemberExists m.types place → ⊥)
+    × ((fault ≡ OutOfMemory) ⊎ (fault ≡ MissingMember place.0 (display_name x))))
 
 -- `result` is the result of checking that the type of index `place.0` has a member of index `place.1`
 abbrev pub IsMemberResult : Module → ℕ × ℕ → Result (Unit {0}) ValidationFault → Type 0

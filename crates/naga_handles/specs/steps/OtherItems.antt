@@ -22,9 +22,12 @@ pub record OtherItemsOk (m : Module) : Type 0 where
   pub in_functions : All (λ f. All (Exists (function_counts m f)) (function_references f)) (all_functions m)
   pub documented_members : All (λ c. MemberExists m.types c.0) m.doc_comments.struct_members
   pub documented_entry_points : All (λ c. c.0 < length m.entry_points) m.doc_comments.entry_points
-  pub operands_back : (f : Function) (s t : Reference) → Contains (all_functions m) f → OrderedOperands f.expressions s t → place_of t < place_of s
-  pub calls_back : (i j : ℕ) (f : Function) → slice_get m.functions i ≡ Some f → Contains (function_references f) (to.Function j) → j < i
-  pub filters_back : (i j : ℕ) (n : DiagnosticFilterNode) → slice_get m.diagnostic_filters i ≡ Some n → n.parent ≡ Some j → j < i
+  pub operands_back : (f : Function) (s t : Reference) → Contains (all_functions m) f
+      → OrderedOperands f.expressions s t → place_of t < place_of s
+  pub calls_back : (i j : ℕ) (f : Function) → slice_get m.functions i ≡ Some f
+      → Contains (function_references f) (to.Function j) → j < i
+  pub filters_back : (i j : ℕ) (n : DiagnosticFilterNode) → slice_get m.diagnostic_filters i ≡ Some n
+      → n.parent ≡ Some j → j < i
 
 -- why a module is refused: for a fault, or because memory was refused that may be requested
 abbrev pub IsHandleRefusal : Module → ValidationFault → Type 0

@@ -79,7 +79,8 @@ ExpressionsOk m c = (e : ℕ) (x : Expression) → e < c → slice_get m.global_
 
 -- the expressions that the size of t needs name only types before t
 unfoldable pub SizeResolvesFirst : Module → ℕ → Type 0
-SizeResolvesFirst m t = (n e u : ℕ) → size_initialiser (global_lists m) t ≡ Some n → e ≤ n → NamesType (global_lists m) e u → u < t
+SizeResolvesFirst m t =
+    (n e u : ℕ) → size_initialiser (global_lists m) t ≡ Some n → e ≤ n → NamesType (global_lists m) e u → u < t
 
 -- the expressions were visited, and the types before t
 pub record Visited (m : Module) (t : ℕ) (w : Walker) : Type 0 where
@@ -103,7 +104,9 @@ pub record Placed (g : GlobalLists) (order : List Item) (t c : ℕ) : Type 0 whe
 -- if the order was right as far as the expressions before `from`, and those up to `to` precede the next type, then it
 -- is right as far as those before `to`
 abbrev pub PlacesUpTo : List Item → List Item → ℕ → ℕ → Type 0
-PlacesUpTo old new from to = (g : GlobalLists) (t : ℕ) → Placed g old t from → ((e : ℕ) → from ≤ e → e < to → first_waiting g e ≡ t) → Placed g new t to
+PlacesUpTo old new from to =
+    (g : GlobalLists) (t : ℕ) → Placed g old t from → ((e : ℕ) → from ≤ e → e < to → first_waiting g e ≡ t)
+    → Placed g new t to
 
 -- `fault` is that memory was refused, or a fault of a type or global expression
 abbrev pub IsNoOrder : Module → ValidationFault → Type 0

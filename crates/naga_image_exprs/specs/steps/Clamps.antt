@@ -12,4 +12,5 @@ use Rattle.naga_types.specs.Checks.{ok_unless}
 abbrev pub IsClampResult : ImageType → Sample → Result (Unit {0}) ExpressionError → Type 0
 IsClampResult image sample result =
     ((text : String Global) × (result ≡ ok_unless (clamp_error text image sample) tt))
-    ⊎ ((result ≡ Err OutOfMemory) × ((text : String Global) → clamp_error text image sample ≡ Some (InvalidSampleClampCoordinateToEdge text)))
+    ⊎ ((result ≡ Err OutOfMemory)
+    × ((text : String Global) → clamp_error text image sample ≡ Some (InvalidSampleClampCoordinateToEdge text)))

@@ -37,4 +37,6 @@ pub record AddsSlotsOf (g : GlobalLists) (t at : ℕ) (old new : ImmediateSlots)
 
 -- a walk has found all slots of the types that it has noted
 abbrev pub KnowsNoted : GlobalLists → SlotWalk → Type 0
-KnowsNoted g walk = (byte t k : ℕ) → slice_get walk.noted (place_of t byte) ≡ Some (Some t) → k < slot_count → TypeUses g t byte k → HasSlot walk.slots k
+KnowsNoted g walk =
+    (byte t k : ℕ) → slice_get walk.noted (place_of t byte) ≡ Some (Some t) → k < slot_count → TypeUses g t byte k
+    → HasSlot walk.slots k

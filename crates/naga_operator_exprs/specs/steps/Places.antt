@@ -17,4 +17,5 @@ OwnForbidden s forbidden x = (n : ℤ) × IsOwnInteger s x n × (is_forbidden fo
 
 -- no forbidden number is in the first `i` of `components`, the components of the expression at `p`
 abbrev pub NoneBefore : Scope → Forbidden → Place → List ℕ → ℕ → Type 0
-NoneBefore s forbidden p components i = (k c : ℕ) → k < i → slice_get components k ≡ Some c → ContainsForbidden s forbidden (operand_place p c) → ⊥
+NoneBefore s forbidden p components i =
+    (k c : ℕ) → k < i → slice_get components k ≡ Some c → ContainsForbidden s forbidden (operand_place p c) → ⊥

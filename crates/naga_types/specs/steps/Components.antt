@@ -19,14 +19,16 @@ resolutions_of (At places resolutions) = resolutions_at places.now resolutions.n
 -- components exist, and so do the types in them
 abbrev pub ComponentsExist : List «Type» → Components → Type 0
 ComponentsExist types (Given resolutions) = All (TypesExist types) resolutions.now
-ComponentsExist types (At places resolutions) = All (λ e. e < length resolutions.now) places.now × All (TypesExist types) resolutions.now
+ComponentsExist types (At places resolutions) =
+    All (λ e. e < length resolutions.now) places.now × All (TypesExist types) resolutions.now
 
 -- whether a component is what is wanted at its place
 abbrev pub fits : List «Type» → Wanted → ℕ × TypeResolution → Boolean
 fits types (wanted.PartOf scalar) = λ at. is_part_of scalar (inner_in types at.1)
 fits types (wanted.Column rows scalar) = λ at. is_vector_of rows scalar (inner_in types at.1)
 fits types (wanted.Element base) = λ at. is_of types base at.1
-fits types (wanted.Members members) = λ at. option_map_or (λ (m : StructMember). is_of types m.ty at.1) (slice_get members.now at.0) false
+fits types (wanted.Members members) =
+    λ at. option_map_or (λ (m : StructMember). is_of types m.ty at.1) (slice_get members.now at.0) false
 
 -- the types that are wanted exist
 abbrev pub WantedExists : List «Type» → Wanted → Type 0

@@ -36,15 +36,19 @@ alignment_in space info = result_unwrap_or (layout_in space info) 1
 -- what the layouts of all members of a struct in `space` come to: the first failure, or else their greatest alignment
 abbrev pub checked_layouts : SharedSpace → StructType → Layout
 checked_layouts space x =
-    first_error_or (member_layout_errors (surroundings_of x) (layout_in space) x.handle x.members.now) (greatest_alignment (surroundings_of x) (layout_in space) x.members.now)
+    first_error_or (member_layout_errors (surroundings_of x) (layout_in space) x.handle x.members.now)
+    (greatest_alignment (surroundings_of x) (layout_in space) x.members.now)
 
 -- the first members of a struct fail nowhere in `space`: what fails first is among the members from `n` on, and `a` is
 -- the greatest alignment of those before
 pub record AreLaidOut (space : SharedSpace) (x : StructType) (n a : ℕ) : Type 0 where
   pub within : n ≤ length x.members.now
-  pub left : first (map (member_layout_error (surroundings_of x) (layout_in space) x.handle) (enumerate_from n (drop n x.members.now)))
+  pub left : first
+      (map (member_layout_error (surroundings_of x) (layout_in space) x.handle)
+      (enumerate_from n (drop n x.members.now)))
       ≡ first (member_layout_errors (surroundings_of x) (layout_in space) x.handle x.members.now)
-  pub so_far : a ≡ greatest (map (λ (m : StructMember). alignment_in space (info_at (surroundings_of x) m.ty)) (take n x.members.now))
+  pub so_far : a ≡ greatest
+      (map (λ (m : StructMember). alignment_in space (info_at (surroundings_of x) m.ty)) (take n x.members.now))
 
 -- the sources of blending among members
 abbrev pub sources_of : List StructMember → Sources

@@ -2,25 +2,13 @@
 use Rattle.std.specs.Prelude.{ℕ, List, Contains, length, ◌<◌, ⊤}
 use Rattle.naga_ir.specs.Parts.{parts}
 use Rattle.naga_ir.specs.declared.types.TypeInner.{TypeInner}
-use Rattle.naga_ir.specs.declared.types.TypeInner.TheVariants.{Scalar, Vector, Matrix, CooperativeMatrix, Atomic, Pointer, ValuePointer, Array, Struct, Image, Sampler, AccelerationStructure, RayQuery, BindingArray}
+use Rattle.naga_ir.specs.declared.types.TypeInner.TheVariants.{Array}
 use Rattle.naga_typing.specs.declared.layouter.TypeLayout.{TypeLayout}
 
 -- `inner` is not an array
 abbrev pub IsNotArray : TypeInner → Type 0
 IsNotArray (Array base size stride) = ⊥
-IsNotArray (Scalar scalar) = ⊤
-IsNotArray (Vector size scalar) = ⊤
-IsNotArray (Matrix columns rows scalar) = ⊤
-IsNotArray (CooperativeMatrix columns rows scalar role) = ⊤
-IsNotArray (Atomic scalar) = ⊤
-IsNotArray (Pointer base space) = ⊤
-IsNotArray (ValuePointer size scalar space) = ⊤
-IsNotArray (Struct members span) = ⊤
-IsNotArray (Image dim arrayed class) = ⊤
-IsNotArray (Sampler comparison) = ⊤
-IsNotArray (AccelerationStructure vertex_return) = ⊤
-IsNotArray (RayQuery vertex_return) = ⊤
-IsNotArray (BindingArray base size) = ⊤
+IsNotArray _ = ⊤
 
 -- the types that `inner` names are among the types laid out so far
 abbrev pub PartsLaidOut : List TypeLayout → TypeInner → Type 0

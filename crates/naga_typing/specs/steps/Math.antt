@@ -50,4 +50,8 @@ concluded conclusion.U32 = λ first. Some (Scalar u32_scalar)
 
 -- what a row means
 abbrev pub meaning : Signature → spec.Signature
-meaning s = record { first = takes_first s.first; further = map takes_further s.further.now; result = concluded s.conclusion }
+meaning s = record {
+  first = takes_first s.first;
+  further = map takes_further s.further.now;
+  result = concluded s.conclusion;
+}

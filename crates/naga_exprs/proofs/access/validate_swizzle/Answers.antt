@@ -1,4 +1,4 @@
-use Rattle.std.proofs.Common.{◌≡◌, ◌∙◌, ℕ, Option, Some, None, Ok, Err, option_map, take, ap, refl, sym}
+use Rattle.std.proofs.Common.{◌≡◌, ◌∙◌, ℕ, Option, Some, None, Ok, option_map, take, ap, sym}
 use Rattle.naga_exprs.proofs.access.validate_swizzle.Goals as goal
 use Rattle.naga_exprs.specs.Vectors.{swizzle_error, first_lacking, vector_size}
 use Rattle.naga_ir.specs.Sizes.{components}

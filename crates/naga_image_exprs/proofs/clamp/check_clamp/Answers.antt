@@ -1,10 +1,9 @@
-use Rattle.std.proofs.Common.{◌≡◌, ◌∙◌, ap, false, inl, rules, sym, true}
+use Rattle.std.proofs.Common.{◌≡◌, ap, false, inl, rules, sym, true}
 use Rattle.naga_image_exprs.proofs.ClampConditions.{allowed, refused, unasked}
 use Rattle.naga_image_exprs.proofs.Texts.{empty_text}
 use Rattle.naga_image_exprs.proofs.clamp.check_clamp.Goals as goal
 use Rattle.naga_image_exprs.specs.Samples.{can_clamp}
 use Rattle.naga_info.specs.declared.expression_error.ExpressionError.TheVariants.{InvalidSampleClampCoordinateToEdge}
-use Rattle.std.specs.Prelude.{Err}
 use Rattle.naga_types.specs.Checks.{ok_unless}
 
 pub returns-then-not-sample : goal.returns-then-not-sample

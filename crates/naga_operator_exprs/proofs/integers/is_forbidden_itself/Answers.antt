@@ -1,5 +1,5 @@
-use Rattle.std.proofs.Common.{◌≡◌, ◌<◌, IfSome, ℕ, length, ℤ, pos, true, Option, None, Some, ap, refl, sym, subst, ◌∙◌}
-use Rattle.naga_ir.specs.References.{named_type}
+use Rattle.std.proofs.Common.{◌≡◌, ◌<◌, IfSome, ℕ, length, ℤ, pos, true, Option, None, Some, refl, sym, subst, ◌∙◌}
+use Rattle.naga_ir.proofs.Origins.{literal_by_origin, zero_by_origin, zero_names}
 use Rattle.naga_ir.specs.declared.expression.Expression.TheVariants as form
 use Rattle.naga_ir.specs.declared.expression.Literal.{Literal}
 use Rattle.naga_info.specs.Surroundings.{surroundings}
@@ -17,18 +17,14 @@ of_literal s forbidden value (Some n) is h = (n, literal_value value n is, h)
 pub returns-in-Literal-clause-yes : goal.returns-in-Literal-clause-yes
 returns-in-Literal-clause-yes c =
     let s = scope_of (surroundings c.args.context) in
-    λ h. subst (OwnForbidden s c.args.forbidden) (sym c.in-Literal.is) (of_literal s c.args.forbidden c.in-Literal.literal (integer_of c.in-Literal.literal) refl (sym c.is_forbidden_literal.ensures ∙ h))
+    λ h. subst (OwnForbidden s c.args.forbidden) (sym (literal_by_origin _ c.in-Literal.literal (sym c.origin.ensures ∙ c.in-Literal.is))) (of_literal s c.args.forbidden c.in-Literal.literal (integer_of c.in-Literal.literal) refl (sym c.is_forbidden_literal.ensures ∙ h))
 
 pub returns-then-is_forbidden-clause-yes : goal.returns-then-is_forbidden-clause-yes
 returns-then-is_forbidden-clause-yes c =
     let s = scope_of (surroundings c.args.context) in
-    λ h. subst (OwnForbidden s c.args.forbidden) (sym c.in-ZeroValue.is) (pos 0, zero_value c.in-ZeroValue.ty (sym c.is_integer_zero.ensures ∙ h), sym c.is_forbidden.ensures ∙ c.if-is_forbidden.true)
-
-named_by_zero : (ty : ℕ) → named_type (form.ZeroValue ty) ≡ Some ty
-unfolding named_type
-named_by_zero ty = refl
+    λ h. subst (OwnForbidden s c.args.forbidden) (sym (zero_by_origin _ c.in-ZeroValue.ty (sym c.origin.ensures ∙ c.in-ZeroValue.is))) (pos 0, zero_value c.in-ZeroValue.ty (sym c.is_integer_zero.ensures ∙ h), sym c.is_forbidden.ensures ∙ c.if-is_forbidden.true)
 
 pub is_integer_zero-requires : goal.is_integer_zero-requires
 is_integer_zero-requires c =
     let bound = length c.args.context.«module».now.types in
-    subst (λ (t : Option ℕ). IfSome t (λ t. t < bound)) (ap named_type c.in-ZeroValue.is ∙ named_by_zero c.in-ZeroValue.ty) c.requires
+    subst (λ (t : Option ℕ). IfSome t (λ t. t < bound)) (zero_names _ c.in-ZeroValue.ty (sym c.origin.ensures ∙ c.in-ZeroValue.is)) c.requires

@@ -1,13 +1,13 @@
-use Rattle.std.proofs.Common.{◌≡◌, ◌∙◌, Bool, None, Option, Some, ⊎_elim, ap, inl, inr, string_bytes, subst, sym}
+use Rattle.std.proofs.Common.{◌≡◌, ◌∙◌, Bool, None, Option, Some, ⊎_elim, ap, inl, inr, string_bytes, subst}
 use Rattle.std.specs.Option.{UnwrapsOrElse, unwrap_or}
 use Rattle.naga_flags.specs.Bits.{all_validation_flags, default_capabilities}
 use Rattle.naga_flags.specs.declared.flags.Capabilities.{Capabilities}
 use Rattle.naga_flags.specs.declared.flags.ValidationFlags.{ValidationFlags}
 use Rattle.naga_arena.specs.Span.{inner_of}
-use Rattle.naga_report.specs.Report.{accepted_text, refused_text, settings_in}
+use Rattle.naga_report.specs.Report.{refused_text, settings_in}
 use Rattle.naga_typing.specs.PlainTyping.{plain_resolves}
 use Rattle.naga_typing.specs.declared.plain_typing.PlainTyping.{PlainTyping}
-use Rattle.naga_valid.specs.Accepted.{IsAccepted, Refuses}
+use Rattle.naga_valid.specs.Accepted.{Refuses}
 use Rattle.naga_valid.specs.State.{Settings, State, settings_of}
 use Rattle.naga_valid.specs.declared.error.ValidationError.TheVariants.{OutOfMemory}
 use Rattle.naga_report.proofs.report.report_contents.Goals as goal
