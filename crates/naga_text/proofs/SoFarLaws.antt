@@ -16,8 +16,9 @@ use Rattle.naga_ir.specs.declared.types.«Type».{«Type»}
 use Rattle.naga_ir.specs.declared.types.TypeInner.{TypeInner}
 use Rattle.naga_text.specs.Text.{AreConsistent, capabilities_in, comment_in, constant_in, expression_in, first_in, flags_in, module_of, override_in, resolved_in, type_in}
 use Rattle.naga_text.specs.steps.SoFar.{CanAdd, IsAdded, IsNewItem, IsNewType, IsSetOnce, ReadSoFar, so_far}
+use Rattle.naga_text.specs.declared.line.FixedLine.TheVariants.{Flags, Capabilities, Resolved, Constant, Override, Doc}
 use Rattle.naga_text.specs.declared.line.Line.{Line}
-use Rattle.naga_text.specs.declared.line.Line.TheVariants.{Flags, Capabilities, Resolved, Type_, Expression, Constant, Override, Doc}
+use Rattle.naga_text.specs.declared.line.Line.TheVariants.{Type_, Expression, Fixed}
 use Rattle.naga_text.specs.declared.text.ContentsSoFar.{ContentsSoFar}
 use Rattle.naga_ir.proofs.ListLaws.{distinct_once, distinct_push, pick_front, pick_more, pick_too_many, with_option}
 use Rattle.naga_text.proofs.ModuleLaws.{module_is}
@@ -122,31 +123,31 @@ set_cases P Q (before ∷ rest) value old new set h e first again =
     subst (λ b. MatchBool b P Q) (sym was.0) (again (omega arith))
 
 -- a line of flags adds them, or can't stand here
-pub flags_added : (old : ContentsSoFar) (flags : ValidationFlags) (new : Option ValidationFlags) (set : Bool) → IsSetOnce old.flags flags new set → IsAdded old (Flags flags) (record old { flags = new }) set
+pub flags_added : (old : ContentsSoFar) (flags : ValidationFlags) (new : Option ValidationFlags) (set : Bool) → IsSetOnce old.flags flags new set → IsAdded old (Fixed (Flags flags)) (record old { flags = new }) set
 flags_added old flags new set h said c e = set_cases _ _ (filter_map flags_in said) flags old.flags new set h (flags_said old said e)
     (λ few first. (
-      consistent_more said (Flags flags) few c.capabilities c.resolved c.types c.room_for_types c.room_for_expressions c.room_for_constants c.room_for_overrides,
-      so_far_more (record old { flags = new }) said (Flags flags) (module_said old said e) first (capabilities_said old said e) (resolved_said old said e),
+      consistent_more said (Fixed (Flags flags)) few c.capabilities c.resolved c.types c.room_for_types c.room_for_expressions c.room_for_constants c.room_for_overrides,
+      so_far_more (record old { flags = new }) said (Fixed (Flags flags)) (module_said old said e) first (capabilities_said old said e) (resolved_said old said e),
     ))
-    (λ full after whole. pick_too_many flags_in 1 said (Flags flags) after flags refl full whole.flags)
+    (λ full after whole. pick_too_many flags_in 1 said (Fixed (Flags flags)) after flags refl full whole.flags)
 
 -- a line of capabilities adds them, or can't stand here
-pub capabilities_added : (old : ContentsSoFar) (capabilities : CapabilitySet) (new : Option CapabilitySet) (set : Bool) → IsSetOnce old.capabilities capabilities new set → IsAdded old (Capabilities capabilities) (record old { capabilities = new }) set
+pub capabilities_added : (old : ContentsSoFar) (capabilities : CapabilitySet) (new : Option CapabilitySet) (set : Bool) → IsSetOnce old.capabilities capabilities new set → IsAdded old (Fixed (Capabilities capabilities)) (record old { capabilities = new }) set
 capabilities_added old capabilities new set h said c e = set_cases _ _ (filter_map capabilities_in said) capabilities old.capabilities new set h (capabilities_said old said e)
     (λ few first. (
-      consistent_more said (Capabilities capabilities) c.flags few c.resolved c.types c.room_for_types c.room_for_expressions c.room_for_constants c.room_for_overrides,
-      so_far_more (record old { capabilities = new }) said (Capabilities capabilities) (module_said old said e) (flags_said old said e) first (resolved_said old said e),
+      consistent_more said (Fixed (Capabilities capabilities)) c.flags few c.resolved c.types c.room_for_types c.room_for_expressions c.room_for_constants c.room_for_overrides,
+      so_far_more (record old { capabilities = new }) said (Fixed (Capabilities capabilities)) (module_said old said e) (flags_said old said e) first (resolved_said old said e),
     ))
-    (λ full after whole. pick_too_many capabilities_in 1 said (Capabilities capabilities) after capabilities refl full whole.capabilities)
+    (λ full after whole. pick_too_many capabilities_in 1 said (Fixed (Capabilities capabilities)) after capabilities refl full whole.capabilities)
 
 -- a line `resolved` adds that, or can't stand here
-pub resolved_added : (old : ContentsSoFar) (new : Option Bool) (set : Bool) → IsSetOnce old.resolved true new set → IsAdded old Resolved (record old { resolved = new }) set
+pub resolved_added : (old : ContentsSoFar) (new : Option Bool) (set : Bool) → IsSetOnce old.resolved true new set → IsAdded old (Fixed Resolved) (record old { resolved = new }) set
 resolved_added old new set h said c e = set_cases _ _ (filter_map resolved_in said) true old.resolved new set h (resolved_said old said e)
     (λ few first. (
-      consistent_more said Resolved c.flags c.capabilities few c.types c.room_for_types c.room_for_expressions c.room_for_constants c.room_for_overrides,
-      so_far_more (record old { resolved = new }) said Resolved (module_said old said e) (flags_said old said e) (capabilities_said old said e) first,
+      consistent_more said (Fixed Resolved) c.flags c.capabilities few c.types c.room_for_types c.room_for_expressions c.room_for_constants c.room_for_overrides,
+      so_far_more (record old { resolved = new }) said (Fixed Resolved) (module_said old said e) (flags_said old said e) (capabilities_said old said e) first,
     ))
-    (λ full after whole. pick_too_many resolved_in 1 said Resolved after true refl full whole.resolved)
+    (λ full after whole. pick_too_many resolved_in 1 said (Fixed Resolved) after true refl full whole.resolved)
 
 -- an arena that had room has it for what it holds now
 room_after : {A : Type 0} (given old : List A) (item : A) → old ≡ given → length old < largest_u32 → length (given ++ item ∷ []) ≤ largest_u32
@@ -193,42 +194,42 @@ expression_added old x new false h = λ said c e after whole.
 
 -- a line of a constant adds it, or can't stand here
 pub constant_added : (old : ContentsSoFar) (ty init : ℕ) (new : List ConstantType) (added : Bool) → IsNewItem old.«module».constants (record { name = None; ty = ty; init = init }) new added
-    → IsAdded old (Constant ty init) (record old { «module» = record old.«module» { constants = new } }) added
+    → IsAdded old (Fixed (Constant ty init)) (record old { «module» = record old.«module» { constants = new } }) added
 constant_added old ty init new true h = λ said c e.
     let item : ConstantType = record { name = None; ty = ty; init = init } in
     let given : old.«module».constants ≡ filter_map constant_in said = ap (λ (m : Module). m.constants) (module_said old said e) in (
-      consistent_more said (Constant ty init) c.flags c.capabilities c.resolved c.types c.room_for_types c.room_for_expressions (room_after (filter_map constant_in said) old.«module».constants item given h.1) c.room_for_overrides,
-      so_far_more (record old { «module» = record old.«module» { constants = new } }) said (Constant ty init)
+      consistent_more said (Fixed (Constant ty init)) c.flags c.capabilities c.resolved c.types c.room_for_types c.room_for_expressions (room_after (filter_map constant_in said) old.«module».constants item given h.1) c.room_for_overrides,
+      so_far_more (record old { «module» = record old.«module» { constants = new } }) said (Fixed (Constant ty init))
           (ap (λ constants. record old.«module» { constants = constants }) h.0 ∙ ap (λ (m : Module). record m { constants = m.constants ++ item ∷ [] }) (module_said old said e))
           (flags_said old said e) (capabilities_said old said e) (resolved_said old said e),
     )
 constant_added old ty init new false h = λ said c e after whole.
     let item : ConstantType = record { name = None; ty = ty; init = init } in
     let full : largest_u32 ≤ length (filter_map constant_in said) = subst (λ (l : List ConstantType). largest_u32 ≤ length l) (ap (λ (m : Module). m.constants) (module_said old said e)) h in
-    pick_too_many constant_in largest_u32 said (Constant ty init) after item refl full whole.room_for_constants
+    pick_too_many constant_in largest_u32 said (Fixed (Constant ty init)) after item refl full whole.room_for_constants
 
 -- a line of an override adds it, or can't stand here
 pub override_added : (old : ContentsSoFar) (ty : ℕ) (init id : Option ℕ) (new : List OverrideType) (added : Bool) → IsNewItem old.«module».overrides (record { name = None; id = id; ty = ty; init = init }) new added
-    → IsAdded old (Override ty init id) (record old { «module» = record old.«module» { overrides = new } }) added
+    → IsAdded old (Fixed (Override ty init id)) (record old { «module» = record old.«module» { overrides = new } }) added
 override_added old ty init id new true h = λ said c e.
     let item : OverrideType = record { name = None; id = id; ty = ty; init = init } in
     let given : old.«module».overrides ≡ filter_map override_in said = ap (λ (m : Module). m.overrides) (module_said old said e) in (
-      consistent_more said (Override ty init id) c.flags c.capabilities c.resolved c.types c.room_for_types c.room_for_expressions c.room_for_constants (room_after (filter_map override_in said) old.«module».overrides item given h.1),
-      so_far_more (record old { «module» = record old.«module» { overrides = new } }) said (Override ty init id)
+      consistent_more said (Fixed (Override ty init id)) c.flags c.capabilities c.resolved c.types c.room_for_types c.room_for_expressions c.room_for_constants (room_after (filter_map override_in said) old.«module».overrides item given h.1),
+      so_far_more (record old { «module» = record old.«module» { overrides = new } }) said (Fixed (Override ty init id))
           (ap (λ overrides. record old.«module» { overrides = overrides }) h.0 ∙ ap (λ (m : Module). record m { overrides = m.overrides ++ item ∷ [] }) (module_said old said e))
           (flags_said old said e) (capabilities_said old said e) (resolved_said old said e),
     )
 override_added old ty init id new false h = λ said c e after whole.
     let item : OverrideType = record { name = None; id = id; ty = ty; init = init } in
     let full : largest_u32 ≤ length (filter_map override_in said) = subst (λ (l : List OverrideType). largest_u32 ≤ length l) (ap (λ (m : Module). m.overrides) (module_said old said e)) h in
-    pick_too_many override_in largest_u32 said (Override ty init id) after item refl full whole.room_for_overrides
+    pick_too_many override_in largest_u32 said (Fixed (Override ty init id)) after item refl full whole.room_for_overrides
 
 -- a line of a comment adds it
 pub comment_added : (old : ContentsSoFar) (ty member : ℕ) (new : List ((ℕ × ℕ) × List (List ℕ))) → new ≡ old.«module».doc_comments.struct_members ++ ((ty, member), []) ∷ []
-    → IsAdded old (Doc ty member) (record old { «module» = record old.«module» { doc_comments = record (old.«module».doc_comments) { struct_members = new } } }) true
+    → IsAdded old (Fixed (Doc ty member)) (record old { «module» = record old.«module» { doc_comments = record (old.«module».doc_comments) { struct_members = new } } }) true
 comment_added old ty member new h = λ said c e. (
-  consistent_more said (Doc ty member) c.flags c.capabilities c.resolved c.types c.room_for_types c.room_for_expressions c.room_for_constants c.room_for_overrides,
-  so_far_more (record old { «module» = record old.«module» { doc_comments = record (old.«module».doc_comments) { struct_members = new } } }) said (Doc ty member)
+  consistent_more said (Fixed (Doc ty member)) c.flags c.capabilities c.resolved c.types c.room_for_types c.room_for_expressions c.room_for_constants c.room_for_overrides,
+  so_far_more (record old { «module» = record old.«module» { doc_comments = record (old.«module».doc_comments) { struct_members = new } } }) said (Fixed (Doc ty member))
       (ap (λ comments. record old.«module» { doc_comments = record (old.«module».doc_comments) { struct_members = comments } }) h
       ∙ ap (λ (m : Module). record m { doc_comments = record (m.doc_comments) { struct_members = m.doc_comments.struct_members ++ ((ty, member), []) ∷ [] } }) (module_said old said e))
       (flags_said old said e) (capabilities_said old said e) (resolved_said old said e),

@@ -8,7 +8,7 @@ use Rattle.naga_ir.specs.declared.types.TypeInner.{TypeInner}
 use Rattle.naga_ir.specs.declared.types.TypeInner.TheVariants.{Scalar, Vector, Matrix, CooperativeMatrix, Atomic, Pointer, ValuePointer, Array, Struct, Image, Sampler, AccelerationStructure, RayQuery, BindingArray}
 use Rattle.naga_text.specs.Words.{handle_of, number_of, number_up_to}
 use Rattle.naga_text.specs.Forms.{Matches, member_part, type_form}
-use Rattle.naga_text.specs.Tables.{chosen, classes, dimensions, kinds, roles, spaces, truths}
+use Rattle.naga_text.specs.Tables.{bools, chosen, classes, dimensions, kinds, roles, spaces}
 use Rattle.naga_text.specs.WordForms.{Reader, array_size_of, cooperative_size_of, member_of, pointed_size_of, read_each, size_of}
 use Rattle.naga_text.specs.steps.LineForms.{acceleration_structure_of, array_of, atomic_of, binding_array_of, cooperative_matrix_of, image_of, matrix_of, pointer_of, ray_query_of, sampler_of, scalar_of, scalar_type_of, struct_of, type_of, type_readers, value_pointer_of, vector_of}
 use Rattle.naga_text.proofs.EachLaws.{each_again, each_found}
@@ -106,26 +106,26 @@ binding_array_found _ t h = cc
 image_found : HasForm (codes "image") image_of
 image_found (d ∷ r ∷ x ∷ []) t h =
     option_and_then_some _ (chosen dimensions d) t h λ dim e h.
-    option_and_then_some _ (chosen truths r) t h λ arrayed f h.
+    option_and_then_some _ (chosen bools r) t h λ arrayed f h.
     option_and_then_some _ (chosen classes x) t h λ class g h.
     subst (λ t. Matches (type_form t) (codes "image" ∷ d ∷ r ∷ x ∷ [])) (same_Some (Image dim arrayed class) t h) (refl, (e, (f, (g, tt))))
 image_found _ t h = cc
 
 sampler_found : HasForm (codes "sampler") sampler_of
 sampler_found (b ∷ []) t h =
-    option_and_then_some _ (chosen truths b) t h λ comparison e h.
+    option_and_then_some _ (chosen bools b) t h λ comparison e h.
     subst (λ t. Matches (type_form t) (codes "sampler" ∷ b ∷ [])) (same_Some (Sampler comparison) t h) (refl, (e, tt))
 sampler_found _ t h = cc
 
 acceleration_structure_found : HasForm (codes "accel") acceleration_structure_of
 acceleration_structure_found (b ∷ []) t h =
-    option_and_then_some _ (chosen truths b) t h λ vertex_return e h.
+    option_and_then_some _ (chosen bools b) t h λ vertex_return e h.
     subst (λ t. Matches (type_form t) (codes "accel" ∷ b ∷ [])) (same_Some (AccelerationStructure vertex_return) t h) (refl, (e, tt))
 acceleration_structure_found _ t h = cc
 
 ray_query_found : HasForm (codes "rayquery") ray_query_of
 ray_query_found (b ∷ []) t h =
-    option_and_then_some _ (chosen truths b) t h λ vertex_return e h.
+    option_and_then_some _ (chosen bools b) t h λ vertex_return e h.
     subst (λ t. Matches (type_form t) (codes "rayquery" ∷ b ∷ [])) (same_Some (RayQuery vertex_return) t h) (refl, (e, tt))
 ray_query_found _ t h = cc
 

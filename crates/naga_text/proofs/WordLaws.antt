@@ -20,7 +20,7 @@ use Rattle.naga_ir.specs.declared.types.VectorSize.{VectorSize}
 use Rattle.naga_ir.specs.declared.types.VectorSize.TheVariants.{Bi, Tri, Quad}
 use Rattle.naga_text.specs.Bytes.{letter_o, minus}
 use Rattle.naga_text.specs.Words.{handle_of, largest_u16, most_digits, number_of, number_up_to, value_after}
-use Rattle.naga_text.specs.Forms.{array_size_part, handle, number, optional, pointed_components}
+use Rattle.naga_text.specs.Forms.{array_size_part, handle, optional, pointed_components, up_to}
 use Rattle.naga_text.specs.WordForms.{◌>>=◌, array_size_of, bounded_size_of, cooperative_size_at, cooperative_size_of, count_at, count_of, optional_of, pointed_size_at, pointed_size_of, size_at, size_of}
 use Rattle.naga_text.proofs.TableLaws.{by_number, by_test, passed_by}
 
@@ -176,8 +176,8 @@ pub optional_handle_again : (w : List ℕ) (index : Option ℕ) → optional han
 optional_handle_again w index h = optional_again handle_of (λ n e. no_digit largest_handle minus [] n refl e) w index h
 
 -- a number that may be absent is read of a word that writes it or of a minus, and of each such word
-pub optional_number_found : (w : List ℕ) (n : Option ℕ) → optional_of (number_up_to largest_u16) w ≡ Some n → optional (number largest_u16) n w
+pub optional_number_found : (w : List ℕ) (n : Option ℕ) → optional_of (number_up_to largest_u16) w ≡ Some n → optional (up_to largest_u16) n w
 optional_number_found w n h = optional_found (number_up_to largest_u16) w n h
 
-pub optional_number_again : (w : List ℕ) (n : Option ℕ) → optional (number largest_u16) n w → optional_of (number_up_to largest_u16) w ≡ Some n
+pub optional_number_again : (w : List ℕ) (n : Option ℕ) → optional (up_to largest_u16) n w → optional_of (number_up_to largest_u16) w ≡ Some n
 optional_number_again w n h = optional_again (number_up_to largest_u16) (λ n e. no_digit largest_u16 minus [] n refl e) w n h

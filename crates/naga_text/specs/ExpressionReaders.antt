@@ -23,8 +23,7 @@ literal_readers =
     (codes "f64", λ w. option_map F64 (number_up_to largest_u64 w)) ∷
     (codes "bool", λ w. option_map (λ n. Bool (n == 1)) (number_up_to 1 w)) ∷
     (codes "aint", λ w. option_map AbstractInt (integer_up_to largest_i64 w)) ∷
-    (codes "afloat", λ w. option_map AbstractFloat (number_up_to largest_u64 w)) ∷
-    []
+    (codes "afloat", λ w. option_map AbstractFloat (number_up_to largest_u64 w)) ∷ []
 
 -- the literal of a word for its type and one for its value
 abbrev pub literal_of : List ℕ → List ℕ → Option Literal
@@ -102,8 +101,7 @@ fixed_expression_readers =
     (codes "zero", zero_value_of) ∷
     (codes "splat", splat_of) ∷
     (codes "unary", unary_of) ∷
-    (codes "binary", binary_of) ∷
-    []
+    (codes "binary", binary_of) ∷ []
 
 -- the readers of the words after the form of an expression
 abbrev pub expression_readers : List (List ℕ × Reader ExpressionType)

@@ -17,26 +17,28 @@ use Rattle.naga_ir.specs.declared.types.TypeInner.{TypeInner}
 use Rattle.naga_ir.specs.declared.types.TypeInner.TheVariants.{Scalar, Vector, Matrix, CooperativeMatrix, Atomic, Pointer, ValuePointer, Array, Struct, Image, Sampler, AccelerationStructure, RayQuery, BindingArray}
 use Rattle.naga_ir.specs.declared.types.VectorSize.{VectorSize}
 use Rattle.naga_text.specs.Bytes.{letter_o}
-use Rattle.naga_text.specs.Tables.{binary_operators, chosen, classes, dimensions, kinds, roles, spaces, truths, unary_operators}
+use Rattle.naga_text.specs.Tables.{binary_operators, bools, chosen, classes, dimensions, kinds, roles, spaces, unary_operators}
 use Rattle.naga_text.specs.Words.{handle_of, integer_up_to, largest_i16, largest_i32, largest_i64, largest_u16, number_of, number_up_to, pieces_of}
+use Rattle.naga_text.specs.declared.line.FixedLine.{FixedLine}
+use Rattle.naga_text.specs.declared.line.FixedLine.TheVariants.{Flags, Capabilities, Resolved, Constant, Override, Doc}
 use Rattle.naga_text.specs.declared.line.Line.{Line}
-use Rattle.naga_text.specs.declared.line.Line.TheVariants.{Flags, Capabilities, Resolved, Type_, Expression, Constant, Override, Doc}
+use Rattle.naga_text.specs.declared.line.Line.TheVariants.{Type_, Expression, Fixed}
 
 -- which words a part of a form can be
 abbrev pub Part : Type 1
 Part = List ℕ → Type 0
 
--- the word of these bytes
-abbrev pub word : List ℕ → Part
-word bytes = λ w. w ≡ bytes
+-- the word of exactly these bytes
+abbrev pub exactly : List ℕ → Part
+exactly bytes = λ w. w ≡ bytes
 
--- a word that has this value in a table
-abbrev pub from_table : {A : Type 0} → List (List ℕ × A) → A → Part
-from_table table a = λ w. chosen table w ≡ Some a
+-- a word in whose place in a table this value is
+abbrev pub place : {A : Type 0} → List (List ℕ × A) → A → Part
+place table a = λ w. chosen table w ≡ Some a
 
--- a word that writes this number, up to a limit
-abbrev pub number : ℕ → ℕ → Part
-number most n = λ w. number_up_to most w ≡ Some n
+-- a word that writes this number, up to `most`
+abbrev pub up_to : ℕ → ℕ → Part
+up_to most n = λ w. number_up_to most w ≡ Some n
 
 -- a word that writes this integer, up to a limit
 abbrev pub integer : ℕ → ℤ → Part
@@ -56,7 +58,7 @@ after_byte byte part = λ w. (rest : List ℕ) × (w ≡ byte ∷ rest) × part 
 
 -- a value's part, or a minus if there is none
 abbrev pub optional : {A : Type 0} → (A → Part) → Option A → Part
-optional part None = word (codes "-")
+optional part None = exactly (codes "-")
 optional part (Some a) = part a
 
 -- no word
@@ -74,7 +76,7 @@ Matches (part ∷ parts) (w ∷ ws) = part w × Matches parts ws
 abbrev pub array_size_part : ArraySize → Part
 array_size_part (array_size.Constant n) = u32_word (non_zero_u32_get n)
 array_size_part (array_size.Pending size) = after_byte letter_o (handle size)
-array_size_part array_size.Dynamic = word (codes "dyn")
+array_size_part array_size.Dynamic = exactly (codes "dyn")
 
 -- the number of components that a value pointer has, and 0 of none
 abbrev pub pointed_components : Option VectorSize → ℕ
@@ -94,49 +96,49 @@ member_part m = λ w. (m.name ≡ None) × Matches (handle m.ty ∷ u32_word m.o
 
 -- the parts of a type's line, after the word `type`
 abbrev pub type_form : TypeInner → List Part
-type_form (Scalar s) = word (codes "scalar") ∷ from_table kinds s.kind ∷ number largest_u8 s.width ∷ []
-type_form (Vector size s) = word (codes "vector") ∷ number 4 (components size) ∷ from_table kinds s.kind ∷ number largest_u8 s.width ∷ []
+type_form (Scalar s) = exactly (codes "scalar") ∷ place kinds s.kind ∷ up_to largest_u8 s.width ∷ []
+type_form (Vector size s) = exactly (codes "vector") ∷ up_to 4 (components size) ∷ place kinds s.kind ∷ up_to largest_u8 s.width ∷ []
 type_form (Matrix columns rows s) =
-    word (codes "matrix") ∷ number 4 (components columns) ∷ number 4 (components rows) ∷ from_table kinds s.kind ∷ number largest_u8 s.width ∷ []
+    exactly (codes "matrix") ∷ up_to 4 (components columns) ∷ up_to 4 (components rows) ∷ place kinds s.kind ∷ up_to largest_u8 s.width ∷ []
 type_form (CooperativeMatrix columns rows s role) =
-    word (codes "coop") ∷ number 16 (cooperative_components columns) ∷ number 16 (cooperative_components rows) ∷ from_table kinds s.kind ∷ number largest_u8 s.width ∷ from_table roles role ∷ []
-type_form (Atomic s) = word (codes "atomic") ∷ from_table kinds s.kind ∷ number largest_u8 s.width ∷ []
-type_form (Pointer base space) = word (codes "pointer") ∷ handle base ∷ from_table spaces space ∷ []
+    exactly (codes "coop") ∷ up_to 16 (cooperative_components columns) ∷ up_to 16 (cooperative_components rows) ∷ place kinds s.kind ∷ up_to largest_u8 s.width ∷ place roles role ∷ []
+type_form (Atomic s) = exactly (codes "atomic") ∷ place kinds s.kind ∷ up_to largest_u8 s.width ∷ []
+type_form (Pointer base space) = exactly (codes "pointer") ∷ handle base ∷ place spaces space ∷ []
 type_form (ValuePointer size s space) =
-    word (codes "valuepointer") ∷ number 4 (pointed_components size) ∷ from_table kinds s.kind ∷ number largest_u8 s.width ∷ from_table spaces space ∷ []
-type_form (Array base size stride) = word (codes "array") ∷ handle base ∷ array_size_part size ∷ u32_word stride ∷ []
-type_form (Struct members span) = word (codes "struct") ∷ u32_word span ∷ map member_part members
-type_form (Image dim arrayed class) = word (codes "image") ∷ from_table dimensions dim ∷ from_table truths arrayed ∷ from_table classes class ∷ []
-type_form (Sampler comparison) = word (codes "sampler") ∷ from_table truths comparison ∷ []
-type_form (AccelerationStructure vertex_return) = word (codes "accel") ∷ from_table truths vertex_return ∷ []
-type_form (RayQuery vertex_return) = word (codes "rayquery") ∷ from_table truths vertex_return ∷ []
-type_form (BindingArray base size) = word (codes "bindingarray") ∷ handle base ∷ array_size_part size ∷ []
+    exactly (codes "valuepointer") ∷ up_to 4 (pointed_components size) ∷ place kinds s.kind ∷ up_to largest_u8 s.width ∷ place spaces space ∷ []
+type_form (Array base size stride) = exactly (codes "array") ∷ handle base ∷ array_size_part size ∷ u32_word stride ∷ []
+type_form (Struct members span) = exactly (codes "struct") ∷ u32_word span ∷ map member_part members
+type_form (Image dim arrayed class) = exactly (codes "image") ∷ place dimensions dim ∷ place bools arrayed ∷ place classes class ∷ []
+type_form (Sampler comparison) = exactly (codes "sampler") ∷ place bools comparison ∷ []
+type_form (AccelerationStructure vertex_return) = exactly (codes "accel") ∷ place bools vertex_return ∷ []
+type_form (RayQuery vertex_return) = exactly (codes "rayquery") ∷ place bools vertex_return ∷ []
+type_form (BindingArray base size) = exactly (codes "bindingarray") ∷ handle base ∷ array_size_part size ∷ []
 
 -- the parts of a literal: its type and its value; a floating-point number is written as its bits
 abbrev pub literal_form : Literal → List Part
-literal_form (F64 bits) = word (codes "f64") ∷ number largest_u64 bits ∷ []
-literal_form (F32 bits) = word (codes "f32") ∷ number largest_u32 bits ∷ []
-literal_form (F16 bits) = word (codes "f16") ∷ number largest_u16 bits ∷ []
-literal_form (U16 value) = word (codes "u16") ∷ number largest_u16 value ∷ []
-literal_form (I16 value) = word (codes "i16") ∷ integer largest_i16 value ∷ []
-literal_form (U32 value) = word (codes "u32") ∷ number largest_u32 value ∷ []
-literal_form (I32 value) = word (codes "i32") ∷ integer largest_i32 value ∷ []
-literal_form (U64 value) = word (codes "u64") ∷ number largest_u64 value ∷ []
-literal_form (I64 value) = word (codes "i64") ∷ integer largest_i64 value ∷ []
-literal_form (Bool value) = word (codes "bool") ∷ number 1 (if value then 1 else 0) ∷ []
-literal_form (AbstractInt value) = word (codes "aint") ∷ integer largest_i64 value ∷ []
-literal_form (AbstractFloat bits) = word (codes "afloat") ∷ number largest_u64 bits ∷ []
+literal_form (F64 bits) = exactly (codes "f64") ∷ up_to largest_u64 bits ∷ []
+literal_form (F32 bits) = exactly (codes "f32") ∷ up_to largest_u32 bits ∷ []
+literal_form (F16 bits) = exactly (codes "f16") ∷ up_to largest_u16 bits ∷ []
+literal_form (U16 value) = exactly (codes "u16") ∷ up_to largest_u16 value ∷ []
+literal_form (I16 value) = exactly (codes "i16") ∷ integer largest_i16 value ∷ []
+literal_form (U32 value) = exactly (codes "u32") ∷ up_to largest_u32 value ∷ []
+literal_form (I32 value) = exactly (codes "i32") ∷ integer largest_i32 value ∷ []
+literal_form (U64 value) = exactly (codes "u64") ∷ up_to largest_u64 value ∷ []
+literal_form (I64 value) = exactly (codes "i64") ∷ integer largest_i64 value ∷ []
+literal_form (Bool value) = exactly (codes "bool") ∷ up_to 1 (if value then 1 else 0) ∷ []
+literal_form (AbstractInt value) = exactly (codes "aint") ∷ integer largest_i64 value ∷ []
+literal_form (AbstractFloat bits) = exactly (codes "afloat") ∷ up_to largest_u64 bits ∷ []
 
 -- the parts of an expression's line, after the word `expr`; most expressions can't be written
 abbrev pub expression_form : ExpressionType → List Part
-expression_form (expr.Literal value) = word (codes "lit") ∷ literal_form value
-expression_form (expr.Constant constant) = word (codes "const") ∷ handle constant ∷ []
-expression_form (expr.Override id) = word (codes "override") ∷ handle id ∷ []
-expression_form (expr.ZeroValue ty) = word (codes "zero") ∷ handle ty ∷ []
-expression_form (expr.Compose ty components) = word (codes "compose") ∷ handle ty ∷ map handle components
-expression_form (expr.Splat size value) = word (codes "splat") ∷ number 4 (components size) ∷ handle value ∷ []
-expression_form (expr.Unary op value) = word (codes "unary") ∷ from_table unary_operators op ∷ handle value ∷ []
-expression_form (expr.Binary op left right) = word (codes "binary") ∷ from_table binary_operators op ∷ handle left ∷ handle right ∷ []
+expression_form (expr.Literal value) = exactly (codes "lit") ∷ literal_form value
+expression_form (expr.Constant constant) = exactly (codes "const") ∷ handle constant ∷ []
+expression_form (expr.Override id) = exactly (codes "override") ∷ handle id ∷ []
+expression_form (expr.ZeroValue ty) = exactly (codes "zero") ∷ handle ty ∷ []
+expression_form (expr.Compose ty components) = exactly (codes "compose") ∷ handle ty ∷ map handle components
+expression_form (expr.Splat size value) = exactly (codes "splat") ∷ up_to 4 (components size) ∷ handle value ∷ []
+expression_form (expr.Unary op value) = exactly (codes "unary") ∷ place unary_operators op ∷ handle value ∷ []
+expression_form (expr.Binary op left right) = exactly (codes "binary") ∷ place binary_operators op ∷ handle left ∷ handle right ∷ []
 expression_form (expr.Access base index) = never ∷ []
 expression_form (expr.AccessIndex base index) = never ∷ []
 expression_form (expr.Swizzle size vector pattern) = never ∷ []
@@ -164,16 +166,21 @@ expression_form (expr.SubgroupOperationResult ty) = never ∷ []
 expression_form (expr.CooperativeLoad pointer stride) = never ∷ []
 expression_form (expr.CooperativeMultiplyAdd a b c) = never ∷ []
 
+-- the parts of a line of a fixed number of words
+abbrev pub fixed_form : FixedLine → List Part
+fixed_form (Flags flags) = exactly (codes "flags") ∷ up_to all_validation_flags flags.0 ∷ []
+fixed_form (Capabilities capabilities) = exactly (codes "caps") ∷ up_to all_capabilities capabilities.0 ∷ []
+fixed_form Resolved = exactly (codes "resolved") ∷ []
+fixed_form (Constant ty init) = exactly (codes "const") ∷ handle ty ∷ handle init ∷ []
+fixed_form (Override ty init id) =
+    exactly (codes "override") ∷ handle ty ∷ optional handle init ∷ optional (up_to largest_u16) id ∷ []
+fixed_form (Doc ty member) = exactly (codes "doc") ∷ handle ty ∷ handle member ∷ []
+
 -- the parts of a line
 abbrev pub form : Line → List Part
-form (Flags flags) = word (codes "flags") ∷ number all_validation_flags flags.0 ∷ []
-form (Capabilities capabilities) = word (codes "caps") ∷ number all_capabilities capabilities.0 ∷ []
-form Resolved = word (codes "resolved") ∷ []
-form (Type_ inner) = word (codes "type") ∷ type_form inner
-form (Expression expression) = word (codes "expr") ∷ expression_form expression
-form (Constant ty init) = word (codes "const") ∷ handle ty ∷ handle init ∷ []
-form (Override ty init id) = word (codes "override") ∷ handle ty ∷ optional handle init ∷ optional (number largest_u16) id ∷ []
-form (Doc ty member) = word (codes "doc") ∷ handle ty ∷ handle member ∷ []
+form (Type_ inner) = exactly (codes "type") ∷ type_form inner
+form (Expression expression) = exactly (codes "expr") ∷ expression_form expression
+form (Fixed line) = fixed_form line
 
 -- `words` are the words of a line that says `line`
 abbrev pub IsForm : List (List ℕ) → Line → Type 0

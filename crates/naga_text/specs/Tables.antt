@@ -23,17 +23,12 @@ chosen (row ∷ table) w = if bytes_eq w row.0 then Some row.1 else chosen table
 -- the kinds of scalars
 abbrev pub kinds : List (List ℕ × ScalarKind)
 kinds =
-    (codes "sint", Sint) ∷
-    (codes "uint", Uint) ∷
-    (codes "float", Float) ∷
-    (codes "bool", Bool) ∷
-    (codes "aint", AbstractInt) ∷
-    (codes "afloat", AbstractFloat) ∷
-    []
+    (codes "sint", Sint) ∷ (codes "uint", Uint) ∷ (codes "float", Float) ∷ (codes "bool", Bool) ∷
+    (codes "aint", AbstractInt) ∷ (codes "afloat", AbstractFloat) ∷ []
 
 -- the bools
-abbrev pub truths : List (List ℕ × Boolean)
-truths = (codes "0", false) ∷ (codes "1", true) ∷ []
+abbrev pub bools : List (List ℕ × Boolean)
+bools = (codes "0", false) ∷ (codes "1", true) ∷ []
 
 -- the operands that cooperative matrices are
 abbrev pub roles : List (List ℕ × CooperativeRole)
@@ -51,8 +46,7 @@ spaces =
     (codes "immediate", space.Immediate) ∷
     (codes "taskpayload", space.TaskPayload) ∷
     (codes "raypayload", space.RayPayload) ∷
-    (codes "incomingraypayload", space.IncomingRayPayload) ∷
-    []
+    (codes "incomingraypayload", space.IncomingRayPayload) ∷ []
 
 -- the dimensions of images
 abbrev pub dimensions : List (List ℕ × ImageDimension)
@@ -68,8 +62,7 @@ classes =
     (codes "depth", class.Depth false) ∷
     (codes "depthms", class.Depth true) ∷
     (codes "storage", class.Storage (record { 0 = 0 }) (record { load = true; store = true; atomic = true })) ∷
-    (codes "external", class.External) ∷
-    []
+    (codes "external", class.External) ∷ []
 
 -- the operators on one value
 abbrev pub unary_operators : List (List ℕ × UnaryOperator)
@@ -78,22 +71,9 @@ unary_operators = (codes "negate", unary.Negate) ∷ (codes "not", unary.Logical
 -- the operators on two values
 abbrev pub binary_operators : List (List ℕ × BinaryOperator)
 binary_operators =
-    (codes "add", binary.Add) ∷
-    (codes "sub", binary.Subtract) ∷
-    (codes "mul", binary.Multiply) ∷
-    (codes "div", binary.Divide) ∷
-    (codes "mod", binary.Modulo) ∷
-    (codes "eq", binary.Equal) ∷
-    (codes "ne", binary.NotEqual) ∷
-    (codes "lt", binary.Less) ∷
-    (codes "le", binary.LessEqual) ∷
-    (codes "gt", binary.Greater) ∷
-    (codes "ge", binary.GreaterEqual) ∷
-    (codes "and", binary.And) ∷
-    (codes "or", binary.InclusiveOr) ∷
-    (codes "xor", binary.ExclusiveOr) ∷
-    (codes "land", binary.LogicalAnd) ∷
-    (codes "lor", binary.LogicalOr) ∷
-    (codes "shl", binary.ShiftLeft) ∷
-    (codes "shr", binary.ShiftRight) ∷
-    []
+    (codes "add", binary.Add) ∷ (codes "sub", binary.Subtract) ∷ (codes "mul", binary.Multiply) ∷
+    (codes "div", binary.Divide) ∷ (codes "mod", binary.Modulo) ∷ (codes "eq", binary.Equal) ∷
+    (codes "ne", binary.NotEqual) ∷ (codes "lt", binary.Less) ∷ (codes "le", binary.LessEqual) ∷
+    (codes "gt", binary.Greater) ∷ (codes "ge", binary.GreaterEqual) ∷ (codes "and", binary.And) ∷
+    (codes "or", binary.InclusiveOr) ∷ (codes "xor", binary.ExclusiveOr) ∷ (codes "land", binary.LogicalAnd) ∷
+    (codes "lor", binary.LogicalOr) ∷ (codes "shl", binary.ShiftLeft) ∷ (codes "shr", binary.ShiftRight) ∷ []

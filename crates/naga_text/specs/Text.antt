@@ -13,8 +13,9 @@ use Rattle.naga_ir.specs.declared.types.«Type».{«Type»}
 use Rattle.naga_text.specs.Bytes.{hash}
 use Rattle.naga_text.specs.Forms.{IsForm}
 use Rattle.naga_text.specs.Words.{words_of}
+use Rattle.naga_text.specs.declared.line.FixedLine.TheVariants.{Flags, Capabilities, Resolved, Constant, Override, Doc}
 use Rattle.naga_text.specs.declared.line.Line.{Line}
-use Rattle.naga_text.specs.declared.line.Line.TheVariants.{Flags, Capabilities, Resolved, Type_, Expression, Constant, Override, Doc}
+use Rattle.naga_text.specs.declared.line.Line.TheVariants.{Type_, Expression, Fixed}
 use Rattle.naga_text.specs.declared.text.Contents.{Contents}
 use Rattle.naga_text.specs.declared.text.TextError.{TextError}
 use Rattle.naga_text.specs.declared.text.TextError.TheVariants as error
@@ -26,91 +27,43 @@ has_content (c ∷ cs) = not (c == hash)
 
 -- the flags that a line sets
 abbrev pub flags_in : Line → Option ValidationFlags
-flags_in (Flags flags) = Some flags
-flags_in (Capabilities capabilities) = None
-flags_in Resolved = None
-flags_in (Type_ inner) = None
-flags_in (Expression expression) = None
-flags_in (Constant ty init) = None
-flags_in (Override ty init id) = None
-flags_in (Doc ty member) = None
+flags_in (Fixed (Flags flags)) = Some flags
+flags_in _ = None
 
 -- the capabilities that a line sets
 abbrev pub capabilities_in : Line → Option CapabilitySet
-capabilities_in (Flags flags) = None
-capabilities_in (Capabilities capabilities) = Some capabilities
-capabilities_in Resolved = None
-capabilities_in (Type_ inner) = None
-capabilities_in (Expression expression) = None
-capabilities_in (Constant ty init) = None
-capabilities_in (Override ty init id) = None
-capabilities_in (Doc ty member) = None
+capabilities_in (Fixed (Capabilities capabilities)) = Some capabilities
+capabilities_in _ = None
 
 -- that overrides are resolved, if a line says so
 abbrev pub resolved_in : Line → Option Bool
-resolved_in (Flags flags) = None
-resolved_in (Capabilities capabilities) = None
-resolved_in Resolved = Some true
-resolved_in (Type_ inner) = None
-resolved_in (Expression expression) = None
-resolved_in (Constant ty init) = None
-resolved_in (Override ty init id) = None
-resolved_in (Doc ty member) = None
+resolved_in (Fixed Resolved) = Some true
+resolved_in _ = None
 
 -- the type that a line describes, which has no name
 abbrev pub type_in : Line → Option «Type»
-type_in (Flags flags) = None
-type_in (Capabilities capabilities) = None
-type_in Resolved = None
 type_in (Type_ inner) = Some (record { name = None; inner = inner })
-type_in (Expression expression) = None
-type_in (Constant ty init) = None
-type_in (Override ty init id) = None
-type_in (Doc ty member) = None
+type_in _ = None
 
 -- the expression that a line describes
 abbrev pub expression_in : Line → Option ExpressionType
-expression_in (Flags flags) = None
-expression_in (Capabilities capabilities) = None
-expression_in Resolved = None
-expression_in (Type_ inner) = None
 expression_in (Expression expression) = Some expression
-expression_in (Constant ty init) = None
-expression_in (Override ty init id) = None
-expression_in (Doc ty member) = None
+expression_in _ = None
 
 -- the constant that a line describes, which has no name
 abbrev pub constant_in : Line → Option ConstantType
-constant_in (Flags flags) = None
-constant_in (Capabilities capabilities) = None
-constant_in Resolved = None
-constant_in (Type_ inner) = None
-constant_in (Expression expression) = None
-constant_in (Constant ty init) = Some (record { name = None; ty = ty; init = init })
-constant_in (Override ty init id) = None
-constant_in (Doc ty member) = None
+constant_in (Fixed (Constant ty init)) = Some (record { name = None; ty = ty; init = init })
+constant_in _ = None
 
 -- the override that a line describes, which has no name
 abbrev pub override_in : Line → Option OverrideType
-override_in (Flags flags) = None
-override_in (Capabilities capabilities) = None
-override_in Resolved = None
-override_in (Type_ inner) = None
-override_in (Expression expression) = None
-override_in (Constant ty init) = None
-override_in (Override ty init id) = Some (record { name = None; id = id; ty = ty; init = init })
-override_in (Doc ty member) = None
+override_in (Fixed (Override ty init id)) = Some (record { name = None; id = id; ty = ty; init = init })
+override_in _ = None
 
 -- the comment that a line describes: the type and the member that it is on, and no texts
 abbrev pub comment_in : Line → Option ((ℕ × ℕ) × List (List ℕ))
-comment_in (Flags flags) = None
-comment_in (Capabilities capabilities) = None
-comment_in Resolved = None
-comment_in (Type_ inner) = None
-comment_in (Expression expression) = None
-comment_in (Constant ty init) = None
-comment_in (Override ty init id) = None
-comment_in (Doc ty member) = Some ((ty, member), [])
+comment_in (Fixed (Doc ty member)) = Some ((ty, member), [])
+comment_in _ = None
 
 -- the first value to which lines set a setting
 abbrev pub first_in : {A : Type 0} → (Line → Option A) → List Line → Option A

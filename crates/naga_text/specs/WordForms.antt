@@ -64,7 +64,9 @@ count_of w = number_of w >>= count_at
 -- the override of a word that begins with the letter o, and else the count
 abbrev pub bounded_size_of : List ℕ → Option ArraySize
 bounded_size_of [] = None
-bounded_size_of (c ∷ cs) = if c == letter_o then handle_of cs >>= (λ size. Some (Pending size)) else count_of (c ∷ cs) >>= (λ count. Some (Constant count))
+bounded_size_of (c ∷ cs) =
+    if c == letter_o then handle_of cs >>= (λ size. Some (Pending size))
+    else count_of (c ∷ cs) >>= (λ count. Some (Constant count))
 
 -- how many elements a word says that an array has
 abbrev pub array_size_of : List ℕ → Option ArraySize

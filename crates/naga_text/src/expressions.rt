@@ -101,7 +101,12 @@ fn components(
     Ok(Some(components))
 }
 
-fn compose(alloc: Global, words: &mut LineWords) -> Result<Option<Expression>, OutOfMemory>
+/// The expression of the words after `compose`.
+///
+/// # Errors
+///
+/// `OutOfMemory` if a request for memory was refused.
+pub fn compose(alloc: Global, words: &mut LineWords) -> Result<Option<Expression>, OutOfMemory>
     ensures read { IfOk result (λ read. read ≡ compose_of (words_left words.old)) }
     ensures lines { lines_after words.new ≡ lines_after words.old }
 {
@@ -118,7 +123,7 @@ fn compose(alloc: Global, words: &mut LineWords) -> Result<Option<Expression>, O
 }
 
 /// The expression of a form other than `compose`, and of the words after it.
-fn fixed_expression(form: &[u8], words: &[&[u8]]) -> Option<Expression>
+pub fn fixed_expression(form: &[u8], words: &[&[u8]]) -> Option<Expression>
     ensures { result ≡ read_by fixed_expression_readers form.now (map (λ w. w.now) words.now) }
 {
     match form {

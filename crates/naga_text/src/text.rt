@@ -3,6 +3,7 @@
 ghost use Rattle.naga_arena.specs.Memory.{UnlessOutOfMemory};
 ghost use Rattle.naga_text.specs.Text.{IsFirstUnreadable, IsText, NamesLine, has_content};
 ghost use Rattle.naga_text.specs.Words.{lines_of};
+ghost use Rattle.naga_text.specs.declared.line.Line.TheVariants.{Fixed};
 ghost use Rattle.naga_text.specs.declared.text.Contents.{Contents};
 ghost use Rattle.naga_text.specs.declared.text.TextError.TheVariants as error;
 ghost use Rattle.naga_text.specs.LineWords.{first_line, lines_after, words_left};
@@ -11,7 +12,7 @@ ghost use Rattle.std.specs.Prelude.{◌≡◌, ◌<◌, ◌∷◌, ◌++◌, IfE
 ghost use Rattle.naga_text.specs.ErrorNames.{text_error_name};
 
 use crate::expressions::expression;
-use crate::line::{Line, short_line};
+use crate::line::{FixedLine, short_line};
 use crate::line_words::LineWords;
 use crate::types::{short_type, struct_type};
 use crate::words::equals;
@@ -19,7 +20,7 @@ use naga_flags::flags::{Capabilities, ValidationFlags};
 use naga_ir::OutOfMemory;
 use naga_ir::arena::Arena;
 use naga_ir::handle::Handle;
-use naga_ir::ir::{Constant, Module, Override};
+use naga_ir::ir::{Constant, MOST_ITEMS, Module, Override};
 use naga_ir::list::List;
 use naga_ir::span::Span;
 use naga_ir::tags::TypeTag;
@@ -27,9 +28,6 @@ use naga_ir::text::Text;
 use naga_ir::types::{Type, TypeInner};
 use naga_ir::unique_arena::UniqueArena;
 use std::alloc::{AllocError, Global};
-
-/// The number of items for which an arena has room.
-const MOST_ITEMS: usize = u32::MAX as usize;
 
 /// What a text says: a module, and settings by which it is validated. Who takes the text of a stranger decides what
 /// the settings are worth.
@@ -187,27 +185,30 @@ fn add_comment(
     comments.push(((ty, member), List::new(alloc)))
 }
 
-/// Adds what a line says, and returns whether it can stand after the lines before it. `add_words` adds types and
-/// expressions itself; their arms are here because a `Line` may be one.
-fn add(alloc: Global, so_far: &mut ContentsSoFar, line: Line) -> Result<bool, OutOfMemory>
-    ensures { IfOk result (IsAdded so_far.old line so_far.new) }
+/// Adds what a line of a fixed number of words says, and returns whether it can stand after the lines before it.
+fn add_fixed(
+    alloc: Global,
+    so_far: &mut ContentsSoFar,
+    line: FixedLine,
+) -> Result<bool, OutOfMemory>
+    ensures { IfOk result (IsAdded so_far.old (Fixed line) so_far.new) }
 {
     let module = &mut so_far.module;
     match line {
-        Line::Flags(flags) => Ok(set_once(&mut so_far.flags, flags)),
-        Line::Capabilities(capabilities) => Ok(set_once(&mut so_far.capabilities, capabilities)),
-        Line::Resolved => Ok(set_once(&mut so_far.resolved, true)),
-        Line::Type_(inner) => add_type(&mut module.types, inner),
-        Line::Expression(expression) => add_item(&mut module.global_expressions, expression),
-        Line::Constant { ty, init } => {
+        FixedLine::Flags(flags) => Ok(set_once(&mut so_far.flags, flags)),
+        FixedLine::Capabilities(capabilities) => {
+            Ok(set_once(&mut so_far.capabilities, capabilities))
+        }
+        FixedLine::Resolved => Ok(set_once(&mut so_far.resolved, true)),
+        FixedLine::Constant { ty, init } => {
             let name = None;
             add_item(&mut module.constants, Constant { name, ty, init })
         }
-        Line::Override { ty, init, id } => {
+        FixedLine::Override { ty, init, id } => {
             let name = None;
             add_item(&mut module.overrides, Override { name, id, ty, init })
         }
-        Line::Doc { ty, member } => {
+        FixedLine::Doc { ty, member } => {
             add_comment(alloc, &mut module.doc_comments.struct_members, ty, member)?;
             Ok(true)
         }
@@ -237,7 +238,7 @@ fn add_words(
         };
     }
     match short_line(keyword, words) {
-        Some(line) => add(alloc, so_far, line),
+        Some(line) => add_fixed(alloc, so_far, line),
         None => Ok(false),
     }
 }

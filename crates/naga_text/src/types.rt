@@ -9,8 +9,8 @@ use crate::line_words::LineWords;
 use crate::members::members;
 use crate::number::{handle, number, number_up_to};
 use crate::words::{
-    array_size, class, cooperative_size, dimension, equals, kind, pointed_size, role, size, space,
-    truth,
+    array_size, boolean, class, cooperative_size, dimension, equals, kind, pointed_size, role,
+    size, space,
 };
 use naga_ir::OutOfMemory;
 use naga_ir::types::{Scalar, TypeInner};
@@ -137,7 +137,7 @@ fn image_type(words: &[&[u8]]) -> Option<TypeInner>
     };
     Some(TypeInner::Image {
         dim: dimension(dim)?,
-        arrayed: truth(arrayed)?,
+        arrayed: boolean(arrayed)?,
         class: class(class_word)?,
     })
 }
@@ -147,7 +147,7 @@ fn sampler_type(words: &[&[u8]]) -> Option<TypeInner>
 {
     let [comparison] = words else { return None };
     Some(TypeInner::Sampler {
-        comparison: truth(comparison)?,
+        comparison: boolean(comparison)?,
     })
 }
 
@@ -156,7 +156,7 @@ fn acceleration_structure_type(words: &[&[u8]]) -> Option<TypeInner>
 {
     let [vertex_return] = words else { return None };
     Some(TypeInner::AccelerationStructure {
-        vertex_return: truth(vertex_return)?,
+        vertex_return: boolean(vertex_return)?,
     })
 }
 
@@ -165,7 +165,7 @@ fn ray_query_type(words: &[&[u8]]) -> Option<TypeInner>
 {
     let [vertex_return] = words else { return None };
     Some(TypeInner::RayQuery {
-        vertex_return: truth(vertex_return)?,
+        vertex_return: boolean(vertex_return)?,
     })
 }
 

@@ -1,6 +1,6 @@
 //! Words that stand for a few values.
 
-ghost use Rattle.naga_text.specs.Tables.{binary_operators, chosen, classes, dimensions, kinds, roles, spaces, truths, unary_operators};
+ghost use Rattle.naga_text.specs.Tables.{binary_operators, bools, chosen, classes, dimensions, kinds, roles, spaces, unary_operators};
 ghost use Rattle.naga_text.specs.WordForms.{array_size_of, cooperative_size_of, count_at, count_of, pointed_size_of, size_at, size_of};
 ghost use Rattle.std.specs.Prelude.{◌≡◌, bytes_eq, map};
 
@@ -51,8 +51,8 @@ pub fn kind(word: &[u8]) -> Option<ScalarKind>
 }
 
 /// A bool: `0` or `1`.
-pub fn truth(word: &[u8]) -> Option<bool>
-    ensures { result ≡ chosen truths word.now }
+pub fn boolean(word: &[u8]) -> Option<bool>
+    ensures { result ≡ chosen bools word.now }
 {
     chosen(&[("0", false), ("1", true)], word)
 }

@@ -1,16 +1,18 @@
 -- What the readers of one line return.
-use Rattle.std.specs.Prelude.{ℕ, List, [], ◌∷◌, Option, Some, None, codes}
+use Rattle.std.specs.Prelude.{ℕ, List, [], ◌∷◌, Option, Some, None, bytes_eq, codes, if◌then◌else◌}
 use Rattle.naga_arena.specs.Numbers.{largest_u8}
 use Rattle.naga_flags.specs.Bits.{all_capabilities, all_validation_flags}
 use Rattle.naga_ir.specs.declared.types.Scalar.{Scalar as ScalarType}
 use Rattle.naga_ir.specs.declared.types.TypeInner.{TypeInner}
 use Rattle.naga_ir.specs.declared.types.TypeInner.TheVariants.{Scalar, Vector, Matrix, CooperativeMatrix, Atomic, Pointer, ValuePointer, Array, Struct, Image, Sampler, AccelerationStructure, RayQuery, BindingArray}
 use Rattle.naga_text.specs.ExpressionReaders.{expression_of}
-use Rattle.naga_text.specs.Tables.{chosen, classes, dimensions, kinds, roles, spaces, truths}
+use Rattle.naga_text.specs.Tables.{bools, chosen, classes, dimensions, kinds, roles, spaces}
 use Rattle.naga_text.specs.Words.{handle_of, largest_u16, number_of, number_up_to}
 use Rattle.naga_text.specs.WordForms.{Reader, ◌>>=◌, array_size_of, cooperative_size_of, member_of, optional_of, pointed_size_of, read_by, read_each, size_of}
+use Rattle.naga_text.specs.declared.line.FixedLine.{FixedLine}
+use Rattle.naga_text.specs.declared.line.FixedLine.TheVariants.{Flags, Capabilities, Resolved, Constant, Override, Doc}
 use Rattle.naga_text.specs.declared.line.Line.{Line}
-use Rattle.naga_text.specs.declared.line.Line.TheVariants.{Flags, Capabilities, Resolved, Type_, Expression, Constant, Override, Doc}
+use Rattle.naga_text.specs.declared.line.Line.TheVariants.{Type_, Expression, Fixed}
 
 -- the scalar of a word for its kind and one for its width
 abbrev pub scalar_of : List ℕ → List ℕ → Option ScalarType
@@ -98,7 +100,7 @@ binding_array_of _ = None
 abbrev pub image_of : Reader TypeInner
 image_of (d ∷ a ∷ x ∷ []) = do
   dim ← chosen dimensions d
-  arrayed ← chosen truths a
+  arrayed ← chosen bools a
   class ← chosen classes x
   Some (Image dim arrayed class)
 image_of _ = None
@@ -106,21 +108,21 @@ image_of _ = None
 -- the type of the words after `sampler`
 abbrev pub sampler_of : Reader TypeInner
 sampler_of (b ∷ []) = do
-  comparison ← chosen truths b
+  comparison ← chosen bools b
   Some (Sampler comparison)
 sampler_of _ = None
 
 -- the type of the words after `accel`
 abbrev pub acceleration_structure_of : Reader TypeInner
 acceleration_structure_of (b ∷ []) = do
-  vertex_return ← chosen truths b
+  vertex_return ← chosen bools b
   Some (AccelerationStructure vertex_return)
 acceleration_structure_of _ = None
 
 -- the type of the words after `rayquery`
 abbrev pub ray_query_of : Reader TypeInner
 ray_query_of (b ∷ []) = do
-  vertex_return ← chosen truths b
+  vertex_return ← chosen bools b
   Some (RayQuery vertex_return)
 ray_query_of _ = None
 
@@ -147,8 +149,7 @@ memberless_readers =
     (codes "image", image_of) ∷
     (codes "sampler", sampler_of) ∷
     (codes "accel", acceleration_structure_of) ∷
-    (codes "rayquery", ray_query_of) ∷
-    []
+    (codes "rayquery", ray_query_of) ∷ []
 
 -- the readers of the words after the form of a type
 abbrev pub type_readers : List (List ℕ × Reader TypeInner)
@@ -160,21 +161,21 @@ type_of [] = None
 type_of (form ∷ words) = read_by type_readers form words
 
 -- what the words after `flags` say
-abbrev pub flags_of : Reader Line
+abbrev pub flags_of : Reader FixedLine
 flags_of (n ∷ []) = do
   bits ← number_up_to all_validation_flags n
   Some (Flags (record { 0 = bits }))
 flags_of _ = None
 
 -- what the words after `caps` say
-abbrev pub capabilities_of : Reader Line
+abbrev pub capabilities_of : Reader FixedLine
 capabilities_of (n ∷ []) = do
   bits ← number_up_to all_capabilities n
   Some (Capabilities (record { 0 = bits }))
 capabilities_of _ = None
 
 -- what the words after `resolved` say
-abbrev pub resolved_of : Reader Line
+abbrev pub resolved_of : Reader FixedLine
 resolved_of [] = Some Resolved
 resolved_of _ = None
 
@@ -191,7 +192,7 @@ expression_line_of words = do
   Some (Expression expression)
 
 -- what the words after `const` say
-abbrev pub constant_of : Reader Line
+abbrev pub constant_of : Reader FixedLine
 constant_of (t ∷ e ∷ []) = do
   ty ← handle_of t
   init ← handle_of e
@@ -199,7 +200,7 @@ constant_of (t ∷ e ∷ []) = do
 constant_of _ = None
 
 -- what the words after `override` say
-abbrev pub override_of : Reader Line
+abbrev pub override_of : Reader FixedLine
 override_of (t ∷ e ∷ i ∷ []) = do
   ty ← handle_of t
   init ← optional_of handle_of e
@@ -208,7 +209,7 @@ override_of (t ∷ e ∷ i ∷ []) = do
 override_of _ = None
 
 -- what the words after `doc` say
-abbrev pub doc_of : Reader Line
+abbrev pub doc_of : Reader FixedLine
 doc_of (t ∷ m ∷ []) = do
   ty ← handle_of t
   member ← handle_of m
@@ -216,21 +217,25 @@ doc_of (t ∷ m ∷ []) = do
 doc_of _ = None
 
 -- the readers of the words after the keyword of a line that has a fixed number of words
-abbrev pub fixed_readers : List (List ℕ × Reader Line)
+abbrev pub fixed_readers : List (List ℕ × Reader FixedLine)
 fixed_readers =
     (codes "flags", flags_of) ∷
     (codes "caps", capabilities_of) ∷
     (codes "resolved", resolved_of) ∷
     (codes "const", constant_of) ∷
     (codes "override", override_of) ∷
-    (codes "doc", doc_of) ∷
-    []
+    (codes "doc", doc_of) ∷ []
 
--- the readers of the words after a keyword
-abbrev pub line_readers : List (List ℕ × Reader Line)
-line_readers = (codes "type", type_line_of) ∷ (codes "expr", expression_line_of) ∷ fixed_readers
+-- what the words after the keyword of a line of a fixed number of words say
+abbrev pub fixed_line_of : List ℕ → Reader Line
+fixed_line_of keyword words = do
+  line ← read_by fixed_readers keyword words
+  Some (Fixed line)
 
 -- what words say
 abbrev pub line_of : Reader Line
 line_of [] = None
-line_of (keyword ∷ words) = read_by line_readers keyword words
+line_of (keyword ∷ words) =
+    if bytes_eq keyword (codes "type") then type_line_of words
+    else if bytes_eq keyword (codes "expr") then expression_line_of words
+    else fixed_line_of keyword words

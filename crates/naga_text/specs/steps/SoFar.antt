@@ -13,7 +13,8 @@ use Rattle.naga_text.specs.declared.text.TextError.TheVariants.{Line, OutOfMemor
 
 -- a setting without a value was set; one with a value keeps it
 abbrev pub IsSetOnce : {A : Type 0} → Option A → A → Option A → Bool → Type 0
-IsSetOnce old value new set = MatchOption old ((set ≡ true) × (new ≡ Some value)) (λ before. (set ≡ false) × (new ≡ old))
+IsSetOnce old value new set =
+    MatchOption old ((set ≡ true) × (new ≡ Some value)) (λ before. (set ≡ false) × (new ≡ old))
 
 -- a type can be added to types: it is not among them, and there is room
 abbrev pub CanAdd : List «Type» → «Type» → Type 0
@@ -31,7 +32,8 @@ IsTypeAdded old words new added = MatchOption (type_of words) (added ≡ false) 
 
 -- an item was added to an arena that had room, or the arena has none
 abbrev pub IsNewItem : {A : Type 0} → List A → A → List A → Bool → Type 0
-IsNewItem old item new added = MatchBool added ((new ≡ old ++ item ∷ []) × (length old < largest_u32)) (largest_u32 ≤ length old)
+IsNewItem old item new added =
+    MatchBool added ((new ≡ old ++ item ∷ []) × (length old < largest_u32)) (largest_u32 ≤ length old)
 
 -- what lines say together, with each setting that they set
 abbrev pub so_far : List Line_ → ContentsSoFar
@@ -55,7 +57,8 @@ finished read = record {
 -- follows
 abbrev pub IsAdded : ContentsSoFar → Line_ → ContentsSoFar → Bool → Type 0
 IsAdded old line new added = (said : List Line_) → AreConsistent said → old ≡ so_far said →
-    MatchBool added (AreConsistent (said ++ line ∷ []) × (new ≡ so_far (said ++ line ∷ []))) ((after : List Line_) → ¬ (AreConsistent (said ++ line ∷ [] ++ after)))
+    MatchBool added (AreConsistent (said ++ line ∷ []) × (new ≡ so_far (said ++ line ∷ [])))
+    ((after : List Line_) → ¬ (AreConsistent (said ++ line ∷ [] ++ after)))
 
 -- after lines that say `old`, a line of these words is added as `IsAdded` says; `added` is
 -- false if the words have no form
@@ -75,7 +78,9 @@ CannotBegin lines = (after : List (List ℕ)) → ¬ (IsReadable (lines ++ after
 
 -- after lines that say `old`, the line `line` makes them say `new`, or no text can begin with them
 abbrev pub IsReadNext : ContentsSoFar → List ℕ → ContentsSoFar → Bool → Type 0
-IsReadNext old line new read = (lines : List (List ℕ)) → ReadSoFar lines old → MatchBool read (ReadSoFar (lines ++ line ∷ []) new) (CannotBegin (lines ++ line ∷ []))
+IsReadNext old line new read =
+    (lines : List (List ℕ)) → ReadSoFar lines old
+    → MatchBool read (ReadSoFar (lines ++ line ∷ []) new) (CannotBegin (lines ++ line ∷ []))
 
 -- the contents are what `lines` say, or the number is of the first line by which they can't be read, unless memory was
 -- refused

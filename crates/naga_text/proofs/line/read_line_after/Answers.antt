@@ -4,7 +4,7 @@ use Rattle.naga_text.specs.Forms.{IsForm}
 use Rattle.naga_text.specs.steps.LineForms.{line_of}
 use Rattle.naga_text.specs.declared.line.Line.{Line}
 use Rattle.naga_text.proofs.LineLaws.{line_found, line_again}
-use Rattle.naga_text.proofs.line.read_line.Goals as goal
+use Rattle.naga_text.proofs.line.read_line_after.Goals as goal
 
 found : (ws : List (List ℕ)) (read : Option Line) → read ≡ line_of ws → IfSome read (λ line. IsForm ws line)
 found ws None e = tt
@@ -14,7 +14,7 @@ only : (ws : List (List ℕ)) (line : Line) → IsForm ws line → (read : Optio
 only ws line h read e = e ∙ line_again ws line h
 
 pub returns-clause-found : goal.returns-clause-found
-returns-clause-found c = IfOk-weaker c.keyword.result _ _ (found _) c.keyword.ensures
+returns-clause-found c = IfOk-weaker c.line_after.result _ _ (found _) c.line_after.ensures
 
 pub returns-clause-only : goal.returns-clause-only
-returns-clause-only c = λ line h. IfOk-weaker c.keyword.result _ _ (only _ line h) c.keyword.ensures
+returns-clause-only c = λ line h. IfOk-weaker c.line_after.result _ _ (only _ line h) c.line_after.ensures
