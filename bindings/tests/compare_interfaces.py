@@ -255,6 +255,14 @@ def compare_consts(constants, prefix, path):
          {name: int(value) for name, value in re.findall(r"const (\w+): u32 = (\d+);", read(path))})
 
 
+def compare_opcodes(constants, text):
+    """Compares the opcodes and the numbers of forms with the constants of the reader of words."""
+    ours = {name.removeprefix("NAGA_CHECK_"): value for name, value in constants.items()
+            if re.match(r"NAGA_CHECK_(OP|STATEMENT|FORM)_", name)}
+    named = re.findall(r"const (\w+): u8 = (\d+);", text)
+    same("opcode of the reader", ours, {name: int(value) for name, value in named})
+
+
 def compare_texts(constants, text):
     """Compares the numbers of the crate of texts, which count from 1 in its lists, and its tables of names."""
     numbers = {}
@@ -287,8 +295,19 @@ def compare_words_of_texts(texts, others):
             differences.append(f"words of a text: {words}")
 
 
+def compare_error_names(crates):
+    """Compares the names of errors, which the methods `name` are proved to return, with those of their variants."""
+    named = {}
+    equation = re.compile(r'^\w+_name \(?(?:\w+\.)?([\w«»\']+)[^=]*= codes "(\w+)"$', re.MULTILINE)
+    for path in sorted(glob.glob(f"{crates}/*/specs/ErrorNames.antt")):
+        for variant, name in equation.findall(read(path)):
+            named[f"{path.split('/')[-3]} {name}"] = variant.strip("«»'").rstrip("_")
+    same("name of an error", named, {key: key.split()[1] for key in named})
+
+
 def compare_crates(constants, functions, structs, crates):
     """Compares with the crates in Rattle, as far as they are there."""
+    compare_error_names(crates)
     exports, reader = sources_of(crates, "naga_c"), sources_of(crates, "naga_words")
     compare_flags(constants, read(os.path.dirname(sys.argv[2]) + "/flags.rs"), sources_of(crates, "naga_flags"))
     if exports:
@@ -302,6 +321,7 @@ def compare_crates(constants, functions, structs, crates):
         compare_words_of_texts(sources_of(crates, "naga_error_text"), others)
     if reader:
         compare_numbers(constants, TABLES, numbers_of_tables(reader))
+        compare_opcodes(constants, read(f"{crates}/naga_words/src/opcodes.rt"))
         named = re.findall(r"pub const (MAGIC|VERSION): u32 = (\w+);", reader)
         same("word of the header", {"MAGIC": constants["NAGA_CHECK_MAGIC"],
                                     "VERSION": constants["NAGA_CHECK_WORDS_VERSION"]},

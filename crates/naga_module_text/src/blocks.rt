@@ -1,23 +1,20 @@
-//! The blocks of a function's body while they are read.
+//! The blocks of a function's body while their lines are read.
 
-use crate::items::{MOST_WORDS, known, only_handle};
+use crate::items::{MOST_WORDS, only_handle};
 use crate::statements::statement;
-use crate::unread::Unread;
+use naga_draft::draft::Draft;
+use naga_draft::item::{Item, Mark, Part};
+use naga_draft::unread::{Unread, known};
 use naga_ir::handle::Handle;
-use naga_ir::statement::{Block, Statement, SwitchCase};
 use naga_ir::tags::ExpressionTag;
 use naga_text::line_words::LineWords;
 use naga_text::number::optional_handle;
 use naga_text::words::chosen;
 use std::alloc::Global;
 
-/// The most blocks that stand in one another in a body, as in the texts that naga's front end for WGSL reads. So passes
-/// over a body that is read can call themselves for each block in a block.
-pub const MOST_NESTED: usize = 127;
-
 /// A word that opens or closes a block.
 #[derive(Clone, Copy)]
-enum Mark {
+enum BlockWord {
     Block,
     If,
     Else,
@@ -28,261 +25,163 @@ enum Mark {
     End,
 }
 
-/// The mark of a word.
-fn mark_of(word: &[u8]) -> Option<Mark> {
-    let marks = [
-        ("block", Mark::Block),
-        ("if", Mark::If),
-        ("else", Mark::Else),
-        ("switch", Mark::Switch),
-        ("case", Mark::Case),
-        ("loop", Mark::Loop),
-        ("continuing", Mark::Continuing),
-        ("end", Mark::End),
+/// The block word of these bytes.
+fn block_word_of(word: &[u8]) -> Option<BlockWord> {
+    let words = [
+        ("block", BlockWord::Block),
+        ("if", BlockWord::If),
+        ("else", BlockWord::Else),
+        ("switch", BlockWord::Switch),
+        ("case", BlockWord::Case),
+        ("loop", BlockWord::Loop),
+        ("continuing", BlockWord::Continuing),
+        ("end", BlockWord::End),
     ];
-    chosen(&marks, word)
+    chosen(&words, word)
 }
 
-/// Which statement an open block is a part of, with what was read of the statement before.
-#[derive(Drop)]
-enum Opener {
+/// Which block of a statement is open.
+#[derive(Clone, Copy, PartialEq)]
+enum OpenBlock {
     Block,
-    Accept {
-        condition: Handle<ExpressionTag>,
-    },
-    Reject {
-        condition: Handle<ExpressionTag>,
-        accept: Block,
-    },
+    Accept,
+    Reject,
     /// Before the first case.
-    Switch {
-        selector: Handle<ExpressionTag>,
-    },
-    Case {
-        selector: Handle<ExpressionTag>,
-        cases: Vec<SwitchCase>,
-    },
+    Switch,
+    Case,
     Body,
-    Continuing {
-        body: Block,
-    },
+    Continuing,
 }
 
-impl Opener {
-    /// Whether the statement is a loop.
-    fn is_loop(&self) -> bool {
-        match self {
-            Opener::Body | Opener::Continuing { .. } => true,
-            Opener::Block
-            | Opener::Accept { .. }
-            | Opener::Reject { .. }
-            | Opener::Switch { .. }
-            | Opener::Case { .. } => false,
-        }
-    }
+/// Adds a mark to the function or entry point that is open.
+fn add_mark(draft: &mut Draft, mark: Mark) -> Result<(), Unread> {
+    draft.add(Item::Part(Part::Mark(mark)))
 }
 
-/// A block that is still open.
-#[derive(Drop)]
-struct OpenBlock {
-    opener: Opener,
-    block: Block,
-}
-
-impl OpenBlock {
-    /// Adds a statement, unless this is a switch that has no case yet.
-    fn push(&mut self, statement: Statement) -> Result<(), Unread> {
-        if let Opener::Switch { .. } = self.opener {
-            return Err(Unread::Line);
-        }
-        self.block.push(statement)?;
-        Ok(())
-    }
-}
-
-/// The cases of a switch, with one more.
-fn with_case(mut cases: Vec<SwitchCase>, body: Block) -> Result<Vec<SwitchCase>, Unread> {
-    cases.push(SwitchCase {
-        body,
-        fall_through: false,
-    })?;
-    Ok(cases)
-}
-
-/// The statement that ends with a block.
-fn closed(
-    alloc: Global,
-    opener: Opener,
-    block: Block,
-    break_if: Option<Handle<ExpressionTag>>,
-) -> Result<Statement, Unread> {
-    let statement = match opener {
-        Opener::Block => Statement::Block(block),
-        Opener::Accept { condition } => Statement::If {
-            condition,
-            accept: block,
-            reject: Block::new(alloc),
-        },
-        Opener::Reject { condition, accept } => Statement::If {
-            condition,
-            accept,
-            reject: block,
-        },
-        Opener::Switch { selector } => Statement::Switch {
-            selector,
-            cases: Vec::new(alloc),
-        },
-        Opener::Case { selector, cases } => Statement::Switch {
-            selector,
-            cases: with_case(cases, block)?,
-        },
-        Opener::Body => Statement::Loop {
-            body: block,
-            continuing: Block::new(alloc),
-            break_if,
-        },
-        Opener::Continuing { body } => Statement::Loop {
-            body,
-            continuing: block,
-            break_if,
-        },
-    };
-    Ok(statement)
-}
-
-/// A body, of which the last blocks may still be open.
+/// The blocks of a body that are open. Lines leave out marks that the items of a body have: `end` ends an `if` without
+/// its `else` and a loop without its `continuing`, and the end of the function ends all blocks.
 #[derive(Drop)]
 pub struct OpenBlocks {
-    alloc: Global,
-    body: Block,
     /// Each stands in the one before.
     open: Vec<OpenBlock>,
 }
 
 impl OpenBlocks {
-    /// An empty body.
+    /// No blocks.
     pub fn new(alloc: Global) -> OpenBlocks {
         OpenBlocks {
-            alloc,
-            body: Block::new(alloc),
             open: Vec::new(alloc),
         }
     }
 
-    /// Adds a statement to the innermost block.
-    fn push(&mut self, statement: Statement) -> Result<(), Unread> {
-        match self.open.last_mut() {
-            Some(innermost) => innermost.push(statement),
-            None => {
-                self.body.push(statement)?;
-                Ok(())
-            }
+    /// Whether a statement can stand here: not in a switch before its first case.
+    fn takes_statements(&self) -> bool {
+        match self.open.last() {
+            Some(innermost) => *innermost != OpenBlock::Switch,
+            None => true,
         }
     }
 
-    /// Opens a block, unless it would stand in too many others.
-    fn open(&mut self, opener: Opener) -> Result<(), Unread> {
-        if self.open.len() >= MOST_NESTED {
-            return Err(Unread::Line);
+    /// Opens a block in the innermost block.
+    fn open(&mut self, draft: &mut Draft, block: OpenBlock, mark: Mark) -> Result<(), Unread> {
+        if !self.takes_statements() {
+            // The line that ends such a block can't be read, so that this case is in no module.
+            add_mark(draft, Mark::Case(false))?;
         }
-        let block = Block::new(self.alloc);
-        self.open.push(OpenBlock { opener, block })?;
+        add_mark(draft, mark)?;
+        self.open.push(block)?;
         Ok(())
     }
 
-    /// Takes the innermost block that is open.
-    fn take(&mut self) -> Result<OpenBlock, Unread> {
-        known(self.open.pop())
-    }
-
-    /// `else`
-    fn open_reject(&mut self) -> Result<(), Unread> {
-        let OpenBlock { opener, block } = self.take()?;
-        match opener {
-            Opener::Accept { condition } => self.open(Opener::Reject {
-                condition,
-                accept: block,
-            }),
-            _ => Err(Unread::Line),
-        }
-    }
-
-    /// `case`
-    fn open_case(&mut self) -> Result<(), Unread> {
-        let OpenBlock { opener, block } = self.take()?;
-        match opener {
-            Opener::Switch { selector } => {
-                let cases = Vec::new(self.alloc);
-                self.open(Opener::Case { selector, cases })
-            }
-            Opener::Case { selector, cases } => {
-                let cases = with_case(cases, block)?;
-                self.open(Opener::Case { selector, cases })
-            }
-            _ => Err(Unread::Line),
-        }
-    }
-
-    /// `continuing`
-    fn open_continuing(&mut self) -> Result<(), Unread> {
-        let OpenBlock { opener, block } = self.take()?;
-        match opener {
-            Opener::Body => self.open(Opener::Continuing { body: block }),
-            _ => Err(Unread::Line),
-        }
+    /// Opens a block in place of the innermost block.
+    fn replace(&mut self, draft: &mut Draft, block: OpenBlock, mark: Mark) -> Result<(), Unread> {
+        known(self.open.pop())?;
+        add_mark(draft, mark)?;
+        self.open.push(block)?;
+        Ok(())
     }
 
     /// `end`, of a loop also `end E|-`
-    fn close(&mut self, break_if: Option<Handle<ExpressionTag>>) -> Result<(), Unread> {
-        let OpenBlock { opener, block } = self.take()?;
-        if break_if.is_some() && !opener.is_loop() {
-            return Err(Unread::Line);
+    fn close(
+        &mut self,
+        draft: &mut Draft,
+        break_if: Option<Handle<ExpressionTag>>,
+    ) -> Result<(), Unread> {
+        let block = known(self.open.pop())?;
+        let is_loop = matches!(block, OpenBlock::Body | OpenBlock::Continuing);
+        if !self.takes_statements() || break_if.is_some() && !is_loop {
+            return Err(Unread::Item);
         }
-        let statement = closed(self.alloc, opener, block, break_if)?;
-        self.push(statement)
+        match block {
+            OpenBlock::Accept => add_mark(draft, Mark::Else)?,
+            OpenBlock::Body => add_mark(draft, Mark::Continuing)?,
+            OpenBlock::Block
+            | OpenBlock::Reject
+            | OpenBlock::Switch
+            | OpenBlock::Case
+            | OpenBlock::Continuing => (),
+        }
+        add_mark(
+            draft,
+            if is_loop {
+                Mark::EndOfLoop(break_if)
+            } else {
+                Mark::End
+            },
+        )
     }
 
-    /// Does what a mark says, with the words after it.
-    fn mark(&mut self, mark: Mark, words: &[&[u8]]) -> Result<(), Unread> {
-        match (mark, words) {
-            (Mark::Block, []) => self.open(Opener::Block),
-            (Mark::If, _) => self.open(Opener::Accept {
-                condition: known(only_handle(words))?,
-            }),
-            (Mark::Else, []) => self.open_reject(),
-            (Mark::Switch, _) => self.open(Opener::Switch {
-                selector: known(only_handle(words))?,
-            }),
-            (Mark::Case, []) => self.open_case(),
-            (Mark::Loop, []) => self.open(Opener::Body),
-            (Mark::Continuing, []) => self.open_continuing(),
-            (Mark::End, []) => self.close(None),
-            (Mark::End, [break_if]) => self.close(known(optional_handle(break_if))?),
-            _ => Err(Unread::Line),
+    /// Does what a block word says, with the words after it.
+    fn add_block(
+        &mut self,
+        draft: &mut Draft,
+        word: BlockWord,
+        words: &[&[u8]],
+    ) -> Result<(), Unread> {
+        match (word, words) {
+            (BlockWord::Block, []) => self.open(draft, OpenBlock::Block, Mark::Block),
+            (BlockWord::If, _) => {
+                let condition = known(only_handle(words))?;
+                self.open(draft, OpenBlock::Accept, Mark::If(condition))
+            }
+            (BlockWord::Else, []) => self.replace(draft, OpenBlock::Reject, Mark::Else),
+            (BlockWord::Switch, _) => {
+                let selector = known(only_handle(words))?;
+                self.open(draft, OpenBlock::Switch, Mark::Switch(selector))
+            }
+            (BlockWord::Case, []) => self.replace(draft, OpenBlock::Case, Mark::Case(false)),
+            (BlockWord::Loop, []) => self.open(draft, OpenBlock::Body, Mark::Loop),
+            (BlockWord::Continuing, []) => {
+                self.replace(draft, OpenBlock::Continuing, Mark::Continuing)
+            }
+            (BlockWord::End, []) => self.close(draft, None),
+            (BlockWord::End, [break_if]) => self.close(draft, known(optional_handle(break_if))?),
+            _ => Err(Unread::Item),
         }
     }
 
     /// Adds what the words of a line on statements say.
-    pub fn add(&mut self, words: &mut LineWords) -> Result<(), Unread> {
+    pub fn add(
+        &mut self,
+        alloc: Global,
+        draft: &mut Draft,
+        words: &mut LineWords,
+    ) -> Result<(), Unread> {
         let word = known(words.next())?;
-        match mark_of(word) {
-            Some(mark) => {
+        match block_word_of(word) {
+            Some(block_word) => {
                 let mut room: [&[u8]; MOST_WORDS] = [&[]; MOST_WORDS];
-                self.mark(mark, known(words.all(&mut room))?)
+                self.add_block(draft, block_word, known(words.all(&mut room))?)
             }
-            None => {
-                let statement = statement(self.alloc, word, words)?;
-                self.push(statement)
-            }
+            None => add_mark(draft, Mark::Statement(statement(alloc, word, words)?)),
         }
     }
 
-    /// The whole body, with all blocks closed.
-    pub fn finish(mut self) -> Result<Block, Unread> {
+    /// Ends all blocks.
+    pub fn close_all(&mut self, draft: &mut Draft) -> Result<(), Unread> {
         for _ in 0..self.open.len() {
-            self.close(None)?;
+            self.close(draft, None)?;
         }
-        let OpenBlocks { body, .. } = self;
-        Ok(body)
+        Ok(())
     }
 }

@@ -2,19 +2,22 @@
 
 use crate::declarations::{Callable, Declarations};
 use crate::forms::expression;
-use crate::functions::{Finished, OpenFunction, Part, part_of};
-use crate::items::{MOST_ITEMS, MOST_WORDS, append, known, only_handle, only_word};
+use crate::functions::{OpenFunction, PartWord, part_word_of};
+use crate::items::{MOST_WORDS, only_handle, only_word};
 use crate::settings::{Settings, capabilities_of, flags_of};
-use crate::unread::Unread;
 use bitflags::Flags;
+use naga_draft::draft::{Contents, Draft as ItemDraft};
+use naga_draft::item::{Commented, Item};
+use naga_draft::unread::{Unread, known};
 use naga_flags::flags::ShaderStages;
+use naga_ir::handle::Handle;
 use naga_ir::ir::{Constant, DiagnosticFilterNode, GlobalVariable, Module, Override};
-use naga_ir::list::List;
 use naga_ir::memory::OutOfMemory;
 use naga_ir::span::Span;
+use naga_ir::tags::{DiagnosticFilterNodeTag, TypeTag};
 use naga_ir::text::Text;
-use naga_ir::types::{Type, TypeInner};
-use naga_text::line::{Line, read_line};
+use naga_ir::types::Type;
+use naga_text::line::{FixedLine, Line, read_line_after};
 use naga_text::line_words::LineWords;
 use naga_text::number::{handle, index, number_up_to, optional_handle};
 use naga_text::words::{chosen, equals, space};
@@ -32,12 +35,12 @@ enum Keyword {
     SpecialTypes,
     Filter,
     FilterLeaf,
-    Comment(Commented),
+    Comment(CommentWord),
 }
 
 /// What a comment documents.
 #[derive(Clone, Copy)]
-enum Commented {
+enum CommentWord {
     Type,
     Function,
     EntryPoint,
@@ -57,360 +60,278 @@ fn keyword_of(word: &[u8]) -> Option<Keyword> {
         ("special", Keyword::SpecialTypes),
         ("filter", Keyword::Filter),
         ("filterleaf", Keyword::FilterLeaf),
-        ("doctype", Keyword::Comment(Commented::Type)),
-        ("docfn", Keyword::Comment(Commented::Function)),
-        ("docentry", Keyword::Comment(Commented::EntryPoint)),
-        ("docconst", Keyword::Comment(Commented::Constant)),
-        ("docglobal", Keyword::Comment(Commented::GlobalVariable)),
+        ("doctype", Keyword::Comment(CommentWord::Type)),
+        ("docfn", Keyword::Comment(CommentWord::Function)),
+        ("docentry", Keyword::Comment(CommentWord::EntryPoint)),
+        ("docconst", Keyword::Comment(CommentWord::Constant)),
+        ("docglobal", Keyword::Comment(CommentWord::GlobalVariable)),
     ];
     chosen(&keywords, word)
 }
 
 /// The one word that there has to be, as text.
-fn only_text<'a>(words: &[&'a [u8]]) -> Result<&'a str, Unread> {
-    let word = known(only_word(words))?;
-    match str::from_utf8(word) {
-        Ok(text) => Ok(text),
-        Err(_) => Err(Unread::Line),
-    }
+fn only_text<'a>(words: &[&'a [u8]]) -> Option<&'a str> {
+    str::from_utf8(only_word(words)?).ok()
 }
 
-/// What a setting becomes by a line, which may not set it again.
-fn set_once<S: Copy>(before: Option<S>, value: S) -> Result<Option<S>, Unread> {
-    match before {
-        None => Ok(Some(value)),
-        Some(_) => Err(Unread::Line),
-    }
+/// `STAGES`
+fn stages(words: &[&[u8]]) -> Option<ShaderStages> {
+    let most = u64::from(ShaderStages::all().bits());
+    let bits = number_up_to(only_word(words)?, most)?;
+    Some(ShaderStages::from_bits_retain(u16::try_from(bits).ok()?))
 }
 
-/// What lines have begun.
-#[derive(Drop)]
-struct Unfinished {
-    /// The name of the next item that may have one.
-    name: Option<Text>,
-    /// The function or entry point to which lines still add.
-    open: Option<OpenFunction>,
-    /// Whether literals stand for arguments that a function doesn't have.
-    has_stand_ins: bool,
-    /// The number, from 1, of the line that is read, as a span.
-    span: Span,
+/// `S T E|-`
+fn global_variable(words: &[&[u8]], name: Option<Text>) -> Option<GlobalVariable> {
+    let [of, ty, init] = words else { return None };
+    Some(GlobalVariable {
+        name,
+        space: space(of)?,
+        ty: handle(ty)?,
+        init: optional_handle(init)?,
+    })
+}
+
+/// `D|-`
+fn filter(words: &[&[u8]]) -> Option<DiagnosticFilterNode> {
+    let parent = optional_handle(only_word(words)?)?;
+    Some(DiagnosticFilterNode { parent })
+}
+
+/// An index: what a comment is on.
+fn commented(on: CommentWord, words: &[&[u8]]) -> Option<Commented> {
+    Some(match on {
+        CommentWord::Type => Commented::Type_(only_handle(words)?),
+        CommentWord::Function => Commented::Function(only_handle(words)?),
+        CommentWord::EntryPoint => Commented::EntryPoint(index(only_word(words)?)?),
+        CommentWord::Constant => Commented::Constant(only_handle(words)?),
+        CommentWord::GlobalVariable => Commented::GlobalVariable(only_handle(words)?),
+    })
+}
+
+/// The types that some built-in functions take or return, if a line says which these are.
+#[derive(Clone, Copy)]
+struct SpecialTypes {
+    ray_desc: Option<Handle<TypeTag>>,
+    ray_intersection: Option<Handle<TypeTag>>,
+    ray_vertex_return: Option<Handle<TypeTag>>,
+}
+
+/// `T|- T|- T|-`
+fn special_types(words: &[&[u8]]) -> Option<SpecialTypes> {
+    let [desc, intersection, vertex_return] = words else {
+        return None;
+    };
+    Some(SpecialTypes {
+        ray_desc: optional_handle(desc)?,
+        ray_intersection: optional_handle(intersection)?,
+        ray_vertex_return: optional_handle(vertex_return)?,
+    })
 }
 
 /// A module, and how it is validated, as far as lines were read.
 #[derive(Drop)]
 pub struct Draft {
-    alloc: Global,
     pub module: Module,
     pub settings: Settings,
     pub declarations: Declarations,
     /// The number, from 1, of the first line that can't be read.
     pub unreadable: Option<usize>,
-    unfinished: Unfinished,
 }
 
-impl Draft {
+/// What the lines so far say.
+#[derive(Drop)]
+struct LineReader {
+    alloc: Global,
+    draft: ItemDraft,
+    declarations: Declarations,
+    /// Whether literals stand for arguments that a function doesn't have.
+    has_stand_ins: bool,
+    /// The name of the next item that may have one.
+    name: Option<Text>,
+    /// The function or entry point to which lines still add.
+    open: Option<OpenFunction>,
+    /// What the last such line says, as a later one may say otherwise.
+    special_types: Option<SpecialTypes>,
+    filter_leaf: Option<Handle<DiagnosticFilterNodeTag>>,
+}
+
+impl LineReader {
     /// The empty module.
-    fn new(alloc: Global, has_stand_ins: bool) -> Draft {
-        Draft {
+    fn new(alloc: Global, has_stand_ins: bool) -> LineReader {
+        LineReader {
             alloc,
-            module: Module::new(alloc),
-            settings: Settings::default(),
+            draft: ItemDraft::new(alloc),
             declarations: Declarations::new(alloc),
-            unreadable: None,
-            unfinished: Unfinished {
-                name: None,
-                open: None,
-                has_stand_ins,
-                span: Span::default(),
-            },
+            has_stand_ins,
+            name: None,
+            open: None,
+            special_types: None,
+            filter_leaf: None,
         }
-    }
-
-    /// `flags F`
-    fn set_flags(&mut self, words: &[&[u8]]) -> Result<(), Unread> {
-        let flags = known(flags_of(only_text(words)?))?;
-        self.settings.flags = set_once(self.settings.flags, flags)?;
-        Ok(())
-    }
-
-    /// `caps C`
-    fn set_capabilities(&mut self, words: &[&[u8]]) -> Result<(), Unread> {
-        let capabilities = known(capabilities_of(only_text(words)?))?;
-        self.settings.capabilities = set_once(self.settings.capabilities, capabilities)?;
-        Ok(())
     }
 
     /// `name WORD`
     fn set_name(&mut self, words: &[&[u8]]) -> Result<(), Unread> {
-        let name = only_text(words)?;
-        self.unfinished.name = Some(Text::from_string(String::from_str(self.alloc, name)?));
+        let name = known(only_text(words))?;
+        self.name = Some(Text::from_string(String::from_str(self.alloc, name)?));
         Ok(())
     }
 
-    /// Adds a type, if there is none that is equal.
-    fn add_type(&mut self, inner: TypeInner) -> Result<(), Unread> {
-        let count = self.module.types.len();
-        if count >= MOST_ITEMS {
-            return Err(Unread::Line);
-        }
-        let name = self.unfinished.name.take();
-        let added = self
-            .module
-            .types
-            .insert(Type { name, inner }, self.unfinished.span)?;
-        if added.index() == count {
-            Ok(())
-        } else {
-            Err(Unread::Line)
-        }
-    }
-
-    /// Adds what a line of the line text says.
-    fn add_line(&mut self, line: Line) -> Result<(), Unread> {
+    /// The item of a line of a fixed number of words that the line text has.
+    fn item_of_fixed(&mut self, line: FixedLine) -> Item {
         match line {
-            Line::Flags(flags) => {
-                self.settings.flags = set_once(self.settings.flags, flags)?;
+            FixedLine::Flags(flags) => Item::Flags(flags),
+            FixedLine::Capabilities(capabilities) => Item::Capabilities(capabilities),
+            FixedLine::Resolved => Item::Resolved,
+            FixedLine::Constant { ty, init } => {
+                let name = self.name.take();
+                Item::Constant(Constant { name, ty, init })
             }
-            Line::Capabilities(capabilities) => {
-                self.settings.capabilities = set_once(self.settings.capabilities, capabilities)?;
+            FixedLine::Override { ty, init, id } => {
+                let name = self.name.take();
+                Item::Override(Override { name, id, ty, init })
             }
-            Line::Resolved => self.settings.resolved = set_once(self.settings.resolved, true)?,
-            Line::Type_(inner) => self.add_type(inner)?,
-            Line::Expression(expression) => {
-                append(
-                    &mut self.module.global_expressions,
-                    expression,
-                    self.unfinished.span,
-                )?;
-            }
-            Line::Constant { ty, init } => {
-                let name = self.unfinished.name.take();
-                append(
-                    &mut self.module.constants,
-                    Constant { name, ty, init },
-                    self.unfinished.span,
-                )?;
-            }
-            Line::Override { ty, init, id } => {
-                let name = self.unfinished.name.take();
-                let item = Override { name, id, ty, init };
-                append(&mut self.module.overrides, item, self.unfinished.span)?;
-            }
-            Line::Doc { ty, member } => {
-                let comments = &mut self.module.doc_comments.struct_members;
-                comments.push(((ty, member), List::new(self.alloc)))?;
-            }
+            FixedLine::Doc { ty, member } => Item::Comment(Commented::Member(ty, member)),
         }
-        Ok(())
     }
 
-    /// `global S T E|-`
-    fn add_global_variable(&mut self, words: &[&[u8]]) -> Result<(), Unread> {
-        let [of, ty, init] = words else {
-            return Err(Unread::Line);
+    /// The item of a line of the line text.
+    fn item_of(&mut self, line: Line) -> Item {
+        match line {
+            Line::Type_(inner) => {
+                let name = self.name.take();
+                Item::Type_(Type { name, inner })
+            }
+            Line::Expression(expression) => Item::Expression(expression),
+            Line::Fixed(line) => self.item_of_fixed(line),
+        }
+    }
+
+    /// Adds the function or entry point to which the lines so far belong, if there is one.
+    fn close_function(&mut self) -> Result<(), Unread> {
+        let Some(open) = self.open.take() else {
+            return Ok(());
         };
-        let space = known(space(of))?;
-        let ty = known(handle(ty))?;
-        let init = known(optional_handle(init))?;
-        let name = self.unfinished.name.take();
-        let variable = GlobalVariable {
-            name,
-            space,
-            ty,
-            init,
-        };
-        append(
-            &mut self.module.global_variables,
-            variable,
-            self.unfinished.span,
-        )
+        let is_entry_point = open.is_entry_point;
+        let declared = open.close(&mut self.draft)?;
+        self.draft.close_function()?;
+        let declarations = &mut self.declarations;
+        if is_entry_point {
+            declarations.last = Some(Callable::EntryPoint(declarations.entry_points.len()));
+            declarations.entry_points.push(declared)?;
+        } else {
+            declarations.last = Some(Callable::Function(declarations.functions.len()));
+            declarations.functions.push(declared)?;
+        }
+        Ok(())
     }
 
     /// `fn STAGES`
     fn open_function(&mut self, words: &[&[u8]]) -> Result<(), Unread> {
-        let word = known(only_word(words))?;
-        let bits = known(number_up_to(word, u64::from(ShaderStages::all().bits())))?;
-        let Ok(bits) = u16::try_from(bits) else {
-            return Err(Unread::Line);
-        };
+        let stages = known(stages(words))?;
         self.close_function()?;
-        self.declarations
-            .stages
-            .push(ShaderStages::from_bits_retain(bits))?;
-        self.unfinished.open = Some(OpenFunction::new(self.alloc, self.unfinished.name.take()));
+        self.declarations.stages.push(stages)?;
+        self.draft.add(Item::Function(self.name.take()))?;
+        self.open = Some(OpenFunction::new(self.alloc, false, self.has_stand_ins));
         Ok(())
     }
 
     /// `entry`
     fn open_entry_point(&mut self, words: &[&[u8]]) -> Result<(), Unread> {
         if !words.is_empty() {
-            return Err(Unread::Line);
+            return Err(Unread::Item);
         }
         self.close_function()?;
-        let name = match self.unfinished.name.take() {
+        let name = match self.name.take() {
             Some(name) => name,
             None => Text::new(self.alloc),
         };
-        self.unfinished.open = Some(OpenFunction::new_entry(self.alloc, name));
-        Ok(())
-    }
-
-    /// Adds the function or entry point to which the lines so far belong, if there is one.
-    fn close_function(&mut self) -> Result<(), Unread> {
-        let Some(mut open) = self.unfinished.open.take() else {
-            return Ok(());
-        };
-        if self.unfinished.has_stand_ins {
-            open.replace_missing_arguments();
-        }
-        match open.finish()? {
-            Finished::Function(function, declared) => {
-                self.declarations.last = Some(Callable::Function(self.module.functions.len()));
-                append(&mut self.module.functions, function, self.unfinished.span)?;
-                self.declarations.functions.push(declared)?;
-            }
-            Finished::EntryPoint(entry_point, declared) => {
-                self.declarations.last = Some(Callable::EntryPoint(self.module.entry_points.len()));
-                self.module.entry_points.push(entry_point)?;
-                self.declarations.entry_points.push(declared)?;
-            }
-        }
-        Ok(())
-    }
-
-    /// `special T|- T|- T|-`
-    fn set_special_types(&mut self, words: &[&[u8]]) -> Result<(), Unread> {
-        let [desc, intersection, vertex_return] = words else {
-            return Err(Unread::Line);
-        };
-        let special = &mut self.module.special_types;
-        special.ray_desc = known(optional_handle(desc))?;
-        special.ray_intersection = known(optional_handle(intersection))?;
-        special.ray_vertex_return = known(optional_handle(vertex_return))?;
-        Ok(())
-    }
-
-    /// `g FORM`
-    fn add_global_expression(&mut self, words: &mut LineWords) -> Result<(), Unread> {
-        let expression = expression(self.alloc, words)?;
-        append(
-            &mut self.module.global_expressions,
-            expression,
-            self.unfinished.span,
-        )
-    }
-
-    /// `others T..`
-    fn add_other_types(&mut self, words: &mut LineWords) -> Result<(), Unread> {
-        while let Some(word) = words.next() {
-            let ty = known(handle(word))?;
-            self.module.special_types.others.push(ty)?;
-        }
-        Ok(())
-    }
-
-    /// `filter D|-`
-    fn add_filter(&mut self, words: &[&[u8]]) -> Result<(), Unread> {
-        let parent = known(optional_handle(known(only_word(words))?))?;
-        let node = DiagnosticFilterNode { parent };
-        append(
-            &mut self.module.diagnostic_filters,
-            node,
-            self.unfinished.span,
-        )
-    }
-
-    /// Adds a comment without texts on an item.
-    fn add_comment(&mut self, on: Commented, words: &[&[u8]]) -> Result<(), Unread> {
-        let texts = List::new(self.alloc);
-        let comments = &mut self.module.doc_comments;
-        match on {
-            Commented::Type => comments.types.push((known(only_handle(words))?, texts))?,
-            Commented::Function => {
-                comments
-                    .functions
-                    .push((known(only_handle(words))?, texts))?;
-            }
-            Commented::EntryPoint => {
-                let entry_point = known(index(known(only_word(words))?))?;
-                comments.entry_points.push((entry_point, texts))?;
-            }
-            Commented::Constant => {
-                comments
-                    .constants
-                    .push((known(only_handle(words))?, texts))?;
-            }
-            Commented::GlobalVariable => {
-                comments
-                    .global_variables
-                    .push((known(only_handle(words))?, texts))?;
-            }
-        }
+        self.draft.add(Item::EntryPoint(name))?;
+        self.open = Some(OpenFunction::new(self.alloc, true, self.has_stand_ins));
         Ok(())
     }
 
     /// Adds what a line of the module says that begins with a keyword.
     fn add(&mut self, keyword: Keyword, words: &[&[u8]]) -> Result<(), Unread> {
         match keyword {
-            Keyword::Flags => self.set_flags(words),
-            Keyword::Capabilities => self.set_capabilities(words),
+            Keyword::Flags => {
+                let flags = known(flags_of(known(only_text(words))?))?;
+                self.draft.add(Item::Flags(flags))
+            }
+            Keyword::Capabilities => {
+                let capabilities = known(capabilities_of(known(only_text(words))?))?;
+                self.draft.add(Item::Capabilities(capabilities))
+            }
             Keyword::Name => self.set_name(words),
-            Keyword::GlobalVariable => self.add_global_variable(words),
+            Keyword::GlobalVariable => {
+                let variable = known(global_variable(words, self.name.take()))?;
+                self.draft.add(Item::GlobalVariable(variable))
+            }
             Keyword::Function => self.open_function(words),
             Keyword::EntryPoint => self.open_entry_point(words),
-            Keyword::SpecialTypes => self.set_special_types(words),
-            Keyword::Filter => self.add_filter(words),
-            Keyword::FilterLeaf => {
-                self.module.diagnostic_filter_leaf = Some(known(only_handle(words))?);
+            Keyword::SpecialTypes => {
+                self.special_types = Some(known(special_types(words))?);
                 Ok(())
             }
-            Keyword::Comment(on) => self.add_comment(on, words),
+            Keyword::Filter => self.draft.add(Item::Filter(known(filter(words))?)),
+            Keyword::FilterLeaf => {
+                self.filter_leaf = Some(known(only_handle(words))?);
+                Ok(())
+            }
+            Keyword::Comment(on) => self.draft.add(Item::Comment(known(commented(on, words))?)),
         }
     }
 
-    /// The last function or entry point.
-    fn open(&mut self) -> Result<&mut OpenFunction, Unread> {
-        known(self.unfinished.open.as_mut())
-    }
-
     /// Adds what a line says of the last function or entry point.
-    fn add_part(&mut self, part: Part, words: &[&[u8]]) -> Result<(), Unread> {
+    fn add_part(&mut self, part: PartWord, words: &[&[u8]]) -> Result<(), Unread> {
         let name = match part {
-            Part::Argument | Part::Local => self.unfinished.name.take(),
+            PartWord::Argument | PartWord::Local => self.name.take(),
             _ => None,
         };
-        self.open()?.add(part, words, name)
+        let open = known(self.open.as_mut())?;
+        open.add(&mut self.draft, part, words, name)
+    }
+
+    /// `g FORM`
+    fn add_global_expression(&mut self, words: &mut LineWords) -> Result<(), Unread> {
+        let expression = expression(self.alloc, words)?;
+        self.draft.add(Item::Expression(expression))
+    }
+
+    /// `others T..`
+    fn add_other_types(&mut self, words: &mut LineWords) -> Result<(), Unread> {
+        while let Some(word) = words.next() {
+            self.draft.add(Item::PredeclaredType(known(handle(word))?))?;
+        }
+        Ok(())
     }
 
     /// Adds what a line says that has a fixed number of words after its first, or any line of the line text.
-    fn add_short(
-        &mut self,
-        line: &LineWords,
-        first: &[u8],
-        words: &mut LineWords,
-    ) -> Result<(), Unread> {
+    fn add_short(&mut self, first: &[u8], words: &mut LineWords) -> Result<(), Unread> {
         let mut room: [&[u8]; MOST_WORDS] = [&[]; MOST_WORDS];
-        if let Some(part) = part_of(first) {
+        if let Some(part) = part_word_of(first) {
             return self.add_part(part, known(words.all(&mut room))?);
         }
         if let Some(keyword) = keyword_of(first) {
             return self.add(keyword, known(words.all(&mut room))?);
         }
-        match read_line(self.alloc, line)? {
-            Some(line) => self.add_line(line),
-            None => Err(Unread::Line),
-        }
+        let line = known(read_line_after(self.alloc, first, words)?)?;
+        let item = self.item_of(line);
+        self.draft.add(item)
     }
 
     /// Adds what the words of a line say.
-    fn add_words(&mut self, line: &LineWords) -> Result<(), Unread> {
-        let mut words = *line;
+    fn add_words(&mut self, mut words: LineWords) -> Result<(), Unread> {
         let first = known(words.next())?;
         match first {
-            _ if equals(first, b"s") => self.open()?.add_statement(&mut words),
+            _ if equals(first, b"s") => {
+                let open = known(self.open.as_mut())?;
+                open.add_statement(&mut self.draft, &mut words)
+            }
             _ if equals(first, b"g") => self.add_global_expression(&mut words),
             _ if equals(first, b"others") => self.add_other_types(&mut words),
-            _ => self.add_short(line, first, &mut words),
+            _ => self.add_short(first, &mut words),
         }
     }
 
@@ -420,37 +341,74 @@ impl Draft {
             return Ok(());
         }
         if let Some(form) = line.strip_prefix("f ") {
-            return self.open()?.add_expression(form);
+            let open = known(self.open.as_mut())?;
+            return open.add_expression(&mut self.draft, form);
         }
-        self.add_words(&LineWords::new(line.as_bytes()))
+        self.add_words(LineWords::new(line.as_bytes()))
     }
 
-    /// Adds what the lines of a text say, up to the first that can't be read, and notes that one.
-    fn read(&mut self, text: &str) -> Result<(), OutOfMemory> {
+    /// Adds what the lines of a text say, up to the first that can't be read, and returns the number of that one.
+    fn read(&mut self, text: &str) -> Result<Option<usize>, OutOfMemory> {
         let mut number = 0usize;
         for line in text.lines() {
             number = number.saturating_add(1);
             let short = u32::try_from(number).unwrap_or(u32::MAX);
-            self.unfinished.span = Span::new(short, short);
-            match self.read_line(line) {
-                Ok(()) => (),
-                Err(Unread::Line) => {
-                    self.unreadable = Some(number);
-                    return Ok(());
-                }
-                Err(Unread::OutOfMemory) => return Err(OutOfMemory),
+            self.draft.set_span(Span::new(short, short));
+            if !is_read(self.read_line(line))? {
+                return Ok(Some(number));
             }
         }
-        match self.close_function() {
-            Ok(()) => Ok(()),
-            Err(Unread::Line) => {
-                self.unreadable = Some(number);
-                Ok(())
-            }
-            Err(Unread::OutOfMemory) => Err(OutOfMemory),
-        }
+        Ok(if is_read(self.close_function())? {
+            None
+        } else {
+            Some(number)
+        })
     }
 
+    /// What was read, without the function or entry point that is still open.
+    fn into_draft(self, unreadable: Option<usize>) -> Draft {
+        let LineReader {
+            draft,
+            declarations,
+            special_types,
+            filter_leaf,
+            ..
+        } = self;
+        let Contents {
+            mut module,
+            flags,
+            capabilities,
+            resolved,
+        } = draft.into_contents();
+        if let Some(said) = special_types {
+            module.special_types.ray_desc = said.ray_desc;
+            module.special_types.ray_intersection = said.ray_intersection;
+            module.special_types.ray_vertex_return = said.ray_vertex_return;
+        }
+        module.diagnostic_filter_leaf = filter_leaf;
+        Draft {
+            module,
+            settings: Settings {
+                flags,
+                capabilities,
+                resolved: if resolved { Some(true) } else { None },
+            },
+            declarations,
+            unreadable,
+        }
+    }
+}
+
+/// Whether a line was read, unless memory was refused.
+fn is_read(read: Result<(), Unread>) -> Result<bool, OutOfMemory> {
+    match read {
+        Ok(()) => Ok(true),
+        Err(Unread::Item) => Ok(false),
+        Err(Unread::OutOfMemory) => Err(OutOfMemory),
+    }
+}
+
+impl Draft {
     /// The module that the lines of a text describe, or those before the first that can't be read. If
     /// `has_stand_ins`, a literal stands for each argument that a function doesn't have, since a rule can be
     /// answered only if the arguments exist that the expressions before name.
@@ -459,8 +417,8 @@ impl Draft {
     ///
     /// `OutOfMemory` if a request for memory was refused.
     pub fn of_text(alloc: Global, text: &str, has_stand_ins: bool) -> Result<Draft, OutOfMemory> {
-        let mut draft = Draft::new(alloc, has_stand_ins);
-        draft.read(text)?;
-        Ok(draft)
+        let mut lines = LineReader::new(alloc, has_stand_ins);
+        let unreadable = lines.read(text)?;
+        Ok(lines.into_draft(unreadable))
     }
 }

@@ -1,79 +1,18 @@
 //! The forms of expressions that the line text doesn't have.
 
-use crate::items::{MOST_WORDS, at_colon, known, only_handle, only_word};
+use crate::items::{MOST_WORDS, at_colon, only_handle, only_word};
 use crate::tables::math_function;
-use crate::unread::Unread;
+use naga_draft::unread::{Unread, known};
 use naga_ir::expression::{
     Expression, ImageQuery, RelationalFunction, SampleLevel, SwizzleComponent,
 };
 use naga_ir::handle::Handle;
 use naga_ir::tags::ExpressionTag;
-use naga_text::expressions;
+use naga_text::expressions::{compose, fixed_expression};
 use naga_text::line_words::LineWords;
 use naga_text::number::{handle, number, number_up_to, optional_handle};
-use naga_text::words::{chosen, equals, kind, size, truth};
+use naga_text::words::{boolean, chosen, equals, kind, size};
 use std::alloc::Global;
-
-/// A form of expressions that the line text doesn't have.
-#[derive(Clone, Copy)]
-enum Form {
-    Access,
-    AccessIndex,
-    Swizzle,
-    FunctionArgument,
-    GlobalVariable,
-    LocalVariable,
-    Load,
-    ImageSample,
-    ImageLoad,
-    ImageQuery,
-    Select,
-    Derivative,
-    Relational,
-    Math,
-    As,
-    CallResult,
-    AtomicResult,
-    WorkGroupUniformLoadResult,
-    ArrayLength,
-    RayQueryProceedResult,
-    RayQueryGetIntersection,
-    RayQueryVertexPositions,
-    SubgroupBallotResult,
-    SubgroupOperationResult,
-    CooperativeLoad,
-    CooperativeMultiplyAdd,
-}
-
-/// The word of each form.
-const FORMS: [(&str, Form); 26] = [
-    ("access", Form::Access),
-    ("accessindex", Form::AccessIndex),
-    ("swizzle", Form::Swizzle),
-    ("argument", Form::FunctionArgument),
-    ("global", Form::GlobalVariable),
-    ("local", Form::LocalVariable),
-    ("load", Form::Load),
-    ("sample", Form::ImageSample),
-    ("imageload", Form::ImageLoad),
-    ("imagequery", Form::ImageQuery),
-    ("select", Form::Select),
-    ("derivative", Form::Derivative),
-    ("relational", Form::Relational),
-    ("math", Form::Math),
-    ("as", Form::As),
-    ("callresult", Form::CallResult),
-    ("atomicresult", Form::AtomicResult),
-    ("workgroupload", Form::WorkGroupUniformLoadResult),
-    ("arraylength", Form::ArrayLength),
-    ("proceedresult", Form::RayQueryProceedResult),
-    ("getintersection", Form::RayQueryGetIntersection),
-    ("vertexpositions", Form::RayQueryVertexPositions),
-    ("ballotresult", Form::SubgroupBallotResult),
-    ("subgroupresult", Form::SubgroupOperationResult),
-    ("coopload", Form::CooperativeLoad),
-    ("coopmuladd", Form::CooperativeMultiplyAdd),
-];
 
 /// The component of the letter `x`, `y`, `z` or `w`.
 fn component(letter: u8) -> Option<SwizzleComponent> {
@@ -194,7 +133,7 @@ fn image_sample(words: &[&[u8]]) -> Option<Expression> {
         offset: optional_handle(offset)?,
         level: level(by)?,
         depth_ref: optional_handle(depth)?,
-        clamp_to_edge: truth(clamp)?,
+        clamp_to_edge: boolean(clamp)?,
     })
 }
 
@@ -308,7 +247,7 @@ fn atomic_result(words: &[&[u8]]) -> Option<Expression> {
     let [ty, comparison] = words else { return None };
     Some(Expression::AtomicResult {
         ty: handle(ty)?,
-        comparison: truth(comparison)?,
+        comparison: boolean(comparison)?,
     })
 }
 
@@ -316,7 +255,7 @@ fn atomic_result(words: &[&[u8]]) -> Option<Expression> {
 fn ray_query(words: &[&[u8]]) -> Option<(Handle<ExpressionTag>, bool)> {
     match words {
         [query] => Some((handle(query)?, false)),
-        [query, committed] => Some((handle(query)?, truth(committed)?)),
+        [query, committed] => Some((handle(query)?, boolean(committed)?)),
         _ => None,
     }
 }
@@ -387,47 +326,47 @@ fn subgroup_result(words: &[&[u8]]) -> Option<Expression> {
     Some(Expression::SubgroupOperationResult { ty })
 }
 
-/// The expression of a form and of the words after it.
-fn of_form(form: Form, words: &[&[u8]]) -> Option<Expression> {
+/// The expression of a form other than `compose`, and of the words after it.
+fn fixed_form(form: &[u8], words: &[&[u8]]) -> Option<Expression> {
     match form {
-        Form::Access => access(words),
-        Form::AccessIndex => access_index(words),
-        Form::Swizzle => swizzle(words),
-        Form::FunctionArgument => Some(Expression::FunctionArgument(number(only_word(words)?)?)),
-        Form::GlobalVariable => Some(Expression::GlobalVariable(only_handle(words)?)),
-        Form::LocalVariable => Some(Expression::LocalVariable(only_handle(words)?)),
-        Form::Load => load(words),
-        Form::ImageSample => image_sample(words),
-        Form::ImageLoad => image_load(words),
-        Form::ImageQuery => image_query(words),
-        Form::Select => select(words),
-        Form::Derivative => derivative(words),
-        Form::Relational => relational(words),
-        Form::Math => math(words),
-        Form::As => conversion(words),
-        Form::CallResult => Some(Expression::CallResult(only_handle(words)?)),
-        Form::AtomicResult => atomic_result(words),
-        Form::WorkGroupUniformLoadResult => workgroup_load(words),
-        Form::ArrayLength => Some(Expression::ArrayLength(only_handle(words)?)),
-        Form::RayQueryProceedResult => alone(Expression::RayQueryProceedResult, words),
-        Form::RayQueryGetIntersection => intersection(words),
-        Form::RayQueryVertexPositions => vertex_positions(words),
-        Form::SubgroupBallotResult => alone(Expression::SubgroupBallotResult, words),
-        Form::SubgroupOperationResult => subgroup_result(words),
-        Form::CooperativeLoad => cooperative_load(words),
-        Form::CooperativeMultiplyAdd => cooperative_multiply_add(words),
+        _ if equals(form, b"access") => access(words),
+        _ if equals(form, b"accessindex") => access_index(words),
+        _ if equals(form, b"swizzle") => swizzle(words),
+        _ if equals(form, b"argument") => Some(Expression::FunctionArgument(number(only_word(
+            words,
+        )?)?)),
+        _ if equals(form, b"global") => Some(Expression::GlobalVariable(only_handle(words)?)),
+        _ if equals(form, b"local") => Some(Expression::LocalVariable(only_handle(words)?)),
+        _ if equals(form, b"load") => load(words),
+        _ if equals(form, b"sample") => image_sample(words),
+        _ if equals(form, b"imageload") => image_load(words),
+        _ if equals(form, b"imagequery") => image_query(words),
+        _ if equals(form, b"select") => select(words),
+        _ if equals(form, b"derivative") => derivative(words),
+        _ if equals(form, b"relational") => relational(words),
+        _ if equals(form, b"math") => math(words),
+        _ if equals(form, b"as") => conversion(words),
+        _ if equals(form, b"callresult") => Some(Expression::CallResult(only_handle(words)?)),
+        _ if equals(form, b"atomicresult") => atomic_result(words),
+        _ if equals(form, b"workgroupload") => workgroup_load(words),
+        _ if equals(form, b"arraylength") => Some(Expression::ArrayLength(only_handle(words)?)),
+        _ if equals(form, b"proceedresult") => alone(Expression::RayQueryProceedResult, words),
+        _ if equals(form, b"getintersection") => intersection(words),
+        _ if equals(form, b"vertexpositions") => vertex_positions(words),
+        _ if equals(form, b"ballotresult") => alone(Expression::SubgroupBallotResult, words),
+        _ if equals(form, b"subgroupresult") => subgroup_result(words),
+        _ if equals(form, b"coopload") => cooperative_load(words),
+        _ if equals(form, b"coopmuladd") => cooperative_multiply_add(words),
+        _ => fixed_expression(form, words),
     }
 }
 
 /// The expression that words say, of any form.
 pub fn expression(alloc: Global, words: &mut LineWords) -> Result<Expression, Unread> {
-    let mut rest = *words;
-    let word = known(rest.next())?;
-    match chosen(&FORMS, word) {
-        Some(form) => {
-            let mut room: [&[u8]; MOST_WORDS] = [&[]; MOST_WORDS];
-            known(of_form(form, known(rest.all(&mut room))?))
-        }
-        None => known(expressions::expression(alloc, words)?),
+    let form = known(words.next())?;
+    if equals(form, b"compose") {
+        return known(compose(alloc, words)?);
     }
+    let mut room: [&[u8]; MOST_WORDS] = [&[]; MOST_WORDS];
+    known(fixed_form(form, known(words.all(&mut room))?))
 }

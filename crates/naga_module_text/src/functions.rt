@@ -3,24 +3,23 @@
 use crate::blocks::OpenBlocks;
 use crate::declarations::Declared;
 use crate::forms::expression;
-use crate::items::{MOST_ITEMS, append, known, only_handle};
-use crate::unread::Unread;
+use crate::items::only_handle;
+use naga_draft::draft::Draft;
+use naga_draft::item::{Item, Part};
+use naga_draft::unread::{Unread, known};
 use naga_ir::expression::{Expression, Literal};
 use naga_ir::handle::Handle;
-use naga_ir::ir::{
-    EntryPoint, Function, FunctionArgument, FunctionResult, LocalVariable, MeshStageInfo,
-};
-use naga_ir::span::Span;
-use naga_ir::tags::{ExpressionTag, GlobalVariableTag, TypeTag};
+use naga_ir::ir::{FunctionArgument, FunctionResult, LocalVariable, MOST_ITEMS, MeshStageInfo};
+use naga_ir::tags::{ExpressionTag, TypeTag};
 use naga_ir::text::Text;
 use naga_text::line_words::LineWords;
 use naga_text::number::{handle, optional_handle};
 use naga_text::words::chosen;
 use std::alloc::Global;
 
-/// What a line with a fixed number of words adds to a function or an entry point.
+/// What a line with a fixed number of words says of a function or an entry point.
 #[derive(Clone, Copy)]
-pub enum Part {
+pub enum PartWord {
     Argument,
     Local,
     Result,
@@ -32,44 +31,18 @@ pub enum Part {
 }
 
 /// The part that a line's first word names.
-pub fn part_of(word: &[u8]) -> Option<Part> {
+pub fn part_word_of(word: &[u8]) -> Option<PartWord> {
     let parts = [
-        ("arg", Part::Argument),
-        ("local", Part::Local),
-        ("result", Part::Result),
-        ("named", Part::Named),
-        ("leaf", Part::FilterLeaf),
-        ("wgsizes", Part::WorkgroupSizes),
-        ("payload", Part::Payload),
-        ("mesh", Part::Mesh),
+        ("arg", PartWord::Argument),
+        ("local", PartWord::Local),
+        ("result", PartWord::Result),
+        ("named", PartWord::Named),
+        ("leaf", PartWord::FilterLeaf),
+        ("wgsizes", PartWord::WorkgroupSizes),
+        ("payload", PartWord::Payload),
+        ("mesh", PartWord::Mesh),
     ];
     chosen(&parts, word)
-}
-
-/// What an entry point has besides its function.
-#[derive(Drop)]
-struct EntryParts {
-    name: Text,
-    workgroup_sizes: Option<[Option<Handle<ExpressionTag>>; 3]>,
-    payload: Option<Handle<GlobalVariableTag>>,
-    mesh: Option<MeshStageInfo>,
-}
-
-/// A function, or what becomes an entry point, to which lines still add.
-#[derive(Drop)]
-pub struct OpenFunction {
-    alloc: Global,
-    function: Function,
-    blocks: OpenBlocks,
-    declared: Vec<Declared>,
-    entry: Option<EntryParts>,
-}
-
-/// A function or entry point, to which no line adds anything more.
-#[derive(Drop)]
-pub enum Finished {
-    Function(Function, Vec<Declared>),
-    EntryPoint(EntryPoint, Vec<Declared>),
 }
 
 /// `E|- E|- E|-`
@@ -96,6 +69,16 @@ fn mesh_info(words: &[&[u8]]) -> Option<MeshStageInfo> {
     })
 }
 
+/// `local T E|-`
+fn local_variable(words: &[&[u8]], name: Option<Text>) -> Option<Part> {
+    let [ty, init] = words else { return None };
+    Some(Part::LocalVariable(LocalVariable {
+        name,
+        ty: handle(ty)?,
+        init: optional_handle(init)?,
+    }))
+}
+
 /// The form of an expression, and the type that is declared behind a colon.
 fn typed(form: &str) -> Option<(&str, Option<Handle<TypeTag>>)> {
     match form.rsplit_once(" : ") {
@@ -104,158 +87,191 @@ fn typed(form: &str) -> Option<(&str, Option<Handle<TypeTag>>)> {
     }
 }
 
-impl OpenFunction {
-    /// A function without parts.
-    pub fn new(alloc: Global, name: Option<Text>) -> OpenFunction {
-        let mut function = Function::new(alloc);
-        function.name = name;
-        OpenFunction {
-            alloc,
-            function,
-            blocks: OpenBlocks::new(alloc),
-            declared: Vec::new(alloc),
-            entry: None,
-        }
+/// The index of the argument that an expression is, if it is one.
+fn argument_of(expression: &Expression) -> Option<u32> {
+    match expression {
+        Expression::FunctionArgument(index) => Some(*index),
+        _ => None,
     }
+}
 
-    /// An entry point without parts.
-    pub fn new_entry(alloc: Global, name: Text) -> OpenFunction {
+/// Adds a part of the function or entry point that is open.
+fn add_part(draft: &mut Draft, part: Part) -> Result<(), Unread> {
+    draft.add(Item::Part(part))
+}
+
+/// Adds a part if a line said it.
+fn add_last(draft: &mut Draft, said: Option<Part>) -> Result<(), Unread> {
+    match said {
+        Some(part) => add_part(draft, part),
+        None => Ok(()),
+    }
+}
+
+/// What a later line may say otherwise. Only what the last line says is added, when the function ends.
+#[derive(Drop)]
+struct LastParts {
+    result: Option<Part>,
+    filter_leaf: Option<Part>,
+    workgroup_sizes: Option<Part>,
+    payload: Option<Part>,
+    mesh: Option<Part>,
+}
+
+/// A function, or what becomes an entry point, to which lines still add.
+#[derive(Drop)]
+pub struct OpenFunction {
+    alloc: Global,
+    pub is_entry_point: bool,
+    /// Whether literals stand for arguments that the function doesn't have.
+    has_stand_ins: bool,
+    argument_count: usize,
+    declared: Vec<Declared>,
+    blocks: OpenBlocks,
+    last: LastParts,
+}
+
+impl OpenFunction {
+    /// A function or entry point without parts.
+    pub fn new(alloc: Global, is_entry_point: bool, has_stand_ins: bool) -> OpenFunction {
         OpenFunction {
             alloc,
-            function: Function::new(alloc),
-            blocks: OpenBlocks::new(alloc),
+            is_entry_point,
+            has_stand_ins,
+            argument_count: 0,
             declared: Vec::new(alloc),
-            entry: Some(EntryParts {
-                name,
+            blocks: OpenBlocks::new(alloc),
+            last: LastParts {
+                result: None,
+                filter_leaf: None,
                 workgroup_sizes: None,
                 payload: None,
                 mesh: None,
-            }),
+            },
         }
     }
 
     /// `arg T`
-    fn add_argument(&mut self, words: &[&[u8]], name: Option<Text>) -> Result<(), Unread> {
+    fn add_argument(
+        &mut self,
+        draft: &mut Draft,
+        words: &[&[u8]],
+        name: Option<Text>,
+    ) -> Result<(), Unread> {
         let ty = known(only_handle(words))?;
-        self.function.arguments.push(FunctionArgument {
-            name,
-            ty,
-            binding: None,
-        })?;
-        Ok(())
-    }
-
-    /// `local T E|-`
-    fn add_local(&mut self, words: &[&[u8]], name: Option<Text>) -> Result<(), Unread> {
-        let [ty, init] = words else {
-            return Err(Unread::Line);
-        };
-        let ty = known(handle(ty))?;
-        let init = known(optional_handle(init))?;
-        let variable = LocalVariable { name, ty, init };
-        append(
-            &mut self.function.local_variables,
-            variable,
-            Span::default(),
+        self.argument_count = self.argument_count.saturating_add(1);
+        let binding = None;
+        add_part(
+            draft,
+            Part::Argument(FunctionArgument { name, ty, binding }),
         )
     }
 
     /// Adds the expression of `FORM` or `FORM : T`.
-    pub fn add_expression(&mut self, form: &str) -> Result<(), Unread> {
+    pub fn add_expression(&mut self, draft: &mut Draft, form: &str) -> Result<(), Unread> {
         let Some((form, ty)) = typed(form) else {
-            return Err(Unread::Line);
+            return Err(Unread::Item);
         };
         let mut words = LineWords::new(form.as_bytes());
         let expression = expression(self.alloc, &mut words)?;
-        append(&mut self.function.expressions, expression, Span::default())?;
-        self.declared.push(Declared { ty, missing: None })?;
+        // It is missing unless a later line adds it.
+        let missing = if self.has_stand_ins {
+            argument_of(&expression)
+        } else {
+            None
+        };
+        add_part(draft, Part::Expression(expression))?;
+        self.declared.push(Declared { ty, missing })?;
+        Ok(())
+    }
+
+    /// What only an entry point has, of the last line that says it.
+    fn entry_parts(&mut self) -> Result<&mut LastParts, Unread> {
+        if self.is_entry_point {
+            Ok(&mut self.last)
+        } else {
+            Err(Unread::Item)
+        }
+    }
+
+    /// Adds the statement that words say, or opens or closes a block.
+    pub fn add_statement(
+        &mut self,
+        draft: &mut Draft,
+        words: &mut LineWords,
+    ) -> Result<(), Unread> {
+        self.blocks.add(self.alloc, draft, words)
+    }
+
+    /// Adds a part. An argument or a variable takes the name.
+    pub fn add(
+        &mut self,
+        draft: &mut Draft,
+        part: PartWord,
+        words: &[&[u8]],
+        name: Option<Text>,
+    ) -> Result<(), Unread> {
+        match part {
+            PartWord::Argument => self.add_argument(draft, words, name)?,
+            PartWord::Local => add_part(draft, known(local_variable(words, name))?)?,
+            PartWord::Result => {
+                let ty = known(only_handle(words))?;
+                let result = FunctionResult { ty, binding: None };
+                self.last.result = Some(Part::Result(result));
+            }
+            PartWord::Named => {
+                let named = known(only_handle(words))?;
+                add_part(draft, Part::NamedExpression(named, Text::new(self.alloc)))?;
+            }
+            PartWord::FilterLeaf => {
+                self.last.filter_leaf = Some(Part::FilterLeaf(known(only_handle(words))?));
+            }
+            PartWord::WorkgroupSizes => {
+                let sizes = known(workgroup_sizes(words))?;
+                self.entry_parts()?.workgroup_sizes = Some(Part::WorkgroupSizes(sizes));
+            }
+            PartWord::Payload => {
+                let payload = known(only_handle(words))?;
+                self.entry_parts()?.payload = Some(Part::TaskPayload(payload));
+            }
+            PartWord::Mesh => {
+                let mesh = known(mesh_info(words))?;
+                self.entry_parts()?.mesh = Some(Part::MeshOutput(mesh));
+            }
+        }
         Ok(())
     }
 
     /// Puts a literal in the place of each argument that the function doesn't have.
-    pub fn replace_missing_arguments(&mut self) {
-        let count = self.function.arguments.len();
+    fn replace_missing_arguments(&mut self, draft: &mut Draft) {
+        let count = self.argument_count;
         for (place, declared) in self.declared.iter_mut().enumerate() {
-            if place >= self.function.expressions.len() || place >= MOST_ITEMS {
-                continue;
-            }
-            let handle = Handle::new(place as u32);
-            if let Expression::FunctionArgument(index) = self.function.expressions[handle]
-                && index as usize >= count
-            {
-                declared.missing = Some(index);
-                let literal = Expression::Literal(Literal::Bool(false));
-                self.function.expressions.replace(handle, literal);
+            match declared.missing {
+                Some(index) if (index as usize) < count => declared.missing = None,
+                Some(_) if place < MOST_ITEMS => {
+                    let literal = Expression::Literal(Literal::Bool(false));
+                    draft.replace_expression(Handle::new(place as u32), literal);
+                }
+                _ => (),
             }
         }
     }
 
-    /// `named E`
-    fn add_name(&mut self, words: &[&[u8]]) -> Result<(), Unread> {
-        let named = known(only_handle(words))?;
-        let name = Text::new(self.alloc);
-        self.function.named_expressions.push((named, name))?;
-        Ok(())
-    }
-
-    /// `result T`
-    fn set_result(&mut self, words: &[&[u8]]) -> Result<(), Unread> {
-        let ty = known(only_handle(words))?;
-        self.function.result = Some(FunctionResult { ty, binding: None });
-        Ok(())
-    }
-
-    /// What an entry point has besides its function, if this is one.
-    fn entry_parts(&mut self) -> Result<&mut EntryParts, Unread> {
-        known(self.entry.as_mut())
-    }
-
-    /// Adds the statement that words say, or opens or closes a block.
-    pub fn add_statement(&mut self, words: &mut LineWords) -> Result<(), Unread> {
-        self.blocks.add(words)
-    }
-
-    /// Adds a part. An argument or a variable takes the name.
-    pub fn add(&mut self, part: Part, words: &[&[u8]], name: Option<Text>) -> Result<(), Unread> {
-        match part {
-            Part::Argument => self.add_argument(words, name)?,
-            Part::Local => self.add_local(words, name)?,
-            Part::Result => self.set_result(words)?,
-            Part::Named => self.add_name(words)?,
-            Part::FilterLeaf => {
-                self.function.diagnostic_filter_leaf = Some(known(only_handle(words))?);
-            }
-            Part::WorkgroupSizes => {
-                self.entry_parts()?.workgroup_sizes = Some(known(workgroup_sizes(words))?);
-            }
-            Part::Payload => self.entry_parts()?.payload = Some(known(only_handle(words))?),
-            Part::Mesh => self.entry_parts()?.mesh = Some(known(mesh_info(words))?),
-        }
-        Ok(())
-    }
-
-    /// The function or entry point that the lines describe.
-    pub fn finish(self) -> Result<Finished, Unread> {
+    /// Adds what the end of the function adds, and returns what is declared of its expressions.
+    pub fn close(mut self, draft: &mut Draft) -> Result<Vec<Declared>, Unread> {
+        self.replace_missing_arguments(draft);
         let OpenFunction {
-            mut function,
-            blocks,
             declared,
-            entry,
+            mut blocks,
+            last,
             ..
         } = self;
-        function.body = blocks.finish()?;
-        match entry {
-            None => Ok(Finished::Function(function, declared)),
-            Some(entry) => Ok(Finished::EntryPoint(
-                EntryPoint {
-                    name: entry.name,
-                    workgroup_size_overrides: entry.workgroup_sizes,
-                    function,
-                    task_payload: entry.payload,
-                    mesh_info: entry.mesh,
-                },
-                declared,
-            )),
-        }
+        blocks.close_all(draft)?;
+        add_last(draft, last.result)?;
+        add_last(draft, last.filter_leaf)?;
+        add_last(draft, last.workgroup_sizes)?;
+        add_last(draft, last.payload)?;
+        add_last(draft, last.mesh)?;
+        Ok(declared)
     }
 }

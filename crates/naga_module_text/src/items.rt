@@ -1,26 +1,16 @@
 //! What the readers of all lines share.
 
-use crate::unread::Unread;
-use naga_ir::arena::Arena;
+use naga_draft::unread::{Unread, known};
 use naga_ir::handle::Handle;
 use naga_ir::list::List;
-use naga_ir::span::Span;
 use naga_ir::tags::ExpressionTag;
 use naga_text::line_words::LineWords;
 use naga_text::number::handle;
 use std::alloc::Global;
 
-/// The number of items for which an arena has room.
-pub const MOST_ITEMS: usize = u32::MAX as usize;
-
 /// The most words that follow the word for what a line adds, unless a line can have any number of them: `sample` has as
 /// many. Only so many are listed of a line.
 pub const MOST_WORDS: usize = 9;
-
-/// What words say, if they say something.
-pub fn known<T>(read: Option<T>) -> Result<T, Unread> {
-    read.ok_or(Unread::Line)
-}
 
 /// The one word that there has to be.
 pub fn only_word<'a>(words: &[&'a [u8]]) -> Option<&'a [u8]> {
@@ -39,15 +29,6 @@ pub fn only_handle<K>(words: &[&[u8]]) -> Option<Handle<K>> {
 pub fn at_colon(word: &[u8]) -> Option<(&[u8], &[u8])> {
     let place = word.iter().position(|byte| *byte == b':')?;
     Some((&word[..place], &word[place + 1..]))
-}
-
-/// Adds an item, if the arena has room for it.
-pub fn append<T: Drop, K>(items: &mut Arena<T, K>, item: T, span: Span) -> Result<(), Unread> {
-    if items.len() >= MOST_ITEMS {
-        return Err(Unread::Line);
-    }
-    items.append(item, span)?;
-    Ok(())
 }
 
 /// The expressions whose indices the words that are left write.

@@ -11,4 +11,3 @@ pub mod labels;
 pub mod settings;
 mod statements;
 pub mod tables;
-pub mod unread;

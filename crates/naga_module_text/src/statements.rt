@@ -1,7 +1,7 @@
 //! Statements that contain no other statements.
 
-use crate::items::{MOST_WORDS, at_colon, expressions, known};
-use crate::unread::Unread;
+use crate::items::{MOST_WORDS, at_colon, expressions};
+use naga_draft::unread::{Unread, known};
 use naga_ir::range::Range;
 use naga_ir::statement::{
     AtomicFunction, GatherMode, RayPipelineFunction, RayQueryFunction, Statement, SubgroupOperation,
@@ -11,52 +11,7 @@ use naga_text::number::{handle, number, optional_handle};
 use naga_text::words::{chosen, equals};
 use std::alloc::Global;
 
-/// A kind of statements that contain no others, and whose lines have a fixed number of words.
-#[derive(Clone, Copy)]
-enum Kind {
-    Emit,
-    Break,
-    Continue,
-    Kill,
-    ControlBarrier,
-    MemoryBarrier,
-    Return,
-    Store,
-    ImageStore,
-    Atomic,
-    ImageAtomic,
-    WorkGroupUniformLoad,
-    RayQuery,
-    SubgroupBallot,
-    SubgroupCollectiveOperation,
-    SubgroupGather,
-    CooperativeStore,
-    TraceRay,
-}
-
-/// The word of each kind.
-const KINDS: [(&str, Kind); 18] = [
-    ("emit", Kind::Emit),
-    ("break", Kind::Break),
-    ("continue", Kind::Continue),
-    ("kill", Kind::Kill),
-    ("barrier", Kind::ControlBarrier),
-    ("membarrier", Kind::MemoryBarrier),
-    ("return", Kind::Return),
-    ("store", Kind::Store),
-    ("imagestore", Kind::ImageStore),
-    ("atomic", Kind::Atomic),
-    ("imageatomic", Kind::ImageAtomic),
-    ("wgload", Kind::WorkGroupUniformLoad),
-    ("rayquery", Kind::RayQuery),
-    ("ballot", Kind::SubgroupBallot),
-    ("collective", Kind::SubgroupCollectiveOperation),
-    ("gather", Kind::SubgroupGather),
-    ("coopstore", Kind::CooperativeStore),
-    ("trace", Kind::TraceRay),
-];
-
-/// The statement of a kind that has no words.
+/// The statement of a word that no other word follows.
 fn alone(statement: Statement, words: &[&[u8]]) -> Option<Statement> {
     if words.is_empty() {
         Some(statement)
@@ -347,27 +302,28 @@ fn trace_ray(words: &[&[u8]]) -> Option<Statement> {
     }))
 }
 
-/// The statement of a kind and of the words after it.
-fn of_kind(kind: Kind, words: &[&[u8]]) -> Option<Statement> {
-    match kind {
-        Kind::Emit => emit(words),
-        Kind::Break => alone(Statement::Break, words),
-        Kind::Continue => alone(Statement::Continue, words),
-        Kind::Kill => alone(Statement::Kill, words),
-        Kind::ControlBarrier => alone(Statement::ControlBarrier, words),
-        Kind::MemoryBarrier => alone(Statement::MemoryBarrier, words),
-        Kind::Return => return_statement(words),
-        Kind::Store => store(words),
-        Kind::ImageStore => image_store(words),
-        Kind::Atomic => atomic(words),
-        Kind::ImageAtomic => image_atomic(words),
-        Kind::WorkGroupUniformLoad => workgroup_load(words),
-        Kind::RayQuery => ray_query(words),
-        Kind::SubgroupBallot => ballot(words),
-        Kind::SubgroupCollectiveOperation => collective(words),
-        Kind::SubgroupGather => gather(words),
-        Kind::CooperativeStore => cooperative_store(words),
-        Kind::TraceRay => trace_ray(words),
+/// The statement of a word other than `call`, and of the words after it.
+fn fixed_statement(word: &[u8], words: &[&[u8]]) -> Option<Statement> {
+    match word {
+        _ if equals(word, b"emit") => emit(words),
+        _ if equals(word, b"break") => alone(Statement::Break, words),
+        _ if equals(word, b"continue") => alone(Statement::Continue, words),
+        _ if equals(word, b"kill") => alone(Statement::Kill, words),
+        _ if equals(word, b"barrier") => alone(Statement::ControlBarrier, words),
+        _ if equals(word, b"membarrier") => alone(Statement::MemoryBarrier, words),
+        _ if equals(word, b"return") => return_statement(words),
+        _ if equals(word, b"store") => store(words),
+        _ if equals(word, b"imagestore") => image_store(words),
+        _ if equals(word, b"atomic") => atomic(words),
+        _ if equals(word, b"imageatomic") => image_atomic(words),
+        _ if equals(word, b"wgload") => workgroup_load(words),
+        _ if equals(word, b"rayquery") => ray_query(words),
+        _ if equals(word, b"ballot") => ballot(words),
+        _ if equals(word, b"collective") => collective(words),
+        _ if equals(word, b"gather") => gather(words),
+        _ if equals(word, b"coopstore") => cooperative_store(words),
+        _ if equals(word, b"trace") => trace_ray(words),
+        _ => None,
     }
 }
 
@@ -376,7 +332,6 @@ pub fn statement(alloc: Global, word: &[u8], words: &mut LineWords) -> Result<St
     if equals(word, b"call") {
         return call(alloc, words);
     }
-    let kind = known(chosen(&KINDS, word))?;
     let mut room: [&[u8]; MOST_WORDS] = [&[]; MOST_WORDS];
-    known(of_kind(kind, known(words.all(&mut room))?))
+    known(fixed_statement(word, known(words.all(&mut room))?))
 }

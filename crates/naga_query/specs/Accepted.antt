@@ -27,7 +27,9 @@ pub record AreHandlesRight (m : Module) : Type 0 where
 -- the function `f` is a function of the module `m`, and so many precede it; or it is an entry point's, and all do
 abbrev pub IsFunctionAt : Module → Function → ℕ → Type 0
 IsFunctionAt m f preceding =
-    (slice_get m.functions preceding ≡ Some f) ⊎ ((i : ℕ) × (e : EntryPoint) × (slice_get m.entry_points i ≡ Some e) × (f ≡ e.function) × (preceding ≡ length m.functions))
+    (slice_get m.functions preceding ≡ Some f)
+    ⊎ ((i : ℕ) × (e : EntryPoint) × (slice_get m.entry_points i ≡ Some e) × (f ≡ e.function)
+    × (preceding ≡ length m.functions))
 
 -- the module `m` is accepted, its types have these infos, and its users learn these lists
 pub record IsAcceptedModule (m : Module) (infos : List TypeInfo) (lists : ModuleInfoLists) : Type 0 where

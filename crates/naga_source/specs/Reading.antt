@@ -13,7 +13,8 @@ use Rattle.naga_text.specs.declared.text.Contents.{Contents}
 -- the subject has the module `m` and these settings, and its constants are validated in any case
 pub record IsSettled (m : Module) (settings : Settings) (subject : Subject) : Type 0 where
   pub the_module : subject.«module» ≡ m
-  pub the_flags : subject.flags ≡ record { 0 = bit_or (unwrap_or settings.flags (record { 0 = all_validation_flags })).0 CONSTANTS }
+  pub the_flags : subject.flags
+      ≡ record { 0 = bit_or (unwrap_or settings.flags (record { 0 = all_validation_flags })).0 CONSTANTS }
   pub the_capabilities : subject.capabilities ≡ unwrap_or settings.capabilities (record { 0 = default_capabilities })
   pub overrides : subject.resolved ≡ unwrap_or settings.resolved false
 
@@ -29,5 +30,6 @@ said_in contents = record {
 -- line that can't be read
 abbrev pub IsReadOf : List (List ℕ) → Settings → Read → Type 0
 IsReadOf lines asked (Readable subject) =
-    (contents : Contents) × IsText lines contents × IsSettled contents.«module» (settings_of_both (said_in contents) asked) subject
+    (contents : Contents) × IsText lines contents
+    × IsSettled contents.«module» (settings_of_both (said_in contents) asked) subject
 IsReadOf lines asked (Unreadable unreadable) = IsFirstUnreadable lines unreadable.line

@@ -1,17 +1,12 @@
 -- Counts, which are not 0.
 use Rattle.std.proofs.Common.{◌≡◌, ℕ, ◌<◌, zero, suc, Option, None, Some, refl, sym, ap, ◌∙◌, arith}
-use Rattle.std.proofs.lemmas.Option.{same_Some}
 use Rattle.std.specs.Int.NonZero.{non_zero_u32_get}
 use Rattle.std.specs.Option.{MatchOption}
 use Rattle.std.specs.declared.num.NonZeroU32.{NonZeroU32}
 use Rattle.naga_ir.proofs.SameInner.{non_zero_same}
-use Rattle.naga_words.specs.steps.Operands.{count_of}
+use Rattle.naga_words.specs.Operands.{count_of}
 
--- a count is read of its own number, and of no other
-pub count_found : (n : ℕ) (count : NonZeroU32) → count_of n ≡ Some count → n ≡ non_zero_u32_get count
-count_found zero count h = cc
-count_found (suc n) count h = ap non_zero_u32_get (same_Some _ count h)
-
+-- a count is read of its own number
 pub count_again : (count : NonZeroU32) → count_of (non_zero_u32_get count) ≡ Some count
 count_again count = go count.value count.ok
   where

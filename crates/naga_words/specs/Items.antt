@@ -1,270 +1,215 @@
--- What items say of a module, and to which function or entry point a part belongs.
-use Rattle.std.specs.Prelude.{ℕ, Bool, true, List, [], ◌∷◌, Option, None, Some, filter_map}
-use Rattle.naga_flags.specs.declared.flags.Capabilities.{Capabilities as CapabilitySet}
+-- The items that words say: one reader for each, of its operands, or of those after its name or text if it has one.
+use Rattle.std.specs.Prelude.{◌==◌, ◌-◌, ℕ, List, [], ◌∷◌, Option, Some, None, if◌then◌else◌, nat_le, nat_lt, option_map}
+use Rattle.naga_flags.specs.Bits.{all_capabilities, all_validation_flags}
+use Rattle.naga_flags.specs.declared.flags.Capabilities.{Capabilities}
 use Rattle.naga_flags.specs.declared.flags.ValidationFlags.{ValidationFlags}
-use Rattle.naga_ir.specs.declared.expression.Expression.{Expression as ExpressionType}
-use Rattle.naga_ir.specs.declared.ir.Constant.{Constant as ConstantType}
+use Rattle.naga_ir.specs.declared.ir.Constant.{Constant}
 use Rattle.naga_ir.specs.declared.ir.DiagnosticFilterNode.{DiagnosticFilterNode}
 use Rattle.naga_ir.specs.declared.ir.FunctionArgument.{FunctionArgument}
 use Rattle.naga_ir.specs.declared.ir.FunctionResult.{FunctionResult}
-use Rattle.naga_ir.specs.declared.ir.GlobalVariable.{GlobalVariable as GlobalVariableType}
-use Rattle.naga_ir.specs.declared.ir.LocalVariable.{LocalVariable as LocalVariableType}
+use Rattle.naga_ir.specs.declared.ir.GlobalVariable.{GlobalVariable}
+use Rattle.naga_ir.specs.declared.ir.LocalVariable.{LocalVariable}
 use Rattle.naga_ir.specs.declared.ir.MeshStageInfo.{MeshStageInfo}
-use Rattle.naga_ir.specs.declared.ir.Override.{Override as OverrideType}
-use Rattle.naga_ir.specs.declared.types.«Type».{«Type»}
-use Rattle.naga_words.specs.declared.item.Commented.{Commented}
-use Rattle.naga_words.specs.declared.item.Commented.TheVariants as on
-use Rattle.naga_words.specs.declared.item.Item.{Item}
-use Rattle.naga_words.specs.declared.item.Item.TheVariants.{Flags, Capabilities, Resolved, SpecialTypes, PredeclaredType, Filter, FilterLeaf, Comment, Type_, Constant, Override, GlobalVariable, Expression, Function, EntryPoint, Part}
-use Rattle.naga_words.specs.declared.item.Mark.{Mark as MarkType}
-use Rattle.naga_words.specs.declared.item.Part.{Part as PartType}
-use Rattle.naga_words.specs.declared.item.Part.TheVariants as part
+use Rattle.naga_ir.specs.declared.ir.Override.{Override}
+use Rattle.naga_draft.specs.declared.item.Commented.{Commented}
+use Rattle.naga_draft.specs.declared.item.Commented.TheVariants as on
+use Rattle.naga_draft.specs.declared.item.Item.{Item}
+use Rattle.naga_draft.specs.declared.item.Item.TheVariants as item
+use Rattle.naga_draft.specs.declared.item.Part.{Part}
+use Rattle.naga_draft.specs.declared.item.Part.TheVariants as part
+use Rattle.naga_words.specs.Expressions.{expression_of}
+use Rattle.naga_words.specs.Numbers.{largest_u16, wide}
+use Rattle.naga_words.specs.Operands.{◌>>=◌, binding_of, handle_of, none, nothing_of, only_handle_of, only_of, space_of}
+use Rattle.naga_words.specs.Statements.{mark_of}
+use Rattle.naga_words.specs.Texts.{name_of, text_of}
+use Rattle.naga_words.specs.Types.{type_of}
+use Rattle.naga_words.specs.declared.opcodes.TheConstants as code
 
--- what an item says of a module besides its functions and entry points: of one kind, or of none
-pub record Said : Type 0 where
-  pub flags : Option ValidationFlags
-  pub capabilities : Option CapabilitySet
-  pub resolved : Option Bool
-  pub special_types : Option (Option ℕ × Option ℕ × Option ℕ)
-  pub predeclared_type : Option ℕ
-  pub filter : Option DiagnosticFilterNode
-  pub filter_leaf : Option ℕ
-  pub type : Option «Type»
-  pub constant : Option ConstantType
-  pub id : Option OverrideType
-  pub global_variable : Option GlobalVariableType
-  pub expression : Option ExpressionType
-  pub on_type : Option (ℕ × List (List ℕ))
-  pub on_member : Option ((ℕ × ℕ) × List (List ℕ))
-  pub on_function : Option (ℕ × List (List ℕ))
-  pub on_entry_point : Option (ℕ × List (List ℕ))
-  pub on_constant : Option (ℕ × List (List ℕ))
-  pub on_variable : Option (ℕ × List (List ℕ))
+-- what `reader` reads of the name with which words begin, and of the words after it
+abbrev pub after_name : {A : Type 0} → (Option (List ℕ) → List ℕ → Option A) → List ℕ → Option A
+after_name reader ws = name_of ws >>= (λ name. reader name.0 name.1)
 
--- what an item says that says nothing of these
-abbrev pub nothing : Said
-nothing = record {
-  flags = None;
-  capabilities = None;
-  resolved = None;
-  special_types = None;
-  predeclared_type = None;
-  filter = None;
-  filter_leaf = None;
-  type = None;
-  constant = None;
-  id = None;
-  global_variable = None;
-  expression = None;
-  on_type = None;
-  on_member = None;
-  on_function = None;
-  on_entry_point = None;
-  on_constant = None;
-  on_variable = None;
-}
+-- what `reader` reads of the text with which words begin, and of the words after it
+abbrev pub after_text : {A : Type 0} → (List ℕ → List ℕ → Option A) → List ℕ → Option A
+after_text reader ws = text_of ws >>= (λ text. reader text.0 text.1)
 
--- what an item says that is a comment, which has no texts
-abbrev pub comment : Commented → Said
-comment (on.Type_ ty) = record nothing { on_type = Some (ty, []) }
-comment (on.Member ty index) = record nothing { on_member = Some ((ty, index), []) }
-comment (on.Function function) = record nothing { on_function = Some (function, []) }
-comment (on.EntryPoint index) = record nothing { on_entry_point = Some (index, []) }
-comment (on.Constant constant) = record nothing { on_constant = Some (constant, []) }
-comment (on.GlobalVariable variable) = record nothing { on_variable = Some (variable, []) }
+-- the parts that are validated, of their bits
+abbrev pub flags_of : List ℕ → Option ValidationFlags
+flags_of (bits ∷ []) = if nat_le bits all_validation_flags then Some (record { 0 = bits }) else None
+flags_of _ = None
 
--- what one item says of a module
-abbrev pub said_by : Item → Said
-said_by (Flags flags) = record nothing { flags = Some flags }
-said_by (Capabilities capabilities) = record nothing { capabilities = Some capabilities }
-said_by Resolved = record nothing { resolved = Some true }
-said_by (SpecialTypes ray_desc ray_intersection ray_vertex_return) =
-    record nothing { special_types = Some (ray_desc, ray_intersection, ray_vertex_return) }
-said_by (PredeclaredType ty) = record nothing { predeclared_type = Some ty }
-said_by (Filter filter) = record nothing { filter = Some filter }
-said_by (FilterLeaf leaf) = record nothing { filter_leaf = Some leaf }
-said_by (Comment commented) = comment commented
-said_by (Type_ ty) = record nothing { type = Some ty }
-said_by (Constant constant) = record nothing { constant = Some constant }
-said_by (Override id) = record nothing { id = Some id }
-said_by (GlobalVariable variable) = record nothing { global_variable = Some variable }
-said_by (Expression expression) = record nothing { expression = Some expression }
-said_by (Function name) = nothing
-said_by (EntryPoint name) = nothing
-said_by (Part part) = nothing
+-- what a module may use, of the two words of its bits
+abbrev pub capabilities_of : List ℕ → Option Capabilities
+capabilities_of (low ∷ high ∷ []) =
+    if nat_le (wide low high) all_capabilities then Some (record { 0 = wide low high }) else None
+capabilities_of _ = None
 
--- what items say together of a module besides its functions and entry points, each kind in its order
-pub record AllSaid : Type 0 where
-  pub flags : List ValidationFlags
-  pub capabilities : List CapabilitySet
-  pub resolved : List Bool
-  pub special_types : List (Option ℕ × Option ℕ × Option ℕ)
-  pub predeclared_types : List ℕ
-  pub filters : List DiagnosticFilterNode
-  pub filter_leaves : List ℕ
-  pub types : List «Type»
-  pub constants : List ConstantType
-  pub overrides : List OverrideType
-  pub global_variables : List GlobalVariableType
-  pub expressions : List ExpressionType
-  pub on_types : List (ℕ × List (List ℕ))
-  pub on_members : List ((ℕ × ℕ) × List (List ℕ))
-  pub on_functions : List (ℕ × List (List ℕ))
-  pub on_entry_points : List (ℕ × List (List ℕ))
-  pub on_constants : List (ℕ × List (List ℕ))
-  pub on_variables : List (ℕ × List (List ℕ))
+-- the three special types
+abbrev pub special_types_of : List ℕ → Option Item
+special_types_of (d ∷ i ∷ v ∷ []) = Some (item.SpecialTypes (handle_of d) (handle_of i) (handle_of v))
+special_types_of _ = None
 
--- what all of `items` say together
-abbrev pub all_said : List Item → AllSaid
-all_said items = record {
-  flags = filter_map (λ item. (said_by item).flags) items;
-  capabilities = filter_map (λ item. (said_by item).capabilities) items;
-  resolved = filter_map (λ item. (said_by item).resolved) items;
-  special_types = filter_map (λ item. (said_by item).special_types) items;
-  predeclared_types = filter_map (λ item. (said_by item).predeclared_type) items;
-  filters = filter_map (λ item. (said_by item).filter) items;
-  filter_leaves = filter_map (λ item. (said_by item).filter_leaf) items;
-  types = filter_map (λ item. (said_by item).type) items;
-  constants = filter_map (λ item. (said_by item).constant) items;
-  overrides = filter_map (λ item. (said_by item).id) items;
-  global_variables = filter_map (λ item. (said_by item).global_variable) items;
-  expressions = filter_map (λ item. (said_by item).expression) items;
-  on_types = filter_map (λ item. (said_by item).on_type) items;
-  on_members = filter_map (λ item. (said_by item).on_member) items;
-  on_functions = filter_map (λ item. (said_by item).on_function) items;
-  on_entry_points = filter_map (λ item. (said_by item).on_entry_point) items;
-  on_constants = filter_map (λ item. (said_by item).on_constant) items;
-  on_variables = filter_map (λ item. (said_by item).on_variable) items;
-}
+-- a diagnostic filter, of its parent
+abbrev pub filter_of : List ℕ → Option DiagnosticFilterNode
+filter_of ws = option_map (λ d. record { parent = handle_of d }) (only_of ws)
 
--- what a part says of a function or entry point: of one kind
-pub record SaidOfFunction : Type 0 where
-  pub argument : Option FunctionArgument
-  pub local_variable : Option LocalVariableType
-  pub result : Option FunctionResult
-  pub named_expression : Option (ℕ × List ℕ)
-  pub filter_leaf : Option ℕ
-  pub workgroup_sizes : Option (List (Option ℕ))
-  pub task_payload : Option ℕ
-  pub mesh_output : Option MeshStageInfo
-  pub expression : Option ExpressionType
-  pub mark : Option MarkType
+-- a member of a struct as what a comment is on, of its type and its index
+abbrev pub member_comment_of : List ℕ → Option Commented
+member_comment_of (t ∷ i ∷ []) = do
+  ty ← handle_of t
+  member ← handle_of i
+  Some (on.Member ty member)
+member_comment_of _ = None
 
--- what is left unsaid by a part
-abbrev pub nothing_of_function : SaidOfFunction
-nothing_of_function = record {
-  argument = None;
-  local_variable = None;
-  result = None;
-  named_expression = None;
-  filter_leaf = None;
-  workgroup_sizes = None;
-  task_payload = None;
-  mesh_output = None;
-  expression = None;
-  mark = None;
-}
+-- what a comment of opcode `o` is on
+abbrev pub commented_of : ℕ → List ℕ → Option Commented
+commented_of o ws =
+    if o == code.OP_COMMENT_ON_TYPE then option_map on.Type_ (only_handle_of ws)
+    else if o == code.OP_COMMENT_ON_MEMBER then member_comment_of ws
+    else if o == code.OP_COMMENT_ON_FUNCTION then option_map on.Function (only_handle_of ws)
+    else if o == code.OP_COMMENT_ON_ENTRY_POINT then option_map on.EntryPoint (only_handle_of ws)
+    else if o == code.OP_COMMENT_ON_CONSTANT then option_map on.Constant (only_handle_of ws)
+    else if o == code.OP_COMMENT_ON_GLOBAL_VARIABLE then option_map on.GlobalVariable (only_handle_of ws)
+    else None
 
--- what one part says
-abbrev pub said_by_part : PartType → SaidOfFunction
-said_by_part (part.Argument argument) = record nothing_of_function { argument = Some argument }
-said_by_part (part.LocalVariable variable) = record nothing_of_function { local_variable = Some variable }
-said_by_part (part.Result result) = record nothing_of_function { result = Some result }
-said_by_part (part.NamedExpression named name) = record nothing_of_function { named_expression = Some (named, name) }
-said_by_part (part.FilterLeaf leaf) = record nothing_of_function { filter_leaf = Some leaf }
-said_by_part (part.WorkgroupSizes sizes) = record nothing_of_function { workgroup_sizes = Some sizes }
-said_by_part (part.TaskPayload variable) = record nothing_of_function { task_payload = Some variable }
-said_by_part (part.MeshOutput info) = record nothing_of_function { mesh_output = Some info }
-said_by_part (part.Expression expression) = record nothing_of_function { expression = Some expression }
-said_by_part (part.Mark mark) = record nothing_of_function { mark = Some mark }
+-- the item of opcode `o` that has no name and is neither a type nor an expression
+abbrev pub plain_item_of : ℕ → List ℕ → Option Item
+plain_item_of o ws =
+    if o == code.OP_FLAGS then option_map item.Flags (flags_of ws)
+    else if o == code.OP_CAPABILITIES then option_map item.Capabilities (capabilities_of ws)
+    else if o == code.OP_RESOLVED then option_map (λ _. item.Resolved) (nothing_of ws)
+    else if o == code.OP_SPECIAL_TYPES then special_types_of ws
+    else if o == code.OP_PREDECLARED_TYPE then option_map item.PredeclaredType (only_handle_of ws)
+    else if o == code.OP_FILTER then option_map item.Filter (filter_of ws)
+    else if o == code.OP_FILTER_LEAF then option_map item.FilterLeaf (only_handle_of ws)
+    else option_map item.Comment (commented_of o ws)
 
--- what parts say together of a function or entry point, each kind in its order
-pub record AllParts : Type 0 where
-  pub arguments : List FunctionArgument
-  pub local_variables : List LocalVariableType
-  pub results : List FunctionResult
-  pub named_expressions : List (ℕ × List ℕ)
-  pub filter_leaves : List ℕ
-  pub workgroup_sizes : List (List (Option ℕ))
-  pub task_payloads : List ℕ
-  pub mesh_outputs : List MeshStageInfo
-  pub expressions : List ExpressionType
-  pub marks : List MarkType
+-- a number of 16 bits in a word
+abbrev pub id_of : ℕ → Option ℕ
+id_of w = if nat_le w largest_u16 then Some w else None
 
--- what all of `parts` say together
-abbrev pub all_parts : List PartType → AllParts
-all_parts parts = record {
-  arguments = filter_map (λ p. (said_by_part p).argument) parts;
-  local_variables = filter_map (λ p. (said_by_part p).local_variable) parts;
-  results = filter_map (λ p. (said_by_part p).result) parts;
-  named_expressions = filter_map (λ p. (said_by_part p).named_expression) parts;
-  filter_leaves = filter_map (λ p. (said_by_part p).filter_leaf) parts;
-  workgroup_sizes = filter_map (λ p. (said_by_part p).workgroup_sizes) parts;
-  task_payloads = filter_map (λ p. (said_by_part p).task_payload) parts;
-  mesh_outputs = filter_map (λ p. (said_by_part p).mesh_output) parts;
-  expressions = filter_map (λ p. (said_by_part p).expression) parts;
-  marks = filter_map (λ p. (said_by_part p).mark) parts;
-}
+-- the number of an override, or none
+abbrev pub optional_id_of : ℕ → Option (Option ℕ)
+optional_id_of w = if w == none then Some None else option_map Some (id_of w)
 
--- what begins a function or an entry point: its name
-pub data Head : Type 0 where
-  function : Option (List ℕ) → Head
-  entry_point : List ℕ → Head
+-- a constant of this name
+abbrev pub constant_of : Option (List ℕ) → List ℕ → Option Constant
+constant_of name (t ∷ x ∷ []) = do
+  ty ← handle_of t
+  init ← handle_of x
+  Some (record { name = name; ty = ty; init = init })
+constant_of name _ = None
 
--- what an item is to functions and entry points: it begins one, belongs to one, or neither
-pub data Role : Type 0 where
-  begins : Head → Role
-  belongs : PartType → Role
-  neither : Role
+-- an override of this name
+abbrev pub override_of : Option (List ℕ) → List ℕ → Option Override
+override_of name (t ∷ x ∷ n ∷ []) = do
+  id ← optional_id_of n
+  ty ← handle_of t
+  Some (record { name = name; id = id; ty = ty; init = handle_of x })
+override_of name _ = None
 
--- the role of an item
-abbrev pub role : Item → Role
-role (Flags flags) = neither
-role (Capabilities capabilities) = neither
-role Resolved = neither
-role (SpecialTypes ray_desc ray_intersection ray_vertex_return) = neither
-role (PredeclaredType ty) = neither
-role (Filter filter) = neither
-role (FilterLeaf leaf) = neither
-role (Comment commented) = neither
-role (Type_ ty) = neither
-role (Constant constant) = neither
-role (Override id) = neither
-role (GlobalVariable variable) = neither
-role (Expression expression) = neither
-role (Function name) = begins (function name)
-role (EntryPoint name) = begins (entry_point name)
-role (Part p) = belongs p
+-- a global variable of this name
+abbrev pub global_variable_of : Option (List ℕ) → List ℕ → Option GlobalVariable
+global_variable_of name (s ∷ a ∷ t ∷ x ∷ []) = do
+  space ← space_of s a
+  ty ← handle_of t
+  Some (record { name = name; space = space; ty = ty; init = handle_of x })
+global_variable_of name _ = None
 
--- the parts before the first head, and each head with the parts that belong to it
-abbrev pub Sections : Type 0
-Sections = List PartType × List (Head × List PartType)
+-- the item of opcode `o` that has a name and is no type
+abbrev pub named_item_of : ℕ → Option (List ℕ) → List ℕ → Option Item
+named_item_of o name ws =
+    if o == code.OP_CONSTANT then option_map item.Constant (constant_of name ws)
+    else if o == code.OP_OVERRIDE then option_map item.Override (override_of name ws)
+    else if o == code.OP_GLOBAL_VARIABLE then option_map item.GlobalVariable (global_variable_of name ws)
+    else if o == code.OP_FUNCTION then option_map (λ _. item.Function name) (nothing_of ws)
+    else None
 
--- sections, with an item of a role before them
-abbrev pub with_role : Role → Sections → Sections
-with_role (begins head) later = ([], (head, later.0) ∷ later.1)
-with_role (belongs p) later = (p ∷ later.0, later.1)
-with_role neither later = later
+-- the beginning of an entry point of this name
+abbrev pub entry_point_of : List ℕ → List ℕ → Option Item
+entry_point_of name ws = option_map (λ _. item.EntryPoint name) (nothing_of ws)
 
--- the sections of items: a part belongs to the last head before it
-abbrev pub sections : List Item → Sections
-sections [] = ([], [])
-sections (item ∷ items) = with_role (role item) (sections items)
+-- an argument of this name
+abbrev pub argument_of : Option (List ℕ) → List ℕ → Option FunctionArgument
+argument_of name (t ∷ z ∷ a ∷ b ∷ []) = do
+  ty ← handle_of t
+  binding ← binding_of z a b
+  Some (record { name = name; ty = ty; binding = binding })
+argument_of name _ = None
 
--- a section of a function: its name and its parts
-abbrev pub as_function : Head × List PartType → Option (Option (List ℕ) × List PartType)
-as_function (function name, parts) = Some (name, parts)
-as_function (entry_point name, parts) = None
+-- a local variable of this name
+abbrev pub local_variable_of : Option (List ℕ) → List ℕ → Option LocalVariable
+local_variable_of name (t ∷ x ∷ []) = do
+  ty ← handle_of t
+  Some (record { name = name; ty = ty; init = handle_of x })
+local_variable_of name _ = None
 
--- a section of an entry point: its name and its parts
-abbrev pub as_entry_point : Head × List PartType → Option (List ℕ × List PartType)
-as_entry_point (function name, parts) = None
-as_entry_point (entry_point name, parts) = Some (name, parts)
+-- the part of opcode `o` that has a name
+abbrev pub named_part_of : ℕ → Option (List ℕ) → List ℕ → Option Part
+named_part_of o name ws =
+    if o == code.OP_ARGUMENT then option_map part.Argument (argument_of name ws)
+    else if o == code.OP_LOCAL_VARIABLE then option_map part.LocalVariable (local_variable_of name ws)
+    else None
 
--- the names and parts of all functions among sections
-abbrev pub functions_in : List (Head × List PartType) → List (Option (List ℕ) × List PartType)
-functions_in all = filter_map as_function all
+-- the result of a function
+abbrev pub function_result_of : List ℕ → Option FunctionResult
+function_result_of (t ∷ z ∷ a ∷ b ∷ []) = do
+  ty ← handle_of t
+  binding ← binding_of z a b
+  Some (record { ty = ty; binding = binding })
+function_result_of _ = None
 
--- the names and parts of all entry points among sections
-abbrev pub entry_points_in : List (Head × List PartType) → List (List ℕ × List PartType)
-entry_points_in all = filter_map as_entry_point all
+-- the expression that has this text as its name
+abbrev pub named_expression_of : List ℕ → List ℕ → Option Part
+named_expression_of text ws = option_map (λ expression. part.NamedExpression expression text) (only_handle_of ws)
+
+-- the overrides of a workgroup's sizes
+abbrev pub workgroup_sizes_of : List ℕ → Option (List (Option ℕ))
+workgroup_sizes_of (x ∷ y ∷ z ∷ []) = Some (handle_of x ∷ handle_of y ∷ handle_of z ∷ [])
+workgroup_sizes_of _ = None
+
+-- the output of a mesh shader
+abbrev pub mesh_output_of : List ℕ → Option MeshStageInfo
+mesh_output_of (o ∷ v ∷ p ∷ n ∷ m ∷ []) = do
+  variable ← handle_of o
+  vertex ← handle_of v
+  primitive ← handle_of p
+  Some (record {
+    output_variable = variable;
+    vertex_output_type = vertex;
+    primitive_output_type = primitive;
+    max_vertices_override = handle_of n;
+    max_primitives_override = handle_of m;
+  })
+mesh_output_of _ = None
+
+-- the part of opcode `o` that has neither a name nor a text and is no expression or mark
+abbrev pub plain_part_of : ℕ → List ℕ → Option Part
+plain_part_of o ws =
+    if o == code.OP_RESULT then option_map part.Result (function_result_of ws)
+    else if o == code.OP_FUNCTION_FILTER_LEAF then option_map part.FilterLeaf (only_handle_of ws)
+    else if o == code.OP_WORKGROUP_SIZES then option_map part.WorkgroupSizes (workgroup_sizes_of ws)
+    else if o == code.OP_TASK_PAYLOAD then option_map part.TaskPayload (only_handle_of ws)
+    else if o == code.OP_MESH_OUTPUT then option_map part.MeshOutput (mesh_output_of ws)
+    else None
+
+-- what an item of opcode `o` says of a function or entry point
+abbrev pub part_of : ℕ → List ℕ → Option Part
+part_of o ws =
+    if nat_lt o code.OP_RESULT then after_name (named_part_of o) ws
+    else if o == code.OP_NAMED_EXPRESSION then after_text named_expression_of ws
+    else if nat_lt o code.OP_EXPRESSION then plain_part_of o ws
+    else if nat_lt o code.STATEMENT_EMIT then option_map part.Expression (expression_of (o - code.OP_EXPRESSION) ws)
+    else option_map part.Mark (mark_of o ws)
+
+-- the item of an opcode and its operands
+abbrev pub item_of : ℕ → List ℕ → Option Item
+item_of o ws =
+    if nat_lt o code.OP_SCALAR then plain_item_of o ws
+    else if nat_lt o code.OP_CONSTANT then option_map item.Type_ (type_of o ws)
+    else if nat_lt o code.OP_ENTRY_POINT then after_name (named_item_of o) ws
+    else if o == code.OP_ENTRY_POINT then after_text entry_point_of ws
+    else if nat_lt o code.OP_GLOBAL_EXPRESSION then option_map item.Part (part_of o ws)
+    else if nat_lt o code.OP_EXPRESSION then
+    option_map item.Expression (expression_of (o - code.OP_GLOBAL_EXPRESSION) ws)
+    else option_map item.Part (part_of o ws)

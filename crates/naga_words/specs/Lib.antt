@@ -1,25 +1,23 @@
 -- To read first:
 -- Tables: the values that words stand for
--- Parts.Matches: which words a form can have, one by one
--- Texts.IsTextBefore, IsNameBefore: the text or the name with which words begin
--- Forms.type_form, expression_form, literal_form: the operands of each form; type_number, expression_number: its number
--- StatementForms.statement_form, statement_number: the same of statements
--- TypeItems.IsTypeItem: the item of a type; MarkForms.IsMarkForm: an item of a body
--- ItemForms.IsForm: the opcode and the operands of each item; IsPartForm: of a part of a function or entry point
--- Items.said_by, said_by_part, sections: what an item says, and to which function or entry point a part belongs
--- Bodies.IsBody: which marks say a body
--- Words.AreItems, Say, IsWords: what words say
--- Words.CanBegin, IsFirstUnreadable: which items can begin a module, and the first item that can't be read
-pub mod Bodies
-pub mod Forms
-pub mod ItemForms
+-- Operands: the value of one operand, or of a few that belong together
+-- Texts.text_of, name_of: the text or the name with which words begin
+-- Types.type_of, Expressions.expression_of, Statements.mark_of: the value of an opcode or a form and its operands
+-- Items.item_of, part_of: the item of an opcode and its operands
+-- Words.items_of, IsWords: what words say
+-- Words.IsFirstUnreadable: the first item that can't be read
+-- Writing.item, item_words: the opcode and the operands of an item, and its words
+-- ModuleWords.words_of, CanBeSaid: the words of a module, if words can say it; AreSame: contents that differ in the room of vectors at most
+pub mod Expressions
 pub mod Items
-pub mod MarkForms
+pub mod ModuleWords
 pub mod Numbers
-pub mod Parts
-pub mod StatementForms
+pub mod Operands
+pub mod Reading
+pub mod Statements
 pub mod Tables
 pub mod Texts
-pub mod TypeItems
+pub mod Types
 pub mod Words
+pub mod Writing
 pub mod steps

@@ -1,174 +1,55 @@
 -- What words say, and where words that say nothing can't be read.
-use Rattle.std.specs.List.{AllZip}
-use Rattle.std.specs.Prelude.{◌≡◌, ℕ, ◌<◌, ◌≤◌, ◌+◌, ◌*◌, false, List, [], ◌∷◌, ◌++◌, ◌⊎◌, Option, None, Some, drop, length, slice_get, take, unwrap_or}
-use Rattle.naga_arena.specs.Numbers.{largest_u32}
-use Rattle.naga_ir.specs.Distinct.{AllDistinct}
-use Rattle.naga_ir.specs.declared.ir.EntryPoint.{EntryPoint as EntryPointType}
-use Rattle.naga_ir.specs.declared.ir.Function.{Function as FunctionType}
-use Rattle.naga_ir.specs.declared.ir.Module.{Module}
-use Rattle.naga_ir.specs.declared.ir.SpecialTypes.{SpecialTypes as SpecialTypesOfModule}
-use Rattle.naga_ir.specs.declared.statement.Block.{Block}
-use Rattle.naga_words.specs.Bodies.{IsBody}
-use Rattle.naga_words.specs.ItemForms.{IsForm}
-use Rattle.naga_words.specs.Items.{AllParts, AllSaid, all_parts, all_said, entry_points_in, functions_in, sections}
-use Rattle.naga_words.specs.declared.item.Item.{Item}
-use Rattle.naga_words.specs.declared.item.Part.{Part as PartType}
-use Rattle.naga_words.specs.declared.draft.Contents.{Contents}
+use Rattle.std.specs.Prelude.{◌≡◌, ℕ, ◌≤◌, ◌+◌, ◌*◌, ◌/◌, ◌%◌, Bool, false, List, [], ◌∷◌, ◌++◌, Option, None, Some, drop, if◌then◌else◌, length, nat_eq, nat_le, take}
+use Rattle.std.specs.Cmp.Lexicographic.{pointwise}
+use Rattle.naga_draft.specs.Modules.{CanBegin, Say}
+use Rattle.naga_draft.specs.declared.draft.Contents.{Contents}
+use Rattle.naga_draft.specs.declared.item.Item.{Item}
+use Rattle.naga_words.specs.Items.{item_of}
+use Rattle.naga_words.specs.Operands.{◌>>=◌}
+use Rattle.naga_words.specs.Reading.{read_all}
+use Rattle.naga_words.specs.declared.opcodes.TheConstants as code
 use Rattle.naga_words.specs.declared.reader.WordsError.{WordsError}
 use Rattle.naga_words.specs.declared.reader.WordsError.TheVariants as error
 
--- `words` begin with the words of `item`, a head and operands, and `rest` follows
-pub record IsItemBefore (words : List ℕ) (item : Item) (rest : List ℕ) : Type 0 where
-  pub opcode : ℕ
-  pub operands : List ℕ
-  pub words_are : words ≡ (length operands * 256 + opcode) ∷ operands ++ rest
-  pub small : opcode < 256
-  pub form : IsForm opcode operands item
-
--- `words` are the words of `items`, one after another
-abbrev pub AreItems : List ℕ → List Item → Type 0
-AreItems words [] = words ≡ []
-AreItems words (item ∷ items) = (rest : List ℕ) × IsItemBefore words item rest × AreItems rest items
+-- the item with which words begin, and the words after it: of a head, which has the number of the operands above the
+-- opcode, and of as many operands
+abbrev pub first_item : List ℕ → Option (Item × List ℕ)
+first_item [] = None
+first_item (head ∷ ws) =
+    if nat_le (head / 256) (length ws) then
+    item_of (head % 256) (take (head / 256) ws) >>= (λ item. Some (item, drop (head / 256) ws))
+    else None
 
 -- the words of a header: an item of opcode 15 with two operands, the bytes of "NAGW" and the version of the words, 1
 abbrev pub header : List ℕ
-header = (2 * 256 + 15) ∷ 0x5747_414e ∷ 1 ∷ []
+header = (2 * 256 + code.OP_HEADER) ∷ 0x5747_414e ∷ 1 ∷ []
 
--- `words` are the words of `items`, after a header or without one
-abbrev pub AreWordsOf : List ℕ → List Item → Type 0
-AreWordsOf words items = AreItems words items ⊎ ((rest : List ℕ) × (words ≡ header ++ rest) × AreItems rest items)
+-- `words` begin with a header
+abbrev pub have_header : List ℕ → Bool
+have_header words = pointwise nat_eq (take (length header) words) header
 
--- the first of a list, if it has one
-abbrev pub first_of : {A : Type 0} → List A → Option A
-first_of xs = slice_get xs 0
+-- `words` without the header with which they begin, if they begin with one
+abbrev pub after_header : List ℕ → List ℕ
+after_header words = if have_header words then drop (length header) words else words
 
--- the function of this name, of what its parts say, and of a body
-abbrev pub function_of : Option (List ℕ) → AllParts → Block → FunctionType
-function_of name s body = record {
-  name = name;
-  arguments = s.arguments;
-  result = first_of s.results;
-  local_variables = s.local_variables;
-  expressions = s.expressions;
-  named_expressions = s.named_expressions;
-  body = body;
-  diagnostic_filter_leaf = first_of s.filter_leaves;
-}
+-- the items that are one after another the words, after a header or without one
+abbrev pub items_of : List ℕ → Option (List Item)
+items_of words = read_all first_item (after_header words)
 
--- the entry point of this name, of what its parts say, and of the body of its function
-abbrev pub entry_point_of : List ℕ → AllParts → Block → EntryPointType
-entry_point_of name s body = record {
-  name = name;
-  workgroup_size_overrides = first_of s.workgroup_sizes;
-  function = function_of None s body;
-  task_payload = first_of s.task_payloads;
-  mesh_info = first_of s.mesh_outputs;
-}
-
--- parts say once at most what may be said once, and arenas have room for the rest
-pub record ArePartsConsistent (s : AllParts) : Type 0 where
-  pub results : length s.results ≤ 1
-  pub filter_leaves : length s.filter_leaves ≤ 1
-  pub workgroup_sizes : length s.workgroup_sizes ≤ 1
-  pub task_payloads : length s.task_payloads ≤ 1
-  pub mesh_outputs : length s.mesh_outputs ≤ 1
-  pub room_for_local_variables : length s.local_variables ≤ largest_u32
-  pub room_for_expressions : length s.expressions ≤ largest_u32
-
--- parts say nothing that only entry points have
-pub record HasNoEntryParts (s : AllParts) : Type 0 where
-  pub workgroup_sizes : s.workgroup_sizes ≡ []
-  pub task_payloads : s.task_payloads ≡ []
-  pub mesh_outputs : s.mesh_outputs ≡ []
-
--- the section of a name and parts is the function `f`
-pub record IsFunctionOf (section : Option (List ℕ) × List PartType) (f : FunctionType) : Type 0 where
-  pub consistent : ArePartsConsistent (all_parts section.1)
-  pub no_entry_parts : HasNoEntryParts (all_parts section.1)
-  pub body : IsBody (all_parts section.1).marks f.body
-  pub function_is : f ≡ function_of section.0 (all_parts section.1) f.body
-
--- the section of a name and parts is the entry point `e`
-pub record IsEntryPointOf (section : List ℕ × List PartType) (e : EntryPointType) : Type 0 where
-  pub consistent : ArePartsConsistent (all_parts section.1)
-  pub body : IsBody (all_parts section.1).marks e.function.body
-  pub entry_point_is : e ≡ entry_point_of section.0 (all_parts section.1) e.function.body
-
--- the special types that are said, or none, and the types of built-in functions
-abbrev pub special_types_of : Option (Option ℕ × Option ℕ × Option ℕ) → List ℕ → SpecialTypesOfModule
-special_types_of None others = record { ray_desc = None; ray_intersection = None; ray_vertex_return = None; others = others }
-special_types_of (Some special) others = record { ray_desc = special.0; ray_intersection = special.1; ray_vertex_return = special.2; others = others }
-
--- the module of what items say, with these functions and entry points
-abbrev pub module_of : AllSaid → List FunctionType → List EntryPointType → Module
-module_of s functions entry_points = record {
-  types = s.types;
-  special_types = special_types_of (first_of s.special_types) s.predeclared_types;
-  constants = s.constants;
-  overrides = s.overrides;
-  global_variables = s.global_variables;
-  global_expressions = s.expressions;
-  functions = functions;
-  entry_points = entry_points;
-  diagnostic_filters = s.filters;
-  diagnostic_filter_leaf = first_of s.filter_leaves;
-  doc_comments = record {
-    «module» = [];
-    types = s.on_types;
-    struct_members = s.on_members;
-    entry_points = s.on_entry_points;
-    functions = s.on_functions;
-    constants = s.on_constants;
-    global_variables = s.on_variables;
-  };
-}
-
--- items say once at most what may be said once, each type once, and arenas have room for the rest
-pub record AreConsistent (s : AllSaid) : Type 0 where
-  pub flags : length s.flags ≤ 1
-  pub capabilities : length s.capabilities ≤ 1
-  pub resolved : length s.resolved ≤ 1
-  pub special_types : length s.special_types ≤ 1
-  pub filter_leaves : length s.filter_leaves ≤ 1
-  pub types : AllDistinct s.types
-  pub room_for_types : length s.types ≤ largest_u32
-  pub room_for_constants : length s.constants ≤ largest_u32
-  pub room_for_overrides : length s.overrides ≤ largest_u32
-  pub room_for_variables : length s.global_variables ≤ largest_u32
-  pub room_for_expressions : length s.expressions ≤ largest_u32
-  pub room_for_filters : length s.filters ≤ largest_u32
-
--- items say together `contents`: each part belongs to a function or entry point, and each of these is one
-pub record Say (items : List Item) (contents : Contents) : Type 0 where
-  pub consistent : AreConsistent (all_said items)
-  pub room_for_functions : length (functions_in (sections items).1) ≤ largest_u32
-  pub no_part_before : (sections items).0 ≡ []
-  pub functions : AllZip IsFunctionOf (functions_in (sections items).1) contents.«module».functions
-  pub entry_points : AllZip IsEntryPointOf (entry_points_in (sections items).1) contents.«module».entry_points
-  pub contents_are : contents ≡ record {
-    «module» = module_of (all_said items) contents.«module».functions contents.«module».entry_points;
-    flags = first_of (all_said items).flags;
-    capabilities = first_of (all_said items).capabilities;
-    resolved = unwrap_or (first_of (all_said items).resolved) false;
-  }
-
--- `words` are items that say together `contents`, after a header or without one
+-- `words` are items that say together `contents`
 abbrev pub IsWords : List ℕ → Contents → Type 0
-IsWords words contents = (items : List Item) × AreWordsOf words items × Say items contents
-
--- some items after `items` complete what can be read
-abbrev pub CanBegin : List Item → Type 0
-CanBegin items = (more : List Item) × (contents : Contents) × Say (items ++ more) contents
+IsWords words contents = (items : List Item) × (items_of words ≡ Some items) × Say items contents
 
 -- the words before the index `at` are items that can begin a module, after a header or without one, and there no item
 -- can stand, nor a header, nor the end
 pub record IsFirstUnreadable (words : List ℕ) (at : ℕ) : Type 0 where
   pub items : List Item
-  pub before : AreWordsOf (take at words) items
+  pub before : items_of (take at words) ≡ Some items
   pub within : at ≤ length words
   pub begins : CanBegin items
-  pub no_item : (item : Item) (rest : List ℕ) → IsItemBefore (drop at words) item rest → ¬ (CanBegin (items ++ item ∷ []))
-  pub no_header : at ≡ 0 → (rest : List ℕ) → ¬ (words ≡ header ++ rest)
+  pub no_item : (item : Item) (rest : List ℕ) → first_item (drop at words) ≡ Some (item, rest)
+      → ¬ (CanBegin (items ++ item ∷ []))
+  pub no_header : at ≡ 0 → have_header words ≡ false
   pub no_end : at ≡ length words → (contents : Contents) → ¬ (Say items contents)
 
 -- an error names the index of a word of which this holds

@@ -1,29 +1,25 @@
 //! The expressions that words describe, one function a form.
 
-ghost use Rattle.naga_words.specs.steps.ExpressionReaders.{HasNumber, access_index_of, access_of, array_length_of, as_expression_of, atomic_result_of, ballot_result_of, binary_of, call_result_of, constant_of, cooperative_load_of, cooperative_multiply_add_of, derivative_of, early_form_of, form_of, function_argument_of, global_variable_of, image_load_of, image_query_of, image_sample_of, intersection_of, late_form_of, literal_expression_of, load_of, local_variable_of, math_of, override_expression_of, proceed_result_of, relational_of, select_of, splat_of, subgroup_result_of, swizzle_of, unary_of, vertex_positions_of, workgroup_load_result_of, zero_value_of};
-ghost use Rattle.naga_words.specs.steps.Operands.{converted_width_of, level_of, query_of};
-ghost use Rattle.naga_words.specs.steps.Reading.{compose_of, expression_of};
-ghost use Rattle.naga_words.specs.declared.unread.Unread.TheVariants as unread;
-ghost use Rattle.naga_ir.specs.declared.expression.Expression.{Expression as ExpressionType};
-ghost use Rattle.std.specs.Prelude.{◌≡◌, IfErr, IfOk, None, Some};
+ghost use Rattle.naga_words.specs.Expressions.{compose_of, early_forms, expression_of, image_query_of, image_sample_of, late_forms, swizzle_of};
+ghost use Rattle.naga_words.specs.Operands.{converted_width_of, handle_of, level_of, literal_of, query_of, size_of};
+ghost use Rattle.naga_words.specs.Reading.{read_by, reads_five, reads_none, reads_one, reads_three, reads_triple, reads_two};
+ghost use Rattle.naga_words.specs.Tables.{binary_operators, bools, kinds, math_functions, relational_functions, unary_operators};
+ghost use Rattle.naga_ir.specs.declared.expression.Expression.TheVariants as x;
+ghost use Rattle.naga_draft.specs.declared.unread.Unread.TheVariants as unread;
+ghost use Rattle.std.specs.Prelude.{◌≡◌, IfErr, IfOk, None, Some, slice_get};
 
 use crate::literals::literal;
+use crate::opcodes as code;
 use crate::operands::{
     NONE, binary_operator, boolean, component, expressions, handle, kind, math_function,
     optional_component, relational_function, size, unary_operator, width, zero,
 };
-use crate::unread::Unread;
+use naga_draft::unread::{Unread, known};
 use naga_ir::expression::{Expression, ImageQuery, SampleLevel};
 use std::alloc::Global;
 
-/// The form of `compose`.
-const COMPOSE: u8 = 4;
-
-/// The first form that `late_form` reads.
-const FIRST_LATE: u8 = 16;
-
 fn literal_expression(operands: &[u32]) -> Option<Expression>
-    ensures { result ≡ literal_expression_of operands.now }
+    ensures { result ≡ reads_triple literal_of x.Literal operands.now }
 {
     let [form, low, high] = operands else {
         return None
@@ -32,28 +28,28 @@ fn literal_expression(operands: &[u32]) -> Option<Expression>
 }
 
 fn constant(operands: &[u32]) -> Option<Expression>
-    ensures { result ≡ constant_of operands.now }
+    ensures { result ≡ reads_one handle_of x.Constant operands.now }
 {
     let [constant] = operands else { return None };
     Some(Expression::Constant(handle(*constant)?))
 }
 
 fn override_expression(operands: &[u32]) -> Option<Expression>
-    ensures { result ≡ override_expression_of operands.now }
+    ensures { result ≡ reads_one handle_of x.Override operands.now }
 {
     let [id] = operands else { return None };
     Some(Expression::Override(handle(*id)?))
 }
 
 fn zero_value(operands: &[u32]) -> Option<Expression>
-    ensures { result ≡ zero_value_of operands.now }
+    ensures { result ≡ reads_one handle_of x.ZeroValue operands.now }
 {
     let [ty] = operands else { return None };
     Some(Expression::ZeroValue(handle(*ty)?))
 }
 
 fn access(operands: &[u32]) -> Option<Expression>
-    ensures { result ≡ access_of operands.now }
+    ensures { result ≡ reads_two handle_of handle_of x.Access operands.now }
 {
     let [base, index] = operands else { return None };
     Some(Expression::Access {
@@ -63,7 +59,7 @@ fn access(operands: &[u32]) -> Option<Expression>
 }
 
 fn access_index(operands: &[u32]) -> Option<Expression>
-    ensures { result ≡ access_index_of operands.now }
+    ensures { result ≡ reads_two handle_of Some x.AccessIndex operands.now }
 {
     let [base, index] = operands else { return None };
     Some(Expression::AccessIndex {
@@ -73,7 +69,7 @@ fn access_index(operands: &[u32]) -> Option<Expression>
 }
 
 fn splat(operands: &[u32]) -> Option<Expression>
-    ensures { result ≡ splat_of operands.now }
+    ensures { result ≡ reads_two size_of handle_of x.Splat operands.now }
 {
     let [components, value] = operands else {
         return None
@@ -103,28 +99,28 @@ fn swizzle(operands: &[u32]) -> Option<Expression>
 }
 
 fn function_argument(operands: &[u32]) -> Option<Expression>
-    ensures { result ≡ function_argument_of operands.now }
+    ensures { result ≡ reads_one Some x.FunctionArgument operands.now }
 {
     let [index] = operands else { return None };
     Some(Expression::FunctionArgument(*index))
 }
 
 fn global_variable(operands: &[u32]) -> Option<Expression>
-    ensures { result ≡ global_variable_of operands.now }
+    ensures { result ≡ reads_one handle_of x.GlobalVariable operands.now }
 {
     let [variable] = operands else { return None };
     Some(Expression::GlobalVariable(handle(*variable)?))
 }
 
 fn local_variable(operands: &[u32]) -> Option<Expression>
-    ensures { result ≡ local_variable_of operands.now }
+    ensures { result ≡ reads_one handle_of x.LocalVariable operands.now }
 {
     let [variable] = operands else { return None };
     Some(Expression::LocalVariable(handle(*variable)?))
 }
 
 fn load(operands: &[u32]) -> Option<Expression>
-    ensures { result ≡ load_of operands.now }
+    ensures { result ≡ reads_one handle_of x.Load operands.now }
 {
     let [pointer] = operands else { return None };
     Some(Expression::Load {
@@ -191,7 +187,7 @@ fn image_sample(operands: &[u32]) -> Option<Expression>
 }
 
 fn image_load(operands: &[u32]) -> Option<Expression>
-    ensures { result ≡ image_load_of operands.now }
+    ensures { result ≡ reads_five handle_of handle_of x.ImageLoad operands.now }
 {
     let [image, coordinate, index, sample, by] = operands else {
         return None;
@@ -236,7 +232,7 @@ fn image_query(operands: &[u32]) -> Option<Expression>
 }
 
 fn unary(operands: &[u32]) -> Option<Expression>
-    ensures { result ≡ unary_of operands.now }
+    ensures { result ≡ reads_two (slice_get unary_operators) handle_of x.Unary operands.now }
 {
     let [op, value] = operands else { return None };
     Some(Expression::Unary {
@@ -246,7 +242,7 @@ fn unary(operands: &[u32]) -> Option<Expression>
 }
 
 fn binary(operands: &[u32]) -> Option<Expression>
-    ensures { result ≡ binary_of operands.now }
+    ensures { result ≡ reads_three (slice_get binary_operators) handle_of handle_of x.Binary operands.now }
 {
     let [op, left, right] = operands else {
         return None
@@ -259,7 +255,7 @@ fn binary(operands: &[u32]) -> Option<Expression>
 }
 
 fn select(operands: &[u32]) -> Option<Expression>
-    ensures { result ≡ select_of operands.now }
+    ensures { result ≡ reads_three handle_of handle_of handle_of x.Select operands.now }
 {
     let [condition, accept, reject] = operands else {
         return None
@@ -272,7 +268,7 @@ fn select(operands: &[u32]) -> Option<Expression>
 }
 
 fn derivative(operands: &[u32]) -> Option<Expression>
-    ensures { result ≡ derivative_of operands.now }
+    ensures { result ≡ reads_one handle_of x.Derivative operands.now }
 {
     let [value] = operands else { return None };
     Some(Expression::Derivative {
@@ -281,7 +277,7 @@ fn derivative(operands: &[u32]) -> Option<Expression>
 }
 
 fn relational(operands: &[u32]) -> Option<Expression>
-    ensures { result ≡ relational_of operands.now }
+    ensures { result ≡ reads_two (slice_get relational_functions) handle_of x.Relational operands.now }
 {
     let [fun, argument] = operands else {
         return None
@@ -293,7 +289,7 @@ fn relational(operands: &[u32]) -> Option<Expression>
 }
 
 fn math(operands: &[u32]) -> Option<Expression>
-    ensures { result ≡ math_of operands.now }
+    ensures { result ≡ reads_five (slice_get math_functions) handle_of x.Math operands.now }
 {
     let [fun, arg, arg1, arg2, arg3] = operands else {
         return None
@@ -318,7 +314,7 @@ fn converted_width(word: u32) -> Option<Option<u8>>
 }
 
 fn as_expression(operands: &[u32]) -> Option<Expression>
-    ensures { result ≡ as_expression_of operands.now }
+    ensures { result ≡ reads_three handle_of (slice_get kinds) converted_width_of x.As operands.now }
 {
     let [value, of_kind, of_width] = operands else {
         return None
@@ -331,14 +327,14 @@ fn as_expression(operands: &[u32]) -> Option<Expression>
 }
 
 fn call_result(operands: &[u32]) -> Option<Expression>
-    ensures { result ≡ call_result_of operands.now }
+    ensures { result ≡ reads_one handle_of x.CallResult operands.now }
 {
     let [function] = operands else { return None };
     Some(Expression::CallResult(handle(*function)?))
 }
 
 fn atomic_result(operands: &[u32]) -> Option<Expression>
-    ensures { result ≡ atomic_result_of operands.now }
+    ensures { result ≡ reads_two handle_of (slice_get bools) x.AtomicResult operands.now }
 {
     let [ty, comparison] = operands else {
         return None
@@ -350,28 +346,28 @@ fn atomic_result(operands: &[u32]) -> Option<Expression>
 }
 
 fn workgroup_load_result(operands: &[u32]) -> Option<Expression>
-    ensures { result ≡ workgroup_load_result_of operands.now }
+    ensures { result ≡ reads_one handle_of x.WorkGroupUniformLoadResult operands.now }
 {
     let [ty] = operands else { return None };
     Some(Expression::WorkGroupUniformLoadResult { ty: handle(*ty)? })
 }
 
 fn array_length(operands: &[u32]) -> Option<Expression>
-    ensures { result ≡ array_length_of operands.now }
+    ensures { result ≡ reads_one handle_of x.ArrayLength operands.now }
 {
     let [array] = operands else { return None };
     Some(Expression::ArrayLength(handle(*array)?))
 }
 
 fn proceed_result(operands: &[u32]) -> Option<Expression>
-    ensures { result ≡ proceed_result_of operands.now }
+    ensures { result ≡ reads_none x.RayQueryProceedResult operands.now }
 {
     let [] = operands else { return None };
     Some(Expression::RayQueryProceedResult)
 }
 
 fn intersection(operands: &[u32]) -> Option<Expression>
-    ensures { result ≡ intersection_of operands.now }
+    ensures { result ≡ reads_two handle_of (slice_get bools) x.RayQueryGetIntersection operands.now }
 {
     let [query, committed] = operands else {
         return None
@@ -383,7 +379,7 @@ fn intersection(operands: &[u32]) -> Option<Expression>
 }
 
 fn vertex_positions(operands: &[u32]) -> Option<Expression>
-    ensures { result ≡ vertex_positions_of operands.now }
+    ensures { result ≡ reads_two handle_of (slice_get bools) x.RayQueryVertexPositions operands.now }
 {
     let [query, committed] = operands else {
         return None
@@ -395,21 +391,21 @@ fn vertex_positions(operands: &[u32]) -> Option<Expression>
 }
 
 fn ballot_result(operands: &[u32]) -> Option<Expression>
-    ensures { result ≡ ballot_result_of operands.now }
+    ensures { result ≡ reads_none x.SubgroupBallotResult operands.now }
 {
     let [] = operands else { return None };
     Some(Expression::SubgroupBallotResult)
 }
 
 fn subgroup_result(operands: &[u32]) -> Option<Expression>
-    ensures { result ≡ subgroup_result_of operands.now }
+    ensures { result ≡ reads_one handle_of x.SubgroupOperationResult operands.now }
 {
     let [ty] = operands else { return None };
     Some(Expression::SubgroupOperationResult { ty: handle(*ty)? })
 }
 
 fn cooperative_load(operands: &[u32]) -> Option<Expression>
-    ensures { result ≡ cooperative_load_of operands.now }
+    ensures { result ≡ reads_two handle_of handle_of x.CooperativeLoad operands.now }
 {
     let [pointer, stride] = operands else {
         return None
@@ -421,7 +417,7 @@ fn cooperative_load(operands: &[u32]) -> Option<Expression>
 }
 
 fn cooperative_multiply_add(operands: &[u32]) -> Option<Expression>
-    ensures { result ≡ cooperative_multiply_add_of operands.now }
+    ensures { result ≡ reads_three handle_of handle_of handle_of x.CooperativeMultiplyAdd operands.now }
 {
     let [a, b, c] = operands else { return None };
     Some(Expression::CooperativeMultiplyAdd {
@@ -433,51 +429,51 @@ fn cooperative_multiply_add(operands: &[u32]) -> Option<Expression>
 
 /// The expression of one of the first forms, except `compose`.
 fn early_form(form: u8, operands: &[u32]) -> Option<Expression>
-    ensures { result ≡ early_form_of form operands.now }
+    ensures { result ≡ read_by early_forms form operands.now }
 {
     match form {
-        0 => literal_expression(operands),
-        1 => constant(operands),
-        2 => override_expression(operands),
-        3 => zero_value(operands),
-        5 => access(operands),
-        6 => access_index(operands),
-        7 => splat(operands),
-        8 => swizzle(operands),
-        9 => function_argument(operands),
-        10 => global_variable(operands),
-        11 => local_variable(operands),
-        12 => load(operands),
-        13 => image_sample(operands),
-        14 => image_load(operands),
-        15 => image_query(operands),
+        code::FORM_LITERAL => literal_expression(operands),
+        code::FORM_CONSTANT => constant(operands),
+        code::FORM_OVERRIDE => override_expression(operands),
+        code::FORM_ZERO_VALUE => zero_value(operands),
+        code::FORM_ACCESS => access(operands),
+        code::FORM_ACCESS_INDEX => access_index(operands),
+        code::FORM_SPLAT => splat(operands),
+        code::FORM_SWIZZLE => swizzle(operands),
+        code::FORM_FUNCTION_ARGUMENT => function_argument(operands),
+        code::FORM_GLOBAL_VARIABLE => global_variable(operands),
+        code::FORM_LOCAL_VARIABLE => local_variable(operands),
+        code::FORM_LOAD => load(operands),
+        code::FORM_IMAGE_SAMPLE => image_sample(operands),
+        code::FORM_IMAGE_LOAD => image_load(operands),
+        code::FORM_IMAGE_QUERY => image_query(operands),
         _ => None,
     }
 }
 
 /// The expression of one of the other forms.
 fn late_form(form: u8, operands: &[u32]) -> Option<Expression>
-    ensures { result ≡ late_form_of form operands.now }
+    ensures { result ≡ read_by late_forms form operands.now }
 {
     match form {
-        16 => unary(operands),
-        17 => binary(operands),
-        18 => select(operands),
-        19 => derivative(operands),
-        20 => relational(operands),
-        21 => math(operands),
-        22 => as_expression(operands),
-        23 => call_result(operands),
-        24 => atomic_result(operands),
-        25 => workgroup_load_result(operands),
-        26 => array_length(operands),
-        27 => proceed_result(operands),
-        28 => intersection(operands),
-        29 => vertex_positions(operands),
-        30 => ballot_result(operands),
-        31 => subgroup_result(operands),
-        32 => cooperative_load(operands),
-        33 => cooperative_multiply_add(operands),
+        code::FORM_UNARY => unary(operands),
+        code::FORM_BINARY => binary(operands),
+        code::FORM_SELECT => select(operands),
+        code::FORM_DERIVATIVE => derivative(operands),
+        code::FORM_RELATIONAL => relational(operands),
+        code::FORM_MATH => math(operands),
+        code::FORM_AS => as_expression(operands),
+        code::FORM_CALL_RESULT => call_result(operands),
+        code::FORM_ATOMIC_RESULT => atomic_result(operands),
+        code::FORM_WORKGROUP_UNIFORM_LOAD_RESULT => workgroup_load_result(operands),
+        code::FORM_ARRAY_LENGTH => array_length(operands),
+        code::FORM_RAY_QUERY_PROCEED_RESULT => proceed_result(operands),
+        code::FORM_RAY_QUERY_GET_INTERSECTION => intersection(operands),
+        code::FORM_RAY_QUERY_VERTEX_POSITIONS => vertex_positions(operands),
+        code::FORM_SUBGROUP_BALLOT_RESULT => ballot_result(operands),
+        code::FORM_SUBGROUP_OPERATION_RESULT => subgroup_result(operands),
+        code::FORM_COOPERATIVE_LOAD => cooperative_load(operands),
+        code::FORM_COOPERATIVE_MULTIPLY_ADD => cooperative_multiply_add(operands),
         _ => None,
     }
 }
@@ -496,37 +492,17 @@ fn compose(alloc: Global, operands: &[u32]) -> Result<Expression, Unread>
     Ok(Expression::Compose { ty, components })
 }
 
-/// The expression of a form other than `compose`.
-fn simple_form(form: u8, operands: &[u32]) -> Option<Expression>
-    ensures { result ≡ form_of form operands.now }
-{
-    if form < FIRST_LATE {
-        early_form(form, operands)
-    } else {
-        late_form(form, operands)
-    }
-}
-
-/// What is read of a form and its operands. It is apart from `expression`, whose clauses follow from those here.
-fn read_expression(alloc: Global, form: u8, operands: &[u32]) -> Result<Expression, Unread>
-    ensures found { IfOk result (λ read. expression_of form operands.now ≡ Some read) }
+/// The expression of a form and its operands.
+#[tactic(auto, using(crate::proofs::ItemLaws::early_expression, crate::proofs::ItemLaws::late_expression))]
+pub(crate) fn expression(alloc: Global, form: u8, operands: &[u32]) -> Result<Expression, Unread>
+    ensures found { IfOk result (λ x. expression_of form operands.now ≡ Some x) }
     ensures none { IfErr result (λ e. e ≡ unread.Item → expression_of form operands.now ≡ None) }
 {
-    if form == COMPOSE {
-        return compose(alloc, operands);
+    if form == code::FORM_COMPOSE {
+        compose(alloc, operands)
+    } else if form < code::FORM_UNARY {
+        known(early_form(form, operands))
+    } else {
+        known(late_form(form, operands))
     }
-    match simple_form(form, operands) {
-        Some(expression) => Ok(expression),
-        None => Err(Unread::Item),
-    }
-}
-
-/// The expression of a form and its operands: the one expression that has them, if one has.
-pub(crate) fn expression(alloc: Global, form: u8, operands: &[u32]) -> Result<Expression, Unread>
-    ensures found { IfOk result (λ x. HasNumber form operands.now x) }
-    ensures only { (x : ExpressionType) → HasNumber form operands.now x → IfOk result (λ read. read ≡ x) }
-    ensures none { IfErr result (λ e. e ≡ unread.Item
-        → (x : ExpressionType) → ¬ (HasNumber form operands.now x)) }
-{
-    read_expression(alloc, form, operands)
 }

@@ -1,7 +1,7 @@
 //! Literals in words.
 
 ghost use Rattle.naga_words.specs.Numbers.{wide};
-ghost use Rattle.naga_words.specs.steps.Operands.{bool_of, literal_of, narrow_of, short_of};
+ghost use Rattle.naga_words.specs.Operands.{literal_of, narrow_of, short_of};
 ghost use Rattle.std.specs.Prelude.{◌≡◌};
 
 use crate::operands::boolean;
@@ -25,13 +25,6 @@ fn short(low: u32, high: u32) -> Option<u32>
     if high == 0 { Some(low) } else { None }
 }
 
-/// A bool, in two words.
-fn truth(low: u32, high: u32) -> Option<bool>
-    ensures { result ≡ bool_of low high }
-{
-    if high == 0 { boolean(low) } else { None }
-}
-
 /// A number of 64 bits, in two words.
 pub(crate) fn wide(low: u32, high: u32) -> u64
     ensures { result ≡ wide low high }
@@ -53,7 +46,7 @@ pub(crate) fn literal(form: u32, low: u32, high: u32) -> Option<Literal>
         6 => Some(Literal::I32(short(low, high)?.cast_signed())),
         7 => Some(Literal::U64(wide(low, high))),
         8 => Some(Literal::I64(wide(low, high).cast_signed())),
-        9 => Some(Literal::Bool(truth(low, high)?)),
+        9 => Some(Literal::Bool(boolean(short(low, high)?)?)),
         10 => Some(Literal::AbstractInt(wide(low, high).cast_signed())),
         11 => Some(Literal::AbstractFloat(wide(low, high))),
         _ => None,

@@ -1,12 +1,12 @@
 //! Texts and names in words.
 
-ghost use Rattle.naga_words.specs.Texts.{IsNameBefore, IsTextBefore, bytes_in};
-ghost use Rattle.naga_words.specs.declared.unread.Unread.TheVariants as unread;
-ghost use Rattle.std.specs.Prelude.{◌≡◌, ◌<◌, ◌≤◌, ◌↔◌, ℕ, All, IfErr, IfOk, IsTrue, List, Option, drop, length, take};
-ghost use Rattle.std.specs.Str.{IsUtf8};
+ghost use Rattle.naga_words.specs.Texts.{bytes_in, name_of, text_in, text_of};
+ghost use Rattle.naga_draft.specs.declared.unread.Unread.TheVariants as unread;
+ghost use Rattle.std.specs.List.{list_all};
+ghost use Rattle.std.specs.Prelude.{◌≡◌, ◌==◌, ◌<◌, ◌≤◌, IfErr, IfOk, None, Some, length};
 
 use crate::operands::NONE;
-use crate::unread::Unread;
+use naga_draft::unread::Unread;
 use naga_ir::text::Text;
 use std::alloc::Global;
 
@@ -24,7 +24,7 @@ fn bytes_of(alloc: Global, words: &[u32]) -> Result<Vec<u8>, Unread>
 
 /// Whether all bytes are 0.
 fn are_zero(bytes: &[u8]) -> bool
-    ensures { IsTrue result ↔ All (λ (b : ℕ). b ≡ 0) bytes.now }
+    ensures { result ≡ list_all (λ b. b == 0) bytes.now }
 {
     for byte in bytes {
         if *byte != 0 {
@@ -35,13 +35,11 @@ fn are_zero(bytes: &[u8]) -> bool
 }
 
 /// The text of so many first bytes, if they are UTF-8 and the bytes after them are 0.
-fn text_of(alloc: Global, bytes: &[u8], count: usize) -> Result<Text, Unread>
+#[tactic(auto, using(crate::proofs::ReaderLaws::in_text, crate::proofs::ReaderLaws::not_text))]
+fn text_in(alloc: Global, bytes: &[u8], count: usize) -> Result<Text, Unread>
     requires { count ≤ length bytes.now }
-    ensures text { IfOk result (λ text. text ≡ take count bytes.now) }
-    ensures padding { IfOk result (λ _. All (λ (b : ℕ). b ≡ 0) (drop count bytes.now)) }
-    ensures utf8 { IfOk result (λ _. IsUtf8 (take count bytes.now)) }
-    ensures none { IfErr result (λ e. e ≡ unread.Item → All (λ (b : ℕ). b ≡ 0) (drop count bytes.now)
-        → ¬ (IsUtf8 (take count bytes.now))) }
+    ensures found { IfOk result (λ text. text_in count bytes.now ≡ Some text) }
+    ensures none { IfErr result (λ e. e ≡ unread.Item → text_in count bytes.now ≡ None) }
 {
     let (text, padding) = bytes.split_at(count);
     if !are_zero(padding) {
@@ -54,12 +52,10 @@ fn text_of(alloc: Global, bytes: &[u8], count: usize) -> Result<Text, Unread>
 }
 
 /// The text with which words begin, and the words after it.
+#[tactic(auto, using(crate::proofs::ReaderLaws::enough_bytes))]
 pub(crate) fn text(alloc: Global, words: &[u32]) -> Result<(Text, &[u32]), Unread>
-    ensures found { IfOk result (λ read. IsTextBefore words.now read.0 read.1.now) }
-    ensures only { (text rest : List ℕ) → IsTextBefore words.now text rest
-        → IfOk result (λ read. (read.0 ≡ text) × (read.1.now ≡ rest)) }
-    ensures none { IfErr result (λ e. e ≡ unread.Item
-        → (text rest : List ℕ) → ¬ (IsTextBefore words.now text rest)) }
+    ensures found { IfOk result (λ read. text_of words.now ≡ Some (read.0, read.1.now)) }
+    ensures none { IfErr result (λ e. e ≡ unread.Item → text_of words.now ≡ None) }
     ensures shorter { IfOk result (λ read. length read.1.now < length words.now) }
 {
     let [count, others @ ..] = words else {
@@ -72,16 +68,13 @@ pub(crate) fn text(alloc: Global, words: &[u32]) -> Result<(Text, &[u32]), Unrea
     }
     let (packed, rest) = others.split_at(length);
     let bytes = bytes_of(alloc, packed)?;
-    Ok((text_of(alloc, bytes.as_slice(), count)?, rest))
+    Ok((text_in(alloc, bytes.as_slice(), count)?, rest))
 }
 
 /// The name with which words begin, and the words after it.
 pub(crate) fn name(alloc: Global, words: &[u32]) -> Result<(Option<Text>, &[u32]), Unread>
-    ensures found { IfOk result (λ read. IsNameBefore words.now read.0 read.1.now) }
-    ensures only { (name : Option (List ℕ)) (rest : List ℕ) → IsNameBefore words.now name rest
-        → IfOk result (λ read. (read.0 ≡ name) × (read.1.now ≡ rest)) }
-    ensures none { IfErr result (λ e. e ≡ unread.Item
-        → (name : Option (List ℕ)) (rest : List ℕ) → ¬ (IsNameBefore words.now name rest)) }
+    ensures found { IfOk result (λ read. name_of words.now ≡ Some (read.0, read.1.now)) }
+    ensures none { IfErr result (λ e. e ≡ unread.Item → name_of words.now ≡ None) }
     ensures shorter { IfOk result (λ read. length read.1.now < length words.now) }
 {
     let [first, others @ ..] = words else {

@@ -1,12 +1,12 @@
 //! What one operand says, or a few that belong together.
 
 ghost use Rattle.naga_words.specs.Tables.{accesses, binary_operators, bools, components, dimensions, kinds, math_functions, relational_functions, roles, subgroup_operations, unary_operators};
-ghost use Rattle.naga_words.specs.steps.Operands.{array_size_of, binding_of, class_of, cooperative_size_of, count_of, handle_of, only_handle_of, only_of, optional_component_of, pointed_size_of, scalar_of, size_of, space_of, width_of, zero_of};
-ghost use Rattle.naga_words.specs.steps.Reading.{read_each};
-ghost use Rattle.naga_words.specs.declared.unread.Unread.TheVariants as unread;
+ghost use Rattle.naga_words.specs.Operands.{array_size_of, binding_of, class_of, cooperative_size_of, count_of, handle_of, nothing_of, only_handle_of, only_of, optional_component_of, pointed_size_of, scalar_of, size_of, space_of, width_of, zero_of};
+ghost use Rattle.naga_words.specs.Reading.{read_each};
+ghost use Rattle.naga_draft.specs.declared.unread.Unread.TheVariants as unread;
 ghost use Rattle.std.specs.Prelude.{◌≡◌, IfErr, IfOk, None, Some, slice_get};
 
-use crate::unread::Unread;
+use naga_draft::unread::Unread;
 use naga_ir::expression::{
     BinaryOperator, MathFunction, RelationalFunction, SwizzleComponent, UnaryOperator,
 };
@@ -33,6 +33,14 @@ pub(crate) fn handle<K>(word: u32) -> Option<Handle<K>>
     } else {
         Some(Handle::new(word))
     }
+}
+
+/// That there are no operands.
+pub(crate) fn nothing(operands: &[u32]) -> Option<()>
+    ensures { result ≡ nothing_of operands.now }
+{
+    let [] = operands else { return None };
+    Some(())
 }
 
 /// The one operand.

@@ -1,18 +1,20 @@
 //! The items of words, and the module and settings that they say.
 
-ghost use Rattle.naga_words.specs.Words.{CanBegin, IsFirstUnreadable, IsItemBefore, IsWords, NamesItem};
-ghost use Rattle.naga_words.specs.declared.draft.Contents.{Contents as ContentsType};
-ghost use Rattle.naga_words.specs.declared.item.Item.{Item};
+ghost use Rattle.naga_draft.specs.Modules.{CanBegin};
+ghost use Rattle.naga_words.specs.Words.{IsFirstUnreadable, IsWords, NamesItem, after_header, first_item};
+ghost use Rattle.naga_draft.specs.declared.draft.Contents.{Contents as ContentsType};
+ghost use Rattle.naga_draft.specs.declared.item.Item.{Item};
 ghost use Rattle.naga_words.specs.declared.reader.WordsError.TheVariants as error;
-ghost use Rattle.naga_words.specs.declared.unread.Unread.TheVariants as unread;
-ghost use Rattle.naga_words.specs.steps.Drafts.{AreAdded};
-ghost use Rattle.naga_words.specs.steps.ReadItems.{AreAllAdded, IsAfterHeader, IsOneMore, error_of};
+ghost use Rattle.naga_draft.specs.declared.unread.Unread.TheVariants as unread;
+ghost use Rattle.naga_draft.specs.Drafts.{AreAdded};
+ghost use Rattle.naga_words.specs.steps.ReadItems.{AreAllAdded, IsOneMore, error_of};
 ghost use Rattle.naga_arena.specs.Memory.{UnlessOutOfMemory};
-ghost use Rattle.std.specs.Prelude.{◌≡◌, ◌<◌, ◌++◌, ◌∷◌, ◌⊎◌, ℕ, [], IfErr, IfOk, List, length};
+ghost use Rattle.std.specs.Prelude.{◌≡◌, ◌<◌, ◌++◌, ◌∷◌, ◌⊎◌, ℕ, [], IfErr, IfOk, List, Some, length};
 
-use crate::draft::{Contents, Draft};
 use crate::items::item;
-use crate::unread::Unread;
+use crate::opcodes as code;
+use naga_draft::draft::{Contents, Draft};
+use naga_draft::unread::Unread;
 use std::alloc::Global;
 
 /// How many opcodes there may be: the number of operands stands above the opcode in the head of an item.
@@ -25,7 +27,7 @@ pub const MAGIC: u32 = 0x5747_414e;
 pub const VERSION: u32 = 1;
 
 /// The item that may stand first, by which a file of words can be told from others.
-const HEADER: [u32; 3] = [2 << 8 | 15, MAGIC, VERSION];
+const HEADER: [u32; 3] = [2 << 8 | code::OP_HEADER as u32, MAGIC, VERSION];
 
 /// Why words were not read.
 #[derive(Clone, Copy, Debug, PartialEq)]
@@ -48,13 +50,14 @@ fn error_at(unread: Unread, at: usize) -> WordsError
 }
 
 /// Reads the item with which words begin, and returns the words after it.
+#[tactic(auto, using(crate::proofs::ReaderLaws::item_at, crate::proofs::ReaderLaws::item_is, crate::proofs::ItemLaws::item_plain))]
 fn read_item<'a>(alloc: Global, draft: &mut Draft, words: &'a [u32]) -> Result<&'a [u32], Unread>
     ensures shorter { IfOk result (λ rest. length rest.now < length words.now) }
     ensures added { (items : List Item) → AreAdded items draft.old
         → IfOk result (λ rest. IsOneMore items words.now rest.now draft.new) }
     ensures refused { (items : List Item) → AreAdded items draft.old
         → IfErr result (λ e. e ≡ unread.Item → (item : Item) (rest : List ℕ)
-        → IsItemBefore words.now item rest → ¬ (CanBegin (items ++ item ∷ []))) }
+        → first_item words.now ≡ Some (item, rest) → ¬ (CanBegin (items ++ item ∷ []))) }
 {
     let Some((head, rest)) = words.split_first() else {
         return Err(Unread::Item);
@@ -70,7 +73,7 @@ fn read_item<'a>(alloc: Global, draft: &mut Draft, words: &'a [u32]) -> Result<&
 
 /// The words after the header, or all of them if they begin with none.
 fn after_header(words: &[u32]) -> &[u32]
-    ensures { IsAfterHeader words.now result.now }
+    ensures { result.now ≡ after_header words.now }
 {
     match words.strip_prefix(&HEADER) {
         Some(rest) => rest,
@@ -100,6 +103,7 @@ fn read_items(alloc: Global, draft: &mut Draft, words: &[u32]) -> Result<(), Wor
 ///
 /// - `Item` with the first item that can't be read.
 /// - `OutOfMemory` if a request for memory was refused.
+#[tactic(auto, using(crate::proofs::Unreadable::stuck))]
 pub fn read_words(alloc: Global, words: &[u32]) -> Result<Contents, WordsError>
     // What is read is what the words say, and an item that is named is the first that can't be read.
     ensures words { UnlessOutOfMemory (λ e. e ≡ error.OutOfMemory) result (IsWords words.now)

@@ -1,21 +1,21 @@
 //! The statements that words describe and that contain no others, one function an opcode.
 
-ghost use Rattle.naga_words.specs.StatementForms.{IsStatementForm};
-ghost use Rattle.naga_words.specs.steps.StatementReaders.{atomic_function_of, atomic_of, ballot_of, break_of, call_of, collective_of, continue_of, control_barrier_of, cooperative_store_of, emit_of, fixed_statement_of, gather_mode_of, gather_of, image_atomic_of, image_store_of, kill_of, memory_barrier_of, ray_query_of, return_of, statement_of, step_of, store_of, trace_ray_of, workgroup_load_of};
-ghost use Rattle.naga_words.specs.declared.unread.Unread.TheVariants as unread;
-ghost use Rattle.naga_ir.specs.declared.statement.Statement.{Statement as StatementType};
-ghost use Rattle.std.specs.Prelude.{◌≡◌, IfErr, IfOk, None, Some};
+ghost use Rattle.naga_words.specs.Operands.{handle_of, optional_of};
+ghost use Rattle.naga_words.specs.Reading.{read_by, reads_four, reads_none, reads_one, reads_three, reads_two};
+ghost use Rattle.naga_words.specs.Tables.{subgroup_operations};
+ghost use Rattle.naga_ir.specs.declared.statement.Statement.TheVariants as s;
+ghost use Rattle.naga_words.specs.Statements.{atomic_function_of, atomic_of, call_of, emit_of, fixed_statements, gather_mode_of, gather_of, image_atomic_of, ray_query_of, statement_of, step_of, trace_ray_of};
+ghost use Rattle.naga_draft.specs.declared.unread.Unread.TheVariants as unread;
+ghost use Rattle.std.specs.Prelude.{◌≡◌, IfErr, IfOk, None, Some, slice_get};
 
+use crate::opcodes as code;
 use crate::operands::{expressions, handle, subgroup_operation, zero};
-use crate::unread::Unread;
+use naga_draft::unread::{Unread, known};
 use naga_ir::range::Range;
 use naga_ir::statement::{
     AtomicFunction, GatherMode, RayPipelineFunction, RayQueryFunction, Statement,
 };
 use std::alloc::Global;
-
-/// The opcode of a call.
-const CALL: u8 = 213;
 
 fn emit(operands: &[u32]) -> Option<Statement>
     ensures { result ≡ emit_of operands.now }
@@ -25,21 +25,21 @@ fn emit(operands: &[u32]) -> Option<Statement>
 }
 
 fn break_statement(operands: &[u32]) -> Option<Statement>
-    ensures { result ≡ break_of operands.now }
+    ensures { result ≡ reads_none s.Break operands.now }
 {
     let [] = operands else { return None };
     Some(Statement::Break)
 }
 
 fn continue_statement(operands: &[u32]) -> Option<Statement>
-    ensures { result ≡ continue_of operands.now }
+    ensures { result ≡ reads_none s.Continue operands.now }
 {
     let [] = operands else { return None };
     Some(Statement::Continue)
 }
 
 fn return_statement(operands: &[u32]) -> Option<Statement>
-    ensures { result ≡ return_of operands.now }
+    ensures { result ≡ reads_one optional_of s.Return operands.now }
 {
     let [value] = operands else { return None };
     Some(Statement::Return {
@@ -48,28 +48,28 @@ fn return_statement(operands: &[u32]) -> Option<Statement>
 }
 
 fn kill(operands: &[u32]) -> Option<Statement>
-    ensures { result ≡ kill_of operands.now }
+    ensures { result ≡ reads_none s.Kill operands.now }
 {
     let [] = operands else { return None };
     Some(Statement::Kill)
 }
 
 fn control_barrier(operands: &[u32]) -> Option<Statement>
-    ensures { result ≡ control_barrier_of operands.now }
+    ensures { result ≡ reads_none s.ControlBarrier operands.now }
 {
     let [] = operands else { return None };
     Some(Statement::ControlBarrier)
 }
 
 fn memory_barrier(operands: &[u32]) -> Option<Statement>
-    ensures { result ≡ memory_barrier_of operands.now }
+    ensures { result ≡ reads_none s.MemoryBarrier operands.now }
 {
     let [] = operands else { return None };
     Some(Statement::MemoryBarrier)
 }
 
 fn store(operands: &[u32]) -> Option<Statement>
-    ensures { result ≡ store_of operands.now }
+    ensures { result ≡ reads_two handle_of handle_of s.Store operands.now }
 {
     let [pointer, value] = operands else {
         return None
@@ -81,7 +81,7 @@ fn store(operands: &[u32]) -> Option<Statement>
 }
 
 fn image_store(operands: &[u32]) -> Option<Statement>
-    ensures { result ≡ image_store_of operands.now }
+    ensures { result ≡ reads_four handle_of handle_of optional_of handle_of s.ImageStore operands.now }
 {
     let [image, coordinate, index, value] = operands else {
         return None;
@@ -146,7 +146,7 @@ fn image_atomic(operands: &[u32]) -> Option<Statement>
 }
 
 fn workgroup_load(operands: &[u32]) -> Option<Statement>
-    ensures { result ≡ workgroup_load_of operands.now }
+    ensures { result ≡ reads_two handle_of handle_of s.WorkGroupUniformLoad operands.now }
 {
     let [pointer, loaded] = operands else {
         return None
@@ -213,7 +213,7 @@ fn trace_ray(operands: &[u32]) -> Option<Statement>
 }
 
 fn ballot(operands: &[u32]) -> Option<Statement>
-    ensures { result ≡ ballot_of operands.now }
+    ensures { result ≡ reads_two handle_of optional_of s.SubgroupBallot operands.now }
 {
     let [balloted, predicate] = operands else {
         return None
@@ -261,7 +261,8 @@ fn gather(operands: &[u32]) -> Option<Statement>
 }
 
 fn collective(operands: &[u32]) -> Option<Statement>
-    ensures { result ≡ collective_of operands.now }
+    ensures { result ≡ reads_three (slice_get subgroup_operations) handle_of handle_of
+        s.SubgroupCollectiveOperation operands.now }
 {
     let [op, argument, made] = operands else {
         return None
@@ -274,7 +275,7 @@ fn collective(operands: &[u32]) -> Option<Statement>
 }
 
 fn cooperative_store(operands: &[u32]) -> Option<Statement>
-    ensures { result ≡ cooperative_store_of operands.now }
+    ensures { result ≡ reads_three handle_of handle_of handle_of s.CooperativeStore operands.now }
 {
     let [target, pointer, stride] = operands else {
         return None;
@@ -288,27 +289,27 @@ fn cooperative_store(operands: &[u32]) -> Option<Statement>
 
 /// The statement of an opcode and its operands, unless it is a call.
 fn fixed_statement(opcode: u8, operands: &[u32]) -> Option<Statement>
-    ensures { result ≡ fixed_statement_of opcode operands.now }
+    ensures { result ≡ read_by fixed_statements opcode operands.now }
 {
     match opcode {
-        192 => emit(operands),
-        202 => break_statement(operands),
-        203 => continue_statement(operands),
-        204 => return_statement(operands),
-        205 => kill(operands),
-        206 => control_barrier(operands),
-        207 => memory_barrier(operands),
-        208 => store(operands),
-        209 => image_store(operands),
-        210 => atomic(operands),
-        211 => image_atomic(operands),
-        212 => workgroup_load(operands),
-        214 => ray_query(operands),
-        215 => trace_ray(operands),
-        216 => ballot(operands),
-        217 => gather(operands),
-        218 => collective(operands),
-        219 => cooperative_store(operands),
+        code::STATEMENT_EMIT => emit(operands),
+        code::STATEMENT_BREAK => break_statement(operands),
+        code::STATEMENT_CONTINUE => continue_statement(operands),
+        code::STATEMENT_RETURN => return_statement(operands),
+        code::STATEMENT_KILL => kill(operands),
+        code::STATEMENT_CONTROL_BARRIER => control_barrier(operands),
+        code::STATEMENT_MEMORY_BARRIER => memory_barrier(operands),
+        code::STATEMENT_STORE => store(operands),
+        code::STATEMENT_IMAGE_STORE => image_store(operands),
+        code::STATEMENT_ATOMIC => atomic(operands),
+        code::STATEMENT_IMAGE_ATOMIC => image_atomic(operands),
+        code::STATEMENT_WORKGROUP_UNIFORM_LOAD => workgroup_load(operands),
+        code::STATEMENT_RAY_QUERY => ray_query(operands),
+        code::STATEMENT_TRACE_RAY => trace_ray(operands),
+        code::STATEMENT_SUBGROUP_BALLOT => ballot(operands),
+        code::STATEMENT_SUBGROUP_GATHER => gather(operands),
+        code::STATEMENT_SUBGROUP_OPERATION => collective(operands),
+        code::STATEMENT_COOPERATIVE_STORE => cooperative_store(operands),
         _ => None,
     }
 }
@@ -331,26 +332,13 @@ fn call(alloc: Global, operands: &[u32]) -> Result<Statement, Unread>
     })
 }
 
-/// What is read of an opcode and its operands. It is apart from `statement`, whose clauses follow from those here.
-fn read_statement(alloc: Global, opcode: u8, operands: &[u32]) -> Result<Statement, Unread>
-    ensures found { IfOk result (λ read. statement_of opcode operands.now ≡ Some read) }
+/// The statement of an opcode and its operands, which contains no others.
+pub(crate) fn statement(alloc: Global, opcode: u8, operands: &[u32]) -> Result<Statement, Unread>
+    ensures found { IfOk result (λ s. statement_of opcode operands.now ≡ Some s) }
     ensures none { IfErr result (λ e. e ≡ unread.Item → statement_of opcode operands.now ≡ None) }
 {
-    if opcode == CALL {
+    if opcode == code::STATEMENT_CALL {
         return call(alloc, operands);
     }
-    match fixed_statement(opcode, operands) {
-        Some(statement) => Ok(statement),
-        None => Err(Unread::Item),
-    }
-}
-
-/// The statement of an opcode and its operands, which contains no others: the one statement that has them, if one has.
-pub(crate) fn statement(alloc: Global, opcode: u8, operands: &[u32]) -> Result<Statement, Unread>
-    ensures found { IfOk result (λ s. IsStatementForm opcode operands.now s) }
-    ensures only { (s : StatementType) → IsStatementForm opcode operands.now s → IfOk result (λ read. read ≡ s) }
-    ensures none { IfErr result (λ e. e ≡ unread.Item
-        → (s : StatementType) → ¬ (IsStatementForm opcode operands.now s)) }
-{
-    read_statement(alloc, opcode, operands)
+    known(fixed_statement(opcode, operands))
 }

@@ -1,32 +1,30 @@
 //! The types that words describe, one function a form.
 
-ghost use Rattle.naga_words.specs.steps.TypeReaders.{acceleration_structure_type_of, array_type_of, atomic_type_of, binding_array_type_of, cooperative_matrix_type_of, image_type_of, matrix_type_of, member_of, pointer_type_of, ray_query_type_of, sampler_type_of, scalar_type_of, value_pointer_type_of, vector_type_of, memberless_type_of};
-ghost use Rattle.naga_ir.specs.declared.types.StructMember.{StructMember as StructMemberType};
-ghost use Rattle.naga_ir.specs.declared.types.«Type».{«Type» as TypeType};
-ghost use Rattle.naga_ir.specs.declared.types.TypeInner.{TypeInner as TypeInnerType};
-ghost use Rattle.naga_words.specs.TypeItems.{AreMembers, IsInner, IsMemberBefore, IsTypeItem};
-ghost use Rattle.naga_words.specs.declared.unread.Unread.TheVariants as unread;
-ghost use Rattle.std.specs.Prelude.{◌≡◌, ◌<◌, ℕ, IfErr, IfOk, List, length};
+ghost use Rattle.naga_words.specs.Reading.{read_all, read_by, reads_one, reads_pair};
+ghost use Rattle.naga_words.specs.Operands.{scalar_of};
+ghost use Rattle.naga_words.specs.Tables.{bools};
+ghost use Rattle.naga_ir.specs.declared.types.TypeInner.TheVariants as t;
+ghost use Rattle.naga_words.specs.Types.{array_type_of, binding_array_type_of, cooperative_matrix_type_of, first_member, image_type_of, inner_of, matrix_type_of, member_of, memberless_types, pointer_type_of, struct_type_of, type_of, value_pointer_type_of, vector_type_of};
+ghost use Rattle.naga_draft.specs.declared.unread.Unread.TheVariants as unread;
+ghost use Rattle.std.specs.Prelude.{◌≡◌, ◌<◌, IfErr, IfOk, None, Some, length, slice_get};
 
 use crate::names::name;
+use crate::opcodes as code;
 use crate::operands::{
     array_size, binding, boolean, class, cooperative_size, dimension, handle, pointed_size, role,
     scalar, size, space,
 };
-use crate::unread::{Unread, known};
+use naga_draft::unread::{Unread, known};
 use naga_ir::list::List;
 use naga_ir::text::Text;
 use naga_ir::types::{StructMember, Type, TypeInner};
 use std::alloc::Global;
 
-/// The opcode of a struct.
-const STRUCT: u8 = 24;
-
 /// The number of operands of a member of a struct, after its name.
 const MEMBER_OPERANDS: usize = 5;
 
 fn scalar_type(operands: &[u32]) -> Option<TypeInner>
-    ensures { result ≡ scalar_type_of operands.now }
+    ensures { result ≡ reads_pair scalar_of t.Scalar operands.now }
 {
     let [kind, width] = operands else { return None };
     Some(TypeInner::Scalar(scalar(*kind, *width)?))
@@ -72,7 +70,7 @@ fn cooperative_matrix_type(operands: &[u32]) -> Option<TypeInner>
 }
 
 fn atomic_type(operands: &[u32]) -> Option<TypeInner>
-    ensures { result ≡ atomic_type_of operands.now }
+    ensures { result ≡ reads_pair scalar_of t.Atomic operands.now }
 {
     let [kind, width] = operands else { return None };
     Some(TypeInner::Atomic(scalar(*kind, *width)?))
@@ -130,7 +128,7 @@ fn image_type(operands: &[u32]) -> Option<TypeInner>
 }
 
 fn sampler_type(operands: &[u32]) -> Option<TypeInner>
-    ensures { result ≡ sampler_type_of operands.now }
+    ensures { result ≡ reads_one (slice_get bools) t.Sampler operands.now }
 {
     let [comparison] = operands else { return None };
     Some(TypeInner::Sampler {
@@ -139,7 +137,7 @@ fn sampler_type(operands: &[u32]) -> Option<TypeInner>
 }
 
 fn acceleration_structure_type(operands: &[u32]) -> Option<TypeInner>
-    ensures { result ≡ acceleration_structure_type_of operands.now }
+    ensures { result ≡ reads_one (slice_get bools) t.AccelerationStructure operands.now }
 {
     let [vertex_return] = operands else {
         return None
@@ -150,7 +148,7 @@ fn acceleration_structure_type(operands: &[u32]) -> Option<TypeInner>
 }
 
 fn ray_query_type(operands: &[u32]) -> Option<TypeInner>
-    ensures { result ≡ ray_query_type_of operands.now }
+    ensures { result ≡ reads_one (slice_get bools) t.RayQuery operands.now }
 {
     let [vertex_return] = operands else {
         return None
@@ -174,22 +172,22 @@ fn binding_array_type(operands: &[u32]) -> Option<TypeInner>
 
 /// The type of an opcode and of the operands after its name, unless it is a struct.
 fn memberless_type(opcode: u8, operands: &[u32]) -> Option<TypeInner>
-    ensures { result ≡ memberless_type_of opcode operands.now }
+    ensures { result ≡ read_by memberless_types opcode operands.now }
 {
     match opcode {
-        16 => scalar_type(operands),
-        17 => vector_type(operands),
-        18 => matrix_type(operands),
-        19 => cooperative_matrix_type(operands),
-        20 => atomic_type(operands),
-        21 => pointer_type(operands),
-        22 => value_pointer_type(operands),
-        23 => array_type(operands),
-        25 => image_type(operands),
-        26 => sampler_type(operands),
-        27 => acceleration_structure_type(operands),
-        28 => ray_query_type(operands),
-        29 => binding_array_type(operands),
+        code::OP_SCALAR => scalar_type(operands),
+        code::OP_VECTOR => vector_type(operands),
+        code::OP_MATRIX => matrix_type(operands),
+        code::OP_COOPERATIVE_MATRIX => cooperative_matrix_type(operands),
+        code::OP_ATOMIC => atomic_type(operands),
+        code::OP_POINTER => pointer_type(operands),
+        code::OP_VALUE_POINTER => value_pointer_type(operands),
+        code::OP_ARRAY => array_type(operands),
+        code::OP_IMAGE => image_type(operands),
+        code::OP_SAMPLER => sampler_type(operands),
+        code::OP_ACCELERATION_STRUCTURE => acceleration_structure_type(operands),
+        code::OP_RAY_QUERY => ray_query_type(operands),
+        code::OP_BINDING_ARRAY => binding_array_type(operands),
         _ => None,
     }
 }
@@ -211,9 +209,8 @@ fn named_member(name: Option<Text>, operands: &[u32]) -> Option<StructMember>
 
 /// The member with which words begin, and the words after it.
 fn member(alloc: Global, words: &[u32]) -> Result<(StructMember, &[u32]), Unread>
-    ensures found { IfOk result (λ read. IsMemberBefore words.now read.0 read.1.now) }
-    ensures none { IfErr result (λ e. e ≡ unread.Item
-        → (m : StructMemberType) (rest : List ℕ) → ¬ (IsMemberBefore words.now m rest)) }
+    ensures found { IfOk result (λ read. first_member words.now ≡ Some (read.0, read.1.now)) }
+    ensures none { IfErr result (λ e. e ≡ unread.Item → first_member words.now ≡ None) }
     ensures shorter { IfOk result (λ read. length read.1.now < length words.now) }
 {
     let (name, others) = name(alloc, words)?;
@@ -225,10 +222,10 @@ fn member(alloc: Global, words: &[u32]) -> Result<(StructMember, &[u32]), Unread
 }
 
 /// The members of words, if each is one.
+#[tactic(auto, using(crate::proofs::AllLaws::all_more, crate::proofs::AllLaws::all_stuck, crate::proofs::ReaderLaws::member_shortens))]
 fn members(alloc: Global, words: &[u32]) -> Result<List<StructMember>, Unread>
-    ensures found { IfOk result (λ members. AreMembers members words.now) }
-    ensures none { IfErr result (λ e. e ≡ unread.Item
-        → (members : List StructMemberType) → ¬ (AreMembers members words.now)) }
+    ensures found { IfOk result (λ members. read_all first_member words.now ≡ Some members) }
+    ensures none { IfErr result (λ e. e ≡ unread.Item → read_all first_member words.now ≡ None) }
 {
     let mut members = List::new(alloc);
     let mut left = words;
@@ -242,10 +239,8 @@ fn members(alloc: Global, words: &[u32]) -> Result<List<StructMember>, Unread>
 
 /// A struct, of the operands after its name: its span and its members.
 fn struct_type(alloc: Global, operands: &[u32]) -> Result<TypeInner, Unread>
-    ensures found { IfOk result (λ t. IsInner STRUCT operands.now t) }
-    ensures only { (t : TypeInnerType) → IsInner STRUCT operands.now t → IfOk result (λ read. read ≡ t) }
-    ensures none { IfErr result (λ e. e ≡ unread.Item
-        → (t : TypeInnerType) → ¬ (IsInner STRUCT operands.now t)) }
+    ensures found { IfOk result (λ t. struct_type_of operands.now ≡ Some t) }
+    ensures none { IfErr result (λ e. e ≡ unread.Item → struct_type_of operands.now ≡ None) }
 {
     let [span, rest @ ..] = operands else {
         return Err(Unread::Item);
@@ -259,12 +254,10 @@ fn struct_type(alloc: Global, operands: &[u32]) -> Result<TypeInner, Unread>
 
 /// What a type is made of, of an opcode and the operands after its name.
 fn inner(alloc: Global, opcode: u8, operands: &[u32]) -> Result<TypeInner, Unread>
-    ensures found { IfOk result (λ t. IsInner opcode operands.now t) }
-    ensures only { (t : TypeInnerType) → IsInner opcode operands.now t → IfOk result (λ read. read ≡ t) }
-    ensures none { IfErr result (λ e. e ≡ unread.Item
-        → (t : TypeInnerType) → ¬ (IsInner opcode operands.now t)) }
+    ensures found { IfOk result (λ t. inner_of opcode operands.now ≡ Some t) }
+    ensures none { IfErr result (λ e. e ≡ unread.Item → inner_of opcode operands.now ≡ None) }
 {
-    if opcode == STRUCT {
+    if opcode == code::OP_STRUCT {
         return struct_type(alloc, operands);
     }
     known(memberless_type(opcode, operands))
@@ -272,9 +265,8 @@ fn inner(alloc: Global, opcode: u8, operands: &[u32]) -> Result<TypeInner, Unrea
 
 /// The type of an opcode and its operands.
 pub(crate) fn type_of(alloc: Global, opcode: u8, operands: &[u32]) -> Result<Type, Unread>
-    ensures found { IfOk result (λ t. IsTypeItem opcode operands.now t) }
-    ensures only { (t : TypeType) → IsTypeItem opcode operands.now t → IfOk result (λ read. read ≡ t) }
-    ensures none { IfErr result (λ e. e ≡ unread.Item → (t : TypeType) → ¬ (IsTypeItem opcode operands.now t)) }
+    ensures found { IfOk result (λ t. type_of opcode operands.now ≡ Some t) }
+    ensures none { IfErr result (λ e. e ≡ unread.Item → type_of opcode operands.now ≡ None) }
 {
     let (name, others) = name(alloc, operands)?;
     let inner = inner(alloc, opcode, others)?;

@@ -1,11 +1,34 @@
 //! Words that are read, and words that can't be.
 
-use naga_words::{MAGIC, VERSION, WordsError, read_words};
+ghost use Rattle.naga_draft.specs.declared.draft.Contents.{Contents};
+ghost use Rattle.naga_words.specs.ModuleWords.{AreSame, CanBeSaid, module_alone, words_of};
+ghost use Rattle.naga_words.specs.Words.{IsWords};
+
+use naga_ir::ir::Module;
+use naga_words::{MAGIC, VERSION, WordsError, laws, read_words};
 use std::alloc::Global;
 
 /// How many types the module of words has.
 fn count_types(alloc: Global, words: &[u32]) -> Result<usize, WordsError> {
     Ok(read_words(alloc, words)?.module.types.len())
+}
+
+/// How many types the module of words has. If `module` has no more than words can say, some words say it, and whatever
+/// words say, they say it once.
+fn count_types_of(alloc: Global, module: &Module, words: &[u32]) -> Result<usize, WordsError>
+    ensures written { CanBeSaid «module».now → IsWords (words_of «module».now) (module_alone «module».now) }
+    ensures once { (a b : Contents) → IsWords words.now a → IsWords words.now b → AreSame a b }
+{
+    laws::words_say(module);
+    laws::words_say_once(words);
+    count_types(alloc, words)
+}
+
+#[test]
+fn the_empty_module_is_read_of_its_words(rt: HostRuntime) {
+    let alloc = rt.alloc();
+    let words = [3 << 8 | 4, u32::MAX, u32::MAX, u32::MAX];
+    assert_eq!(rt; count_types_of(alloc, &Module::new(alloc), &words), Ok(0));
 }
 
 #[test]

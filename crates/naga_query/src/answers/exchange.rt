@@ -4,8 +4,8 @@ ghost use Rattle.std.specs.Prelude.{◌<◌, All, IsTrue};
 ghost use Rattle.naga_ir.specs.declared.types.StructMember as member;
 
 use crate::answers::modules::add_not_applicable;
-use naga_module_text::items::{at_colon, known};
-use naga_module_text::unread::Unread;
+use naga_draft::unread::{Unread, known};
+use naga_module_text::items::at_colon;
 use naga_text::number::handle;
 use naga_text::words::equals;
 use naga_valid::{
@@ -21,7 +21,7 @@ fn name_of(alloc: Global, word: &[u8]) -> Result<Option<Text>, Unread> {
     }
     match str::from_utf8(word) {
         Ok(name) => Ok(Some(Text::from_string(String::from_str(alloc, name)?))),
-        Err(_) => Err(Unread::Line),
+        Err(_) => Err(Unread::Item),
     }
 }
 
@@ -93,7 +93,7 @@ pub fn add_exchange(
             add_exchanged(answer, module, old, members.as_slice())?;
             Ok(())
         }
-        Err(Unread::Line) => Ok(add_not_applicable(answer, "not members")?),
+        Err(Unread::Item) => Ok(add_not_applicable(answer, "not members")?),
         Err(Unread::OutOfMemory) => Err(OutOfMemory),
     }
 }

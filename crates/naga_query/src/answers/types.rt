@@ -7,9 +7,9 @@ ghost use Rattle.naga_typing.specs.Resolutions.{TypesExist};
 
 use crate::answers::modules::add_not_applicable;
 use crate::session::Session;
-use naga_module_text::items::{known, only_handle};
+use naga_draft::unread::{Unread, known};
+use naga_module_text::items::only_handle;
 use naga_module_text::settings::Settings;
-use naga_module_text::unread::Unread;
 use naga_text::literals::literal;
 use naga_text::number::{handle, number_up_to};
 use naga_text::words::kind;
@@ -188,7 +188,7 @@ pub fn add_compose(
             let types = info.const_expression_types();
             Ok(add_composed(answer, module, ty, components.as_slice(), types)?)
         }
-        Err(Unread::Line) => Ok(add_not_applicable(answer, "not indices")?),
+        Err(Unread::Item) => Ok(add_not_applicable(answer, "not indices")?),
         Err(Unread::OutOfMemory) => Err(OutOfMemory),
     }
 }

@@ -1,6 +1,7 @@
-use Rattle.std.proofs.Common.{◌≡◌, ℕ, ◌<◌, get_or}
+use Rattle.std.proofs.Common.{◌≡◌, ◌==◌, drop}
+use Rattle.std.specs.List.{list_all}
 use Rattle.naga_words.proofs.names.are_zero.Given as goal
 
--- the bytes so far are 0
+-- all bytes are 0 if those that are left are
 abbrev pub invariant-loop-byte : goal.invariant-loop-byte
-invariant-loop-byte l = (k d : ℕ) → k < l.byte-index → get_or l.bytes k d ≡ 0
+invariant-loop-byte l = list_all (λ b. b == 0) (drop l.byte-index l.bytes) ≡ list_all (λ b. b == 0) l.bytes

@@ -1,19 +1,18 @@
 use Rattle.std.proofs.Common.{◌≡◌, ◌⊎◌, ◌<◌, ◌^◌, ◌-◌, ◌++◌, ◌∷◌, [], ap, append_assoc, arith, length, length-append, rules, subst, sym, ◌∙◌}
 use Rattle.naga_words.specs.Words.{IsFirstUnreadable, NamesItem}
 use Rattle.naga_words.specs.declared.reader.WordsError.TheVariants as error
-use Rattle.naga_words.proofs.HeaderLaws.{empty_list, words_then}
-use Rattle.naga_words.proofs.ItemWords.{own_words}
+use Rattle.naga_words.proofs.ReaderLaws.{after_front, empty_list, one_then, own_words}
 use Rattle.naga_words.proofs.Unreadable.{names, stuck_at}
 use Rattle.naga_words.proofs.reader.read_items.Goals as goal
 
 pub items-init : goal.items-init
 items-init c =
-    let h = c.after_header-left.ensures in record {
-      front = h.front;
+    let h = after_front c.args.words.now in record {
+      front = h.0;
       items = [];
-      words = h.words_are;
-      are = h.front_is;
-      whole = h.whole;
+      words = h.1 ∙ ap (λ ws. h.0 ++ ws) (sym c.after_header-left.ensures);
+      are = h.2;
+      whole = h.3;
       added = c.requires;
     }
 
@@ -25,8 +24,8 @@ items-preserved c =
       front = i.front ++ own.0;
       items = i.items ++ one.item ∷ [];
       words = i.words ∙ ap (λ ws. i.front ++ ws) own.1 ∙ sym (append_assoc i.front own.0 c.in-Ok.rest.now);
-      are = words_then i.front i.items own.0 one.item i.are own.2;
-      whole = λ others is none. i.whole others is (empty_list i.front (let split = length-append i.front own.0 in let all = ap length none in omega (arith, split, all)));
+      are = one_then i.front own.0 i.items one.item i.are own.2;
+      whole = λ none. i.whole (empty_list i.front (let split = length-append i.front own.0 in let all = ap length none in omega (arith, split, all)));
       added = one.added;
     }
 

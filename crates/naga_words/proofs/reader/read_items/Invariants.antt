@@ -1,17 +1,17 @@
-use Rattle.std.proofs.Common.{◌≡◌, ℕ, List, [], ◌++◌, length}
-use Rattle.naga_words.specs.Words.{AreWordsOf, header}
-use Rattle.naga_words.specs.declared.item.Item.{Item}
-use Rattle.naga_words.specs.steps.Drafts.{AreAdded}
+use Rattle.std.proofs.Common.{◌≡◌, ℕ, List, [], ◌++◌, Some, false, length}
+use Rattle.naga_draft.specs.Drafts.{AreAdded}
+use Rattle.naga_draft.specs.declared.item.Item.{Item}
+use Rattle.naga_words.specs.Words.{have_header, items_of}
 use Rattle.naga_words.proofs.reader.read_items.Given as goal
 
--- the words so far, and the items that they are, which were added: a header of the words is among them
+-- the words so far, and their items, which were added: a header of the words is among them
 abbrev pub invariant-items : goal.invariant-items
 invariant-items l = record {
   front : List ℕ;
   items : List Item;
   words : l.words ≡ front ++ l.left;
-  are : AreWordsOf front items;
-  whole : (others : List ℕ) → l.words ≡ header ++ others → ¬ (front ≡ []);
+  are : items_of front ≡ Some items;
+  whole : front ≡ [] → have_header l.words ≡ false;
   added : AreAdded items l.draft;
 }
 

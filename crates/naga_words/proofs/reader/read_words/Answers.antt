@@ -16,11 +16,3 @@ returns-in-Err-clause-words c =
     let few : length c.args.words.now < 2 ^ 63 = search rules in
     subst (λ e. (e ≡ error.OutOfMemory) ⊎ NamesItem e (IsFirstUnreadable c.args.words.now)) (sym c.error_at.ensures)
     (names c.args.words.now c.in-Err.unread _ (λ item. stuck_at_end c.args.words.now read.items _ read.are read.added few (c.in-Err.ensures.unfinished read.items read.added item)))
-
-pub returns-in-Err-clause-only : goal.returns-in-Err-clause-only
-returns-in-Err-clause-only c = λ contents says.
-    let read = c.in_ok-read_items.ensures.all in
-    let few : length c.args.words.now < 2 ^ 63 = search rules in
-    only_memory c.args.words.now contents says c.error_at.result
-    (subst (λ e. (e ≡ error.OutOfMemory) ⊎ NamesItem e (IsFirstUnreadable c.args.words.now)) (sym c.error_at.ensures)
-    (names c.args.words.now c.in-Err.unread _ (λ item. stuck_at_end c.args.words.now read.items _ read.are read.added few (c.in-Err.ensures.unfinished read.items read.added item))))

@@ -1,0 +1,11 @@
+pub mod BlockLemmas
+pub mod BodyLaws
+pub mod DraftLaws
+pub mod FunctionLaws
+pub mod ListLaws
+pub mod MarkLemmas
+pub mod MarkRuns
+pub mod OpenLaws
+pub mod SaidLaws
+pub mod SectionLaws
+pub mod WholeLaws
