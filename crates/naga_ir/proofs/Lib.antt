@@ -12,3 +12,4 @@ pub mod SameType
 pub mod StatementLemmas
 pub mod TypePaths
 pub mod WorkedModules
+mod HashLaws

@@ -2,7 +2,8 @@
 use mathlib.Core.HLevel.{is_prop→PathP}
 use Rattle.std.proofs.Math.Bridge.{le_prop}
 use Rattle.std.proofs.Common.{rules, ◌<◌, ◌≡◌, ℕ, List, Bool, true, refl, subst, ap}
-use Rattle.std.specs.Prelude.{Option, Some, None}
+use denote.Enum.Bare.{same_true}
+use Rattle.std.specs.Prelude.{◌==◌, Option, Some, None, slice_get}
 use Rattle.std.specs.Bool.{Decides}
 use Rattle.std.specs.Option.{option_eq}
 use Rattle.std.specs.Cmp.{first_so, second_so}
@@ -22,11 +23,25 @@ use Rattle.std.specs.declared.num.NonZeroU32.{NonZeroU32}
 use Rattle.naga_ir.specs.declared.types.AddressSpace.{AddressSpace}
 use Rattle.naga_ir.specs.declared.types.ImageDimension.{ImageDimension}
 use Rattle.naga_ir.specs.declared.types.ImageClass.{ImageClass}
+use Rattle.naga_ir.specs.BuiltIns.{built_ins, number}
+use Rattle.naga_ir.specs.declared.built_in.BuiltIn.{BuiltIn as BuiltInType}
+use Rattle.naga_ir.specs.declared.storage_format.StorageFormat.{StorageFormat}
 use Rattle.naga_ir.specs.declared.types.Binding.{Binding}
+use Rattle.naga_ir.specs.declared.types.Binding.TheVariants.{BuiltIn, Location}
+use Rattle.naga_ir.specs.declared.types.ImageClass.TheVariants as class
+use Rattle.naga_ir.specs.declared.types.Interpolation.{Interpolation}
+use Rattle.naga_ir.specs.declared.types.Sampling.{Sampling}
+use Rattle.naga_ir.specs.declared.types.StorageAccess.{StorageAccess}
 use Rattle.naga_ir.specs.declared.types.StructMember.{StructMember}
 use Rattle.naga_ir.specs.contracts.types.TypeInnerPartialEq.TheImpl.{ghosts}
 use Rattle.naga_ir.specs.contracts.types.StructMemberPartialEq.TheImpl as of_member
+use Rattle.naga_ir.specs.contracts.built_in.BuiltInPartialEq.TheImpl as of_built_in
+use Rattle.naga_ir.specs.contracts.storage_format.StorageFormat.{the_type as format_type}
+use Rattle.naga_ir.specs.contracts.storage_format.StorageFormatPartialEq.TheImpl as of_format
 use Rattle.naga_ir.specs.contracts.types.BindingPartialEq.TheImpl as of_binding
+use Rattle.naga_ir.specs.contracts.types.InterpolationPartialEq.TheImpl as of_interpolation
+use Rattle.naga_ir.specs.contracts.types.SamplingPartialEq.TheImpl as of_sampling
+use Rattle.naga_ir.specs.contracts.types.StorageAccessPartialEq.TheImpl as of_access
 use Rattle.naga_ir.specs.contracts.types.ScalarPartialEq.TheImpl as of_scalar
 use Rattle.naga_ir.specs.contracts.types.VectorSizePartialEq.TheImpl as of_size
 use Rattle.naga_ir.specs.contracts.types.CooperativeSizePartialEq.TheImpl as of_cooperative_size
@@ -59,8 +74,21 @@ space_same a b h = search rules
 dimension_same : (a b : ImageDimension) → of_dimension.ghosts.eq a b ≡ true → a ≡ b
 dimension_same a b h = search rules
 
+format_same : (a b : StorageFormat) → of_format.ghosts.eq a b ≡ true → a ≡ b
+format_same a b h = same_true format_type (search rules) a b h
+
+access_same : (a b : StorageAccess) → of_access.ghosts.eq a b ≡ true → a ≡ b
+access_same a b h = search rules
+
 class_same : (a b : ImageClass) → of_class.ghosts.eq a b ≡ true → a ≡ b
-class_same a b h = search rules
+class_same (class.Sampled kind multi) (class.Sampled kind' multi') h = search rules
+class_same (class.Depth multi) (class.Depth multi') h = search rules
+class_same (class.Storage f a) (class.Storage f' a') h =
+    let p : of_format.ghosts.eq f f' ≡ true = first_so _ _ h in
+    let q : of_access.ghosts.eq a a' ≡ true = second_so (of_format.ghosts.eq f f') _ h in
+    cc (format_same f f' p, access_same a a' q)
+class_same class.External class.External h = refl
+class_same _ _ h = cc
 
 -- two numbers above 0 are equal if their values are
 pub non_zero_same : (a b : NonZeroU32) → a.value ≡ b.value → a ≡ b
@@ -72,8 +100,43 @@ array_size_same (Pending o) (Pending o') h = search rules
 array_size_same Dynamic Dynamic h = refl
 array_size_same _ _ h = cc
 
+numbered : (a : BuiltInType) → slice_get built_ins (number a) ≡ Some a
+numbered a = search rules
+
+-- two built-in values are equal if their numbers are
+pub number_same : (a b : BuiltInType) → number a ≡ number b → a ≡ b
+number_same a b e = cc (numbered a, numbered b)
+
+built_in_same : (a b : BuiltInType) → of_built_in.ghosts.eq a b ≡ true → a ≡ b
+built_in_same a b h = search (rules, number_same)
+
+interpolation_same : (a b : Option Interpolation) → option_eq of_interpolation.ghosts.eq a b ≡ true → a ≡ b
+interpolation_same a b h = search rules
+
+sampling_same : (a b : Option Sampling) → option_eq of_sampling.ghosts.eq a b ≡ true → a ≡ b
+sampling_same a b h = search rules
+
+location : (l l' : ℕ) (i i' : Option Interpolation) (s s' : Option Sampling) (b b' : Option ℕ) (p p' : Bool) → of_binding.ghosts.eq (Location l i s b p) (Location l' i' s' b' p') ≡ true → Location l i s b p ≡ Location l' i' s' b' p'
+location l l' i i' s s' b b' p p' h =
+    let same : l ≡ l' = search rules in
+    let after_location = second_so (l == l') _ h in
+    let i_same : option_eq of_interpolation.ghosts.eq i i' ≡ true = first_so _ _ after_location in
+    let after_interpolation = second_so (option_eq of_interpolation.ghosts.eq i i') _ after_location in
+    let s_same : option_eq of_sampling.ghosts.eq s s' ≡ true = first_so _ _ after_interpolation in
+    let sources : b ≡ b' = search rules in
+    let primitives : p ≡ p' = search rules in
+    cc (same, interpolation_same i i' i_same, sampling_same s s' s_same, sources, primitives)
+
+one_binding_same : (a b : Binding) → of_binding.ghosts.eq a b ≡ true → a ≡ b
+one_binding_same (BuiltIn a) (BuiltIn b) h = search (rules, built_in_same)
+one_binding_same (Location l i s b p) (Location l' i' s' b' p') h = location l l' i i' s s' b b' p p' h
+one_binding_same _ _ h = cc
+
 binding_same : (a b : Option Binding) → option_eq of_binding.ghosts.eq a b ≡ true → a ≡ b
-binding_same a b h = search rules
+binding_same None None h = refl
+binding_same (Some a) (Some b) h = ap Some (one_binding_same a b h)
+binding_same None (Some b) h = cc
+binding_same (Some a) None h = cc
 
 pub name_same : (a b : Option (List ℕ)) → option_eq of_text.ghosts.eq a b ≡ true → a ≡ b
 name_same None None h = refl
@@ -82,7 +145,13 @@ name_same None (Some y) h = cc
 name_same (Some x) None h = cc
 
 member_same : (a b : StructMember) → of_member.ghosts.eq a b ≡ true → a ≡ b
-member_same a b h = search rules
+member_same a b h =
+    let names : a.name ≡ b.name = name_same a.name b.name (first_so _ _ h) in
+    let types : a.ty ≡ b.ty = search rules in
+    let by_binding : option_eq of_binding.ghosts.eq a.binding b.binding ≡ true = first_so _ _ (second_so _ _ (second_so _ _ h)) in
+    let bindings : a.binding ≡ b.binding = binding_same a.binding b.binding by_binding in
+    let offsets : a.offset ≡ b.offset = search rules in
+    λ j. record { name = names j; ty = types j; binding = bindings j; offset = offsets j }
 
 member_decides : (a b : StructMember) → Decides (of_member.ghosts.eq a b) (a ≡ b)
 member_decides a b = (member_same a b, λ e. subst (λ (x : StructMember). of_member.ghosts.eq a x ≡ true) e (member_laws.laws-law.refl a))

@@ -44,8 +44,8 @@ own-folded one.Break = refl
 own-folded one.Continue = refl
 own-folded (one.Return value) = refl
 own-folded one.Kill = refl
-own-folded one.ControlBarrier = refl
-own-folded one.MemoryBarrier = refl
+own-folded (one.ControlBarrier barrier) = refl
+own-folded (one.MemoryBarrier barrier) = refl
 own-folded (one.Store pointer value) = refl
 own-folded (one.ImageStore image coordinate array_index value) = refl
 own-folded (one.Atomic pointer fun value result) = refl
@@ -56,7 +56,7 @@ own-folded (one.RayQuery query fun) = refl
 own-folded (one.RayPipelineFunction fun) = refl
 own-folded (one.SubgroupBallot result predicate) = refl
 own-folded (one.SubgroupGather mode argument result) = refl
-own-folded (one.SubgroupCollectiveOperation op argument result) = refl
+own-folded (one.SubgroupCollectiveOperation op collective_op argument result) = refl
 own-folded (one.CooperativeStore target pointer stride) = refl
 
 inner-folded : (x : Form) → inner_references (folded x) ≡ nested x
@@ -69,8 +69,8 @@ inner-folded one.Break = refl
 inner-folded one.Continue = refl
 inner-folded (one.Return value) = refl
 inner-folded one.Kill = refl
-inner-folded one.ControlBarrier = refl
-inner-folded one.MemoryBarrier = refl
+inner-folded (one.ControlBarrier barrier) = refl
+inner-folded (one.MemoryBarrier barrier) = refl
 inner-folded (one.Store pointer value) = refl
 inner-folded (one.ImageStore image coordinate array_index value) = refl
 inner-folded (one.Atomic pointer fun value result) = refl
@@ -81,7 +81,7 @@ inner-folded (one.RayQuery query fun) = refl
 inner-folded (one.RayPipelineFunction fun) = refl
 inner-folded (one.SubgroupBallot result predicate) = refl
 inner-folded (one.SubgroupGather mode argument result) = refl
-inner-folded (one.SubgroupCollectiveOperation op argument result) = refl
+inner-folded (one.SubgroupCollectiveOperation op collective_op argument result) = refl
 inner-folded (one.CooperativeStore target pointer stride) = refl
 
 pub statement-out : (s : Statement) → statement_references s ≡ references_of s ++ nested (out-Statement s)

@@ -15,6 +15,7 @@
 -- Handles.ExpressionReferencesOk: the references of a function's arguments and expressions are right
 -- Handles.FunctionReferencesOk: besides these, the types of a function's variables exist
 -- Ranks.rank_of_type, rank_of_expression: the index of a type or a global expression in the order of visits
+pub mod BuiltIns
 pub mod Distinct
 pub mod FirstError
 pub mod Handles
@@ -28,5 +29,6 @@ pub mod Ranks
 pub mod References
 pub mod Sizes
 pub mod Statements
+pub mod StorageFormats
 pub mod TypeWords
 pub mod steps

@@ -51,7 +51,7 @@ operands (As expr kind convert) = expr ∷ []
 operands (ArrayLength expr) = expr ∷ []
 operands (RayQueryGetIntersection query committed) = query ∷ []
 operands (RayQueryVertexPositions query committed) = query ∷ []
-operands (CooperativeLoad pointer stride) = pointer ∷ stride ∷ []
+operands (CooperativeLoad shape pointer stride) = pointer ∷ stride ∷ []
 operands (CooperativeMultiplyAdd a b c) = a ∷ b ∷ c ∷ []
 operands _ = []
 

@@ -66,7 +66,7 @@ module _ (S B C : Type 0) where
   own_operands (one.RayPipelineFunction fun) = ray_pipeline_operands fun
   own_operands (one.SubgroupBallot result predicate) = result ∷ option_to_list predicate
   own_operands (one.SubgroupGather mode argument result) = gather_operand mode ++ argument ∷ result ∷ []
-  own_operands (one.SubgroupCollectiveOperation op argument result) = argument ∷ result ∷ []
+  own_operands (one.SubgroupCollectiveOperation op collective_op argument result) = argument ∷ result ∷ []
   own_operands (one.CooperativeStore target pointer stride) = target ∷ pointer ∷ stride ∷ []
   own_operands _ = []
 

@@ -1,4 +1,5 @@
 -- What only private functions promise one another.
+pub mod HashLaws
 pub mod OperandForms
 pub mod OwnReferences
 pub mod StatementParts

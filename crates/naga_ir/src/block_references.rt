@@ -86,8 +86,8 @@ fn try_for_each_in_statement<E, F: Fn(Reference) -> Result<(), E>>(
         | Statement::Continue
         | Statement::Return { .. }
         | Statement::Kill
-        | Statement::ControlBarrier
-        | Statement::MemoryBarrier
+        | Statement::ControlBarrier(_)
+        | Statement::MemoryBarrier(_)
         | Statement::Store { .. }
         | Statement::ImageStore { .. }
         | Statement::Atomic { .. }
@@ -138,8 +138,8 @@ fn own_references(statement: &Statement) -> OwnReferences
         | Statement::Break
         | Statement::Continue
         | Statement::Kill
-        | Statement::ControlBarrier
-        | Statement::MemoryBarrier => OwnReferences::Nothing,
+        | Statement::ControlBarrier(_)
+        | Statement::MemoryBarrier(_) => OwnReferences::Nothing,
         Statement::ImageStore { .. }
         | Statement::Atomic { .. }
         | Statement::ImageAtomic { .. }

@@ -3,7 +3,7 @@
 ghost use Rattle.std.specs.Prelude.{◌≡◌};
 ghost use Rattle.naga_ir.specs.Literals.{literal_scalar};
 
-use crate::types::{Scalar, ScalarKind, VectorSize};
+use crate::types::{CooperativeRole, CooperativeSize, Scalar, ScalarKind, VectorSize};
 use naga_arena::handle::Handle;
 use naga_arena::list::List;
 use naga_arena::tags::{
@@ -163,12 +163,18 @@ pub enum MathFunction {
     Round,
     Fract,
     Trunc,
+    Modf,
+    Frexp,
+    Ldexp,
     Exp,
     Exp2,
     Log,
     Log2,
     Pow,
     Dot,
+    Dot4I8Packed,
+    Dot4U8Packed,
+    Outer,
     Cross,
     Distance,
     Length,
@@ -183,6 +189,7 @@ pub enum MathFunction {
     SmoothStep,
     Sqrt,
     InverseSqrt,
+    Inverse,
     Transpose,
     Determinant,
     QuantizeToF16,
@@ -194,8 +201,30 @@ pub enum MathFunction {
     InsertBits,
     FirstTrailingBit,
     FirstLeadingBit,
+    Pack4x8snorm,
+    Pack4x8unorm,
+    Pack2x16snorm,
+    Pack2x16unorm,
     Pack2x16float,
+    Pack4xI8,
+    Pack4xU8,
+    Pack4xI8Clamp,
+    Pack4xU8Clamp,
+    Unpack4x8snorm,
+    Unpack4x8unorm,
+    Unpack2x16snorm,
+    Unpack2x16unorm,
     Unpack2x16float,
+    Unpack4xI8,
+    Unpack4xU8,
+}
+
+/// The columns, the rows and the role of a cooperative matrix.
+#[derive(Clone, Copy, Debug, PartialEq, Eq)]
+pub struct CooperativeShape {
+    pub columns: CooperativeSize,
+    pub rows: CooperativeSize,
+    pub role: CooperativeRole,
 }
 
 /// A value that is computed from the values of preceding expressions.
@@ -362,6 +391,8 @@ pub enum Expression {
     },
     /// A cooperative matrix from memory.
     CooperativeLoad {
+        /// What the matrix is, if that is said: its type is not known without.
+        shape: Option<CooperativeShape>,
         pointer: Handle<ExpressionTag>,
         /// From the start of a column or row to the start of the next, in elements.
         stride: Handle<ExpressionTag>,

@@ -44,15 +44,45 @@ pub struct Override {
     pub init: Option<Handle<ExpressionTag>>,
 }
 
+/// Where a pipeline binds a resource (WGSL, "Resource Interface").
+#[derive(Clone, Copy, Debug, PartialEq, Eq, Hash)]
+pub struct ResourceBinding {
+    /// The number of the bind group.
+    pub group: u32,
+    /// The number of the binding in its group.
+    pub binding: u32,
+}
+
+/// What holds of each access to a variable in a buffer (naga, `MemoryDecorations`).
+#[derive(Clone, Copy, Debug, PartialEq, Eq)]
+pub struct MemoryDecorations {
+    /// Other invocations see what is written.
+    pub coherent: bool,
+    /// The value may change at any time.
+    pub is_volatile: bool,
+}
+
+impl MemoryDecorations {
+    /// Nothing more than of any variable.
+    pub const NONE: MemoryDecorations = MemoryDecorations {
+        coherent: false,
+        is_volatile: false,
+    };
+}
+
 /// A variable of the module.
 #[derive(Debug, Drop)]
 pub struct GlobalVariable {
     pub name: Option<Text>,
     /// Where the variable is kept.
     pub space: AddressSpace,
+    /// Where a pipeline binds it, of a resource.
+    pub binding: Option<ResourceBinding>,
     pub ty: Handle<TypeTag>,
     /// The first value: a global expression.
     pub init: Option<Handle<ExpressionTag>>,
+    /// What holds of each access to it.
+    pub memory_decorations: MemoryDecorations,
 }
 
 /// A variable of a function.
@@ -122,9 +152,23 @@ impl Function {
     }
 }
 
+/// What the primitives of a mesh shader are (naga, `MeshOutputTopology`).
+#[derive(Clone, Copy, Debug, PartialEq, Eq)]
+pub enum MeshOutputTopology {
+    Points,
+    Lines,
+    Triangles,
+}
+
 /// The output of a mesh shader.
 #[derive(Clone, Copy, Debug, PartialEq, Eq)]
 pub struct MeshStageInfo {
+    /// What its primitives are.
+    pub topology: MeshOutputTopology,
+    /// The greatest number of vertices, unless overrides decide it.
+    pub max_vertices: u32,
+    /// The greatest number of primitives, unless overrides decide it.
+    pub max_primitives: u32,
     /// The variable that it writes its output to.
     pub output_variable: Handle<GlobalVariableTag>,
     pub vertex_output_type: Handle<TypeTag>,
@@ -135,10 +179,50 @@ pub struct MeshStageInfo {
     pub max_primitives_override: Option<Handle<ExpressionTag>>,
 }
 
+/// A stage of a pipeline (naga, `ShaderStage`).
+#[derive(Clone, Copy, Debug, PartialEq, Eq)]
+pub enum ShaderStage {
+    Vertex,
+    Task,
+    Mesh,
+    Fragment,
+    Compute,
+    RayGeneration,
+    Miss,
+    AnyHit,
+    ClosestHit,
+}
+
+/// What a fragment shader that writes depths promises of them (naga, `ConservativeDepth`).
+#[derive(Clone, Copy, Debug, PartialEq, Eq)]
+pub enum ConservativeDepth {
+    /// None is less than that of the primitive.
+    GreaterEqual,
+    /// None is greater than that of the primitive.
+    LessEqual,
+    /// Each is that of the primitive.
+    Unchanged,
+}
+
+/// Whether depths are tested before a fragment shader runs (naga, `EarlyDepthTest`).
+#[derive(Clone, Copy, Debug, PartialEq, Eq)]
+pub enum EarlyDepthTest {
+    /// They are, whatever it writes.
+    Force,
+    /// They may be, since it keeps a promise.
+    Allow { conservative: ConservativeDepth },
+}
+
 /// A function that a pipeline calls first in one of its stages.
 #[derive(Debug, Drop)]
 pub struct EntryPoint {
     pub name: Text,
+    /// The stage, if it is known.
+    pub stage: Option<ShaderStage>,
+    /// Of a fragment shader, whether depths are tested before it runs.
+    pub early_depth_test: Option<EarlyDepthTest>,
+    /// The sizes of a workgroup in three dimensions, of a shader that has workgroups; else three times 0.
+    pub workgroup_size: [u32; 3],
     /// The sizes of a workgroup in three dimensions, if overrides decide them: global expressions.
     pub workgroup_size_overrides: Option<[Option<Handle<ExpressionTag>>; 3]>,
     pub function: Function,

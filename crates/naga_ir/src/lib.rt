@@ -6,13 +6,16 @@
 
 pub mod alignment;
 pub mod block_references;
+pub mod built_in;
 pub mod expression;
 pub mod ir;
+pub mod laws;
 pub mod operands;
 pub mod origin;
 pub mod parts;
 pub mod reference;
 pub mod statement;
+pub mod storage_format;
 mod type_paths;
 pub mod types;
 pub mod unique_arena;

@@ -276,7 +276,11 @@ impl Expression {
             | Self::RayQueryVertexPositions { query: expr, .. } => Fields::one(expr),
             Self::Access { base, index } => Fields::two(base, index),
             Self::Binary { left, right, .. } => Fields::two(left, right),
-            Self::CooperativeLoad { pointer, stride } => Fields::two(pointer, stride),
+            Self::CooperativeLoad {
+                pointer,
+                stride,
+                ..
+            } => Fields::two(pointer, stride),
             Self::CooperativeMultiplyAdd { a, b, c } => Fields::three(a, b, c),
             Self::Select {
                 condition,

@@ -44,10 +44,22 @@ impl Block {
     }
 }
 
+/// The value of a selector at which a case of a `switch` is executed (naga, `SwitchValue`).
+#[derive(Clone, Copy, Debug, PartialEq, Eq)]
+pub enum SwitchValue {
+    I32(i32),
+    U32(u32),
+    /// Each value that no other case has.
+    Default,
+}
+
 /// A case of a `switch`.
 #[derive(Debug, Drop)]
 #[cycle(statement)]
 pub struct SwitchCase {
+    /// When it is executed. Where that isn't said, the last case of a `switch` is its default, and another case has a
+    /// value of its own.
+    pub value: Option<SwitchValue>,
     pub body: Block,
     /// Whether the next case is executed after this one.
     pub fall_through: bool,
@@ -141,6 +153,40 @@ pub enum SubgroupOperation {
     Xor,
 }
 
+/// For which invocations a subgroup makes one value of many (naga, `CollectiveOperation`).
+#[derive(Clone, Copy, Debug, PartialEq, Eq)]
+pub enum CollectiveOperation {
+    /// Of all invocations, for each of them.
+    Reduce,
+    /// For each invocation, of those up to it and of its own.
+    InclusiveScan,
+    /// For each invocation, of those before it.
+    ExclusiveScan,
+}
+
+/// The memory whose accesses a barrier orders (naga, `Barrier`).
+#[derive(Clone, Copy, Debug, PartialEq, Eq)]
+pub struct Barrier {
+    /// Buffers.
+    pub storage: bool,
+    /// Variables of the workgroup.
+    pub work_group: bool,
+    /// What the invocations of a subgroup share.
+    pub sub_group: bool,
+    /// Storage images.
+    pub texture: bool,
+}
+
+impl Barrier {
+    /// Variables of the workgroup alone.
+    pub const WORK_GROUP: Barrier = Barrier {
+        storage: false,
+        work_group: true,
+        sub_group: false,
+        texture: false,
+    };
+}
+
 /// A statement.
 #[derive(Debug, Drop)]
 #[cycle(statement)]
@@ -176,10 +222,10 @@ pub enum Statement {
     },
     /// Ends the invocation of a fragment.
     Kill,
-    /// Waits for the other invocations.
-    ControlBarrier,
+    /// Waits for the other invocations, and orders accesses to memory.
+    ControlBarrier(Barrier),
     /// Orders accesses to memory.
-    MemoryBarrier,
+    MemoryBarrier(Barrier),
     /// Writes a value to what a pointer points to.
     Store {
         pointer: Handle<ExpressionTag>,
@@ -242,6 +288,7 @@ pub enum Statement {
     /// Makes one value of the values of the subgroup.
     SubgroupCollectiveOperation {
         op: SubgroupOperation,
+        collective_op: CollectiveOperation,
         argument: Handle<ExpressionTag>,
         result: Handle<ExpressionTag>,
     },

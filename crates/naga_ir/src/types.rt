@@ -4,6 +4,8 @@ ghost use Rattle.std.specs.Prelude.{◌≡◌, IfOk, IsOk};
 ghost use Rattle.naga_ir.specs.Sizes.{components, cooperative_components, is_numeric};
 ghost use Rattle.naga_ir.specs.TypeWords.{IsNotStruct, is_mipmapped, is_multisampled, is_struct, pointer_base, scalar_of, vector_size_and_scalar};
 
+use crate::built_in::BuiltIn;
+use crate::storage_format::StorageFormat;
 use naga_arena::handle::Handle;
 use naga_arena::list::List;
 use naga_arena::memory::OutOfMemory;
@@ -207,17 +209,51 @@ pub enum ArraySize {
     Dynamic,
 }
 
+/// How the values of the vertices of a primitive become that of a fragment (WGSL, "Interpolation").
+#[derive(Clone, Copy, Debug, PartialEq, Eq, Hash)]
+pub enum Interpolation {
+    /// In proportion to the distances, with the correction for perspective.
+    Perspective,
+    /// In proportion to the distances on the screen.
+    Linear,
+    /// One of them is taken as it is.
+    Flat,
+    /// The fragment gets all of them.
+    PerVertex,
+}
+
+/// Where in a fragment a value is taken, or of which vertex if it is flat (WGSL, "Interpolation").
+#[derive(Clone, Copy, Debug, PartialEq, Eq, Hash)]
+pub enum Sampling {
+    /// In the middle of the pixel.
+    Center,
+    /// At a point that the primitive covers.
+    Centroid,
+    /// At each sample.
+    Sample,
+    /// Of the first vertex.
+    First,
+    /// Of the first or the last vertex.
+    Either,
+}
+
 /// Where a value comes from or goes to outside of the shader.
 #[derive(Clone, Copy, Debug, PartialEq, Eq, Hash)]
 pub enum Binding {
-    /// A value that the pipeline itself gives or takes, by number.
-    BuiltIn(u32),
+    /// A value that the pipeline itself gives or takes.
+    BuiltIn(BuiltIn),
     /// A value that the stage before or after gives or takes.
     Location {
         /// The number of the location.
         location: u32,
+        /// How the value of a fragment is made, if that is said.
+        interpolation: Option<Interpolation>,
+        /// Where the value of a fragment is taken, if that is said.
+        sampling: Option<Sampling>,
         /// Which of two sources of blending an output is, if there are two: 0 or 1.
         blend_src: Option<u32>,
+        /// Whether a mesh shader gives one value to each primitive, and not to each vertex.
+        per_primitive: bool,
     },
 }
 
@@ -268,10 +304,6 @@ pub struct StorageAccess {
     /// Atomic operations may change values.
     pub atomic: bool,
 }
-
-/// The format of a storage image, by number.
-#[derive(Clone, Copy, Debug, PartialEq, Eq, Hash)]
-pub struct StorageFormat(pub u32);
 
 /// What an image holds.
 #[derive(Clone, Copy, Debug, PartialEq, Eq, Hash)]

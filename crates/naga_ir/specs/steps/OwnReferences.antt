@@ -19,7 +19,7 @@ IsListed (one.RayQuery query fun) = Unit {0}
 IsListed (one.RayPipelineFunction fun) = Unit {0}
 IsListed (one.SubgroupBallot result predicate) = Unit {0}
 IsListed (one.SubgroupGather mode argument result) = Unit {0}
-IsListed (one.SubgroupCollectiveOperation op argument result) = Unit {0}
+IsListed (one.SubgroupCollectiveOperation op collective_op argument result) = Unit {0}
 IsListed (one.CooperativeStore target pointer stride) = Unit {0}
 IsListed _ = ⊥
 

@@ -47,5 +47,5 @@ IsAtomic _ = ⊥
 abbrev pub UsesSubgroup : Form → Type 0
 UsesSubgroup (one.SubgroupBallot result predicate) = Unit {0}
 UsesSubgroup (one.SubgroupGather mode argument result) = Unit {0}
-UsesSubgroup (one.SubgroupCollectiveOperation op argument result) = Unit {0}
+UsesSubgroup (one.SubgroupCollectiveOperation op collective_op argument result) = Unit {0}
 UsesSubgroup _ = ⊥
