@@ -54,5 +54,5 @@ module _ (s : ExpressionSurroundings) (k : List ExpressionKind) where
   any_kinds t (form.RayQueryVertexPositions query committed) rule none h = h
   any_kinds t form.SubgroupBallotResult rule none h = h
   any_kinds t (form.SubgroupOperationResult ty) rule none h = h
-  any_kinds t (form.CooperativeLoad pointer stride) rule none h = h
+  any_kinds t (form.CooperativeLoad shape pointer stride) rule none h = h
   any_kinds t (form.CooperativeMultiplyAdd a b c) rule none h = h

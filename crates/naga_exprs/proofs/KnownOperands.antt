@@ -6,6 +6,7 @@ use Rattle.naga_ir.proofs.ReferencesOfItems.{type_in}
 use Rattle.naga_ir.specs.Handles.{Exists, function_counts}
 use Rattle.naga_ir.specs.ItemReferences.{expression_references, global_lists, named_references}
 use Rattle.naga_ir.specs.References.{named_type, operands}
+use Rattle.naga_ir.specs.declared.expression.CooperativeShape.{CooperativeShape}
 use Rattle.naga_ir.specs.declared.expression.Expression.{Expression}
 use Rattle.naga_ir.specs.declared.expression.Expression.TheVariants as form
 use Rattle.naga_ir.specs.declared.expression.MathFunction.{MathFunction}
@@ -41,9 +42,9 @@ operands_of_vertices : (query : ℕ) (committed : Bool) → operands (form.RayQu
 unfolding operands
 operands_of_vertices query committed = refl
 
-operands_of_cooperative_load : (pointer stride : ℕ) → operands (form.CooperativeLoad pointer stride) ≡ pointer ∷ stride ∷ []
+operands_of_cooperative_load : (shape : Option CooperativeShape) (pointer stride : ℕ) → operands (form.CooperativeLoad shape pointer stride) ≡ pointer ∷ stride ∷ []
 unfolding operands
-operands_of_cooperative_load pointer stride = refl
+operands_of_cooperative_load shape pointer stride = refl
 
 operands_of_multiply_add : (a b c : ℕ) → operands (form.CooperativeMultiplyAdd a b c) ≡ a ∷ b ∷ c ∷ []
 unfolding operands
@@ -95,8 +96,8 @@ pub of_vertices : (x : Expression) (query : ℕ) (committed : Bool) → x ≡ fo
 of_vertices x query committed is = among x (query ∷ []) query (ap operands is ∙ operands_of_vertices query committed) (0, omega arith, refl)
 
 -- the pointer of a load of a cooperative matrix
-pub of_cooperative_load : (x : Expression) (pointer stride : ℕ) → x ≡ form.CooperativeLoad pointer stride → Contains (operands x) pointer
-of_cooperative_load x pointer stride is = among x (pointer ∷ stride ∷ []) pointer (ap operands is ∙ operands_of_cooperative_load pointer stride) (0, omega arith, refl)
+pub of_cooperative_load : (x : Expression) (shape : Option CooperativeShape) (pointer stride : ℕ) → x ≡ form.CooperativeLoad shape pointer stride → Contains (operands x) pointer
+of_cooperative_load x shape pointer stride is = among x (pointer ∷ stride ∷ []) pointer (ap operands is ∙ operands_of_cooperative_load shape pointer stride) (0, omega arith, refl)
 
 -- the operands of `a * b + c`
 pub left_of_multiply_add : (x : Expression) (a b c : ℕ) → x ≡ form.CooperativeMultiplyAdd a b c → Contains (operands x) a

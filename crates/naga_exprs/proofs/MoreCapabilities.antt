@@ -122,7 +122,7 @@ module _ (t : MathTyping) (s : ExpressionSurroundings) (more : ℕ) (stages : Sh
   rule-more (form.RayQueryVertexPositions query committed) allowed h = same-stages (form.RayQueryVertexPositions query committed) allowed h
   rule-more form.SubgroupBallotResult allowed h = (stages, refl, contained-in allowed s.subgroup_stages stages h subgroups)
   rule-more (form.SubgroupOperationResult ty) allowed h = (stages, refl, contained-in allowed s.subgroup_stages stages h subgroups)
-  rule-more (form.CooperativeLoad pointer stride) allowed h = same-stages (form.CooperativeLoad pointer stride) allowed h
+  rule-more (form.CooperativeLoad shape pointer stride) allowed h = same-stages (form.CooperativeLoad shape pointer stride) allowed h
   rule-more (form.CooperativeMultiplyAdd a b c) allowed h = same-stages (form.CooperativeMultiplyAdd a b c) allowed h
 
 -- the rule of an expression allows no fewer stages where more is allowed

@@ -69,7 +69,7 @@ IsRule t s (form.RayQueryGetIntersection query committed) rule = rule ≡ ray_qu
 IsRule t s (form.RayQueryVertexPositions query committed) rule = rule ≡ ray_query_vertex_positions_rule s query
 IsRule t s form.SubgroupBallotResult rule = rule ≡ Ok s.subgroup_stages
 IsRule t s (form.SubgroupOperationResult ty) rule = rule ≡ Ok s.subgroup_stages
-IsRule t s (form.CooperativeLoad pointer stride) rule = rule ≡ cooperative_load_rule s pointer
+IsRule t s (form.CooperativeLoad shape pointer stride) rule = rule ≡ cooperative_load_rule s pointer
 IsRule t s (form.CooperativeMultiplyAdd a b c) rule = rule ≡ cooperative_multiply_add_rule s a b c
 
 -- what a call returns for an expression: what the rule says, out of memory aside

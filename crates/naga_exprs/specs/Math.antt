@@ -26,7 +26,7 @@ abbrev pub math_typing : (MathFunction → List TypeInner → Boolean) → (Math
 math_typing accepts least_arguments = record { accepts = accepts; least_arguments = least_arguments }
 
 -- the functions that keep floating-point numbers of 16 bits in ones of 32
-abbrev pub keeps_float16 : MathFunction → Boolean
+unfoldable pub keeps_float16 : MathFunction → Boolean
 keeps_float16 fun = list_any (of_function.ghosts.eq fun) (QuantizeToF16 ∷ Pack2x16float ∷ Unpack2x16float ∷ [])
 
 -- the error of a function that needs a capability, if it is missing

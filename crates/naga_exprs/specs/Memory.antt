@@ -1,13 +1,11 @@
 -- The rules of loads and of the lengths of arrays.
-use Rattle.std.specs.Prelude.{ℕ, Bool as Boolean, true, false, List, [], ◌∷◌, Option, Some, None, Result, is_some, option_and_then}
+use Rattle.std.specs.Prelude.{ℕ, Bool as Boolean, true, false, List, [], ◌∷◌, Option, Some, Result, is_some}
 use Rattle.naga_flags.specs.Bits.{DATA, SIZED, union_of}
 use Rattle.naga_flags.specs.Flags.{has}
 use Rattle.naga_flags.specs.declared.flags.ShaderStages.{ShaderStages}
-use Rattle.naga_ir.specs.TypeWords.{scalar_of}
 use Rattle.naga_ir.specs.declared.types.«Type».{«Type»}
 use Rattle.naga_ir.specs.declared.types.ArraySize.{ArraySize}
 use Rattle.naga_ir.specs.declared.types.ArraySize.TheVariants.{Constant, Pending, Dynamic}
-use Rattle.naga_ir.specs.declared.types.Scalar.{Scalar as ScalarType}
 use Rattle.naga_ir.specs.declared.types.TypeInner.{TypeInner}
 use Rattle.naga_ir.specs.declared.types.TypeInner.TheVariants.{Pointer, ValuePointer, Array}
 use Rattle.naga_info.specs.Stages.{compute_stage, every_stage}
@@ -15,6 +13,7 @@ use Rattle.naga_info.specs.Surroundings.{ExpressionSurroundings, flags_at, form_
 use Rattle.naga_info.specs.declared.expression_error.ExpressionError.{ExpressionError}
 use Rattle.naga_info.specs.declared.expression_error.ExpressionError.TheVariants as refusal
 use Rattle.naga_types.specs.Checks.{ok_unless, require}
+use Rattle.naga_typing.specs.FullTyping.{target_scalar}
 use Rattle.naga_typing.specs.Resolutions.{inner_in}
 use Rattle.naga_typing.specs.declared.typifier.TypeResolution.TheVariants.{Handle}
 
@@ -54,12 +53,6 @@ abbrev pub array_length_rule : ExpressionSurroundings → ℕ → Result ShaderS
 array_length_rule s array =
     ok_unless (require (points_to_dynamic s.«module».types (form_at s array)) (refusal.InvalidArrayType array))
     every_stage
-
--- the scalar of what `inner` points to, if that is a scalar, a vector or a matrix of either kind
-abbrev pub target_scalar : List «Type» → TypeInner → Option ScalarType
-target_scalar types (Pointer base space) = option_and_then scalar_of (inner_in types (Handle base))
-target_scalar types (ValuePointer size scalar space) = Some scalar
-target_scalar _ _ = None
 
 -- the rule of a load of a cooperative matrix, which only compute shaders may use
 abbrev pub cooperative_load_rule : ExpressionSurroundings → ℕ → Result ShaderStages ExpressionError

@@ -20,6 +20,7 @@ use naga_ir::types::TypeInner;
 use naga_typing::typing::Typing;
 
 /// Whether a function keeps floating-point numbers of 16 bits in ones of 32.
+#[tactic(auto, unfolding(crate::specs::Math::keeps_float16))]
 fn keeps_halves(fun: MathFunction) -> bool
     ensures { result ≡ rule.keeps_float16 fun }
 {

@@ -15,7 +15,8 @@ use naga_info::expression_error::ExpressionError;
 use naga_ir::handle::Handle;
 use naga_ir::ir::Module;
 use naga_ir::tags::ExpressionTag;
-use naga_ir::types::{ArraySize, Scalar, TypeInner};
+use naga_ir::types::{ArraySize, TypeInner};
+use naga_typing::full_typing::target_scalar;
 
 /// Whether a value can be loaded through a value of type `inner`.
 fn can_load(context: FunctionContext<'_>, inner: &TypeInner) -> bool
@@ -139,29 +140,6 @@ pub fn validate_array_length(
     Ok(every_stage())
 }
 
-/// The scalar of what a type points to, if that is a scalar, a vector or a matrix of either kind.
-fn target_scalar(inner: &TypeInner, module: &Module) -> Option<Scalar>
-    requires exist { ReferencesExist (global_lists «module».now) inner.now }
-    ensures { result ≡ rule.target_scalar «module».now.types inner.now }
-{
-    match inner {
-        TypeInner::Pointer { base, .. } => module.types[*base].inner.scalar(),
-        TypeInner::ValuePointer { scalar, .. } => Some(*scalar),
-        TypeInner::Scalar(_)
-        | TypeInner::Vector { .. }
-        | TypeInner::Matrix { .. }
-        | TypeInner::CooperativeMatrix { .. }
-        | TypeInner::Atomic(_)
-        | TypeInner::Array { .. }
-        | TypeInner::Struct { .. }
-        | TypeInner::Image { .. }
-        | TypeInner::Sampler { .. }
-        | TypeInner::AccelerationStructure { .. }
-        | TypeInner::RayQuery { .. }
-        | TypeInner::BindingArray { .. } => None,
-    }
-}
-
 /// The stages that may use a cooperative matrix from memory (SPIR-V "OpCooperativeMatrixLoadKHR"): compute
 /// shaders.
 ///
@@ -176,7 +154,7 @@ pub fn validate_cooperative_load(
     requires pointer { pointer < length context.info.now.types }
     ensures { result ≡ cooperative_load_rule (surroundings context.entry) pointer }
 {
-    if target_scalar(context.type_of(pointer), context.module).is_none() {
+    if target_scalar(&context.module.types, context.type_of(pointer)).is_none() {
         return Err(ExpressionError::InvalidPointerType(pointer));
     }
     Ok(ShaderStages::COMPUTE)

@@ -60,7 +60,7 @@ source_of (form.RayQueryGetIntersection query committed) = elsewhere
 source_of (form.RayQueryVertexPositions query committed) = elsewhere
 source_of form.SubgroupBallotResult = elsewhere
 source_of (form.SubgroupOperationResult ty) = elsewhere
-source_of (form.CooperativeLoad pointer stride) = elsewhere
+source_of (form.CooperativeLoad shape pointer stride) = elsewhere
 source_of (form.CooperativeMultiplyAdd a b c) = elsewhere
 
 -- what an expression stands for, which may not be there

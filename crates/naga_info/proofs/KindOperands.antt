@@ -43,5 +43,5 @@ of_kind_operands P (form.RayQueryGetIntersection query committed) all = All-nil 
 of_kind_operands P (form.RayQueryVertexPositions query committed) all = All-nil P
 of_kind_operands P form.SubgroupBallotResult all = All-nil P
 of_kind_operands P (form.SubgroupOperationResult ty) all = All-nil P
-of_kind_operands P (form.CooperativeLoad pointer stride) all = All-nil P
+of_kind_operands P (form.CooperativeLoad shape pointer stride) all = All-nil P
 of_kind_operands P (form.CooperativeMultiplyAdd a b c) all = All-nil P

@@ -76,8 +76,8 @@ function_resolves resolves m f (form.RayQueryVertexPositions query committed) ea
 function_resolves resolves m f form.SubgroupBallotResult earlier = resolves m form.SubgroupBallotResult earlier
 function_resolves resolves m f (form.SubgroupOperationResult ty) earlier =
     resolves m (form.SubgroupOperationResult ty) earlier
-function_resolves resolves m f (form.CooperativeLoad pointer stride) earlier =
-    resolves m (form.CooperativeLoad pointer stride) earlier
+function_resolves resolves m f (form.CooperativeLoad shape pointer stride) earlier =
+    resolves m (form.CooperativeLoad shape pointer stride) earlier
 function_resolves resolves m f (form.CooperativeMultiplyAdd a b c) earlier =
     resolves m (form.CooperativeMultiplyAdd a b c) earlier
 

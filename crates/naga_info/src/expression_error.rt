@@ -8,9 +8,10 @@ use naga_flags::flags::Capabilities;
 use naga_ir::expression::{BinaryOperator, MathFunction, SwizzleComponent, UnaryOperator};
 use naga_ir::handle::Handle;
 use naga_ir::memory::OutOfMemory;
+use naga_ir::storage_format::StorageFormat;
 use naga_ir::tags::{ExpressionTag, TypeTag};
 use naga_ir::types::{
-    ImageClass, ImageDimension, ScalarKind, StorageAccess, StorageFormat, TypeInner, VectorSize,
+    ImageClass, ImageDimension, ScalarKind, StorageAccess, TypeInner, VectorSize,
 };
 use naga_types::error::ComposeError;
 use naga_typing::index::IndexableLengthError;

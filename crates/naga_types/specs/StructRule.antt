@@ -29,12 +29,12 @@ end_in s (Some m) = m.offset + size_at s m.ty
 
 -- the location of a source of blending, and which one it is
 abbrev pub source_of : Option Binding → Option (ℕ × ℕ)
-source_of (Some (Location location (Some source))) = Some (location, source)
+source_of (Some (Location location interpolation sampling (Some source) per_primitive)) = Some (location, source)
 source_of _ = None
 
 -- the location of a binding that is not a source of blending
 abbrev pub location_of : Option Binding → Option ℕ
-location_of (Some (Location location None)) = Some location
+location_of (Some (Location location interpolation sampling None per_primitive)) = Some location
 location_of _ = None
 
 -- a member's type, if the member is this source of blending

@@ -67,6 +67,7 @@ impl Sources {
             Binding::Location {
                 location,
                 blend_src: Some(blend_src),
+                ..
             },
         ) = member.binding
         else {
@@ -281,6 +282,7 @@ impl StructType<'_> {
                 Binding::Location {
                     location,
                     blend_src: None,
+                    ..
                 },
             ) = member.binding
             {

@@ -2,9 +2,11 @@
 use Rattle.std.proofs.Common.{◌≡◌, Bool, ℕ, List, Option, Contains, refl, subst, sym, arith}
 use Rattle.naga_ir.specs.References.{operands}
 use Rattle.naga_ir.specs.declared.expression.BinaryOperator.{BinaryOperator}
+use Rattle.naga_ir.specs.declared.expression.CooperativeShape.{CooperativeShape}
 use Rattle.naga_ir.specs.declared.expression.Expression.{Expression}
 use Rattle.naga_ir.specs.declared.expression.Expression.TheVariants as form
 use Rattle.naga_ir.specs.declared.expression.ImageQuery.{ImageQuery}
+use Rattle.naga_ir.specs.declared.expression.MathFunction.{MathFunction}
 use Rattle.naga_ir.specs.declared.expression.RelationalFunction.{RelationalFunction}
 use Rattle.naga_ir.specs.declared.expression.SampleLevel.{SampleLevel}
 use Rattle.naga_ir.specs.declared.expression.SwizzleComponent.{SwizzleComponent}
@@ -80,3 +82,11 @@ module _ (x : Expression) where
   pub summand_of_product : (a b c : ℕ) → x ≡ form.CooperativeMultiplyAdd a b c → Has c
   unfolding operands
   summand_of_product a b c e = subst (λ x. Contains (operands x) c) (sym e) (2, omega arith, refl)
+
+  pub of_cooperative_load : (shape : Option CooperativeShape) (pointer stride : ℕ) → x ≡ form.CooperativeLoad shape pointer stride → Has pointer
+  unfolding operands
+  of_cooperative_load shape pointer stride e = subst (λ x. Contains (operands x) pointer) (sym e) (0, omega arith, refl)
+
+  pub first_of_math : (fun : MathFunction) (arg : ℕ) (arg1 arg2 arg3 : Option ℕ) → x ≡ form.Math fun arg arg1 arg2 arg3 → Has arg
+  unfolding operands
+  first_of_math fun arg arg1 arg2 arg3 e = subst (λ x. Contains (operands x) arg) (sym e) (0, omega arith, refl)

@@ -1,24 +1,30 @@
 -- `FullTyping` keeps the laws of typings. The proof is among the definitions, since an `impl` cites it.
-use Rattle.std.proofs.Common.{◌≡◌, ◌<◌, ℕ, List, [], Option, Some, None, Ok, All, length, slice_get, option_to_list, refl, subst, arith}
+use Rattle.std.proofs.Common.{◌≡◌, ◌<◌, ℕ, List, [], ◌∷◌, Option, Some, None, Ok, Err, All, length, map, slice_get, option_to_list, refl, subst, arith}
+use Rattle.std.specs.Prelude.{Bool, true, false, cond}
+use Rattle.std.specs.List.{find, flat_map}
 use Rattle.std.specs.Option.{option_and_then, option_map}
-use Rattle.std.proofs.lemmas.List.Elements.{All-cons, All-nil}
-use Rattle.naga_arena.proofs.Elements.{all_at}
+use Rattle.std.proofs.lemmas.List.Elements.{All-cons, All-nil, All-take}
+use Rattle.naga_arena.proofs.Elements.{all-left, all-right, all-unmap, all_at}
 use Rattle.naga_ir.proofs.Handles.{global_references_ok}
 use Rattle.naga_ir.proofs.ModuleItems.{ray_intersection_exists, ray_vertex_return_exists, result_type_exists, variable_type_exists}
-use Rattle.naga_ir.specs.Handles.{ExistsGlobally, HandlesAccepted}
-use Rattle.naga_ir.specs.ItemReferences.{GlobalLists, global_lists}
+use Rattle.naga_ir.specs.Handles.{Exists, ExistsGlobally, HandlesAccepted, module_counts}
+use Rattle.naga_ir.specs.ItemReferences.{GlobalLists, global_lists, global_variable_references, special_types}
 use Rattle.naga_ir.specs.References.{named_type}
 use Rattle.naga_ir.specs.declared.expression.BinaryOperator.{BinaryOperator}
 use Rattle.naga_ir.specs.declared.expression.BinaryOperator.TheVariants.{Multiply}
+use Rattle.naga_ir.specs.declared.expression.CooperativeShape.{CooperativeShape}
 use Rattle.naga_ir.specs.declared.expression.Expression.{Expression}
 use Rattle.naga_ir.specs.declared.expression.Expression.TheVariants as form
 use Rattle.naga_ir.specs.declared.expression.ImageQuery.{ImageQuery as Query}
 use Rattle.naga_ir.specs.declared.expression.ImageQuery.TheVariants.{Size}
+use Rattle.naga_ir.specs.declared.expression.MathFunction.{MathFunction}
+use Rattle.naga_ir.specs.declared.expression.MathFunction.TheVariants.{Modf, Frexp}
 use Rattle.naga_ir.specs.declared.expression.SwizzleComponent.{SwizzleComponent}
 use Rattle.naga_ir.specs.declared.ir.Function.{Function}
 use Rattle.naga_ir.specs.declared.ir.FunctionResult.{FunctionResult}
 use Rattle.naga_ir.specs.declared.ir.GlobalVariable.{GlobalVariable}
 use Rattle.naga_ir.specs.declared.ir.Module.{Module}
+use Rattle.naga_ir.specs.declared.reference.Reference.{Reference}
 use Rattle.naga_ir.specs.declared.reference.Reference.TheVariants as to
 use Rattle.naga_ir.proofs.PartLemmas.{base_is, members_are, parts_of_binding_array, parts_of_pointer}
 use Rattle.naga_ir.specs.Parts.{parts, size_override}
@@ -26,7 +32,7 @@ use Rattle.naga_ir.specs.declared.types.«Type».{«Type»}
 use Rattle.naga_ir.specs.declared.types.AddressSpace.{AddressSpace}
 use Rattle.naga_ir.specs.declared.types.AddressSpace.TheVariants as space
 use Rattle.naga_ir.specs.declared.types.ImageClass.{ImageClass}
-use Rattle.naga_ir.specs.declared.types.ImageClass.TheVariants.{Depth, Sampled, Storage}
+use Rattle.naga_ir.specs.declared.types.ImageClass.TheVariants.{Depth, Sampled}
 use Rattle.naga_ir.specs.declared.types.ImageDimension.{ImageDimension}
 use Rattle.naga_ir.specs.declared.types.ImageDimension.TheVariants.{D1}
 use Rattle.naga_ir.specs.declared.types.Scalar.{Scalar as ScalarType}
@@ -35,11 +41,13 @@ use Rattle.naga_ir.specs.declared.types.StructMember.{StructMember}
 use Rattle.naga_ir.specs.declared.types.TypeInner.{TypeInner}
 use Rattle.naga_ir.specs.declared.types.TypeInner.TheVariants.{Scalar, Vector, Matrix, CooperativeMatrix, Array, BindingArray, Struct, Atomic, Pointer, ValuePointer, Image}
 use Rattle.naga_ir.specs.declared.types.VectorSize.{VectorSize}
-use Rattle.naga_typing.specs.FullTyping.{at_target, declared, extent_of, full_binary_of, full_cast_of, full_product_of, full_resolves, gathered_of, load_of, loaded, member_pointer, part_at, part_in, part_pointer, query_of, reference_to, result_of, sample_in, sample_of, texel_of, type_of_variable}
+use Rattle.naga_typing.specs.FullTyping.{at_target, cooperative_load_of, cooperative_matrix, declared, extent_of, full_binary_of, full_cast_of, full_product_of, full_resolves, gathered_of, is_pair, load_of, loaded, member_pointer, most_result_types, or_struct, part_at, part_in, part_pointer, query_of, reference_to, result_of, result_types, sample_in, sample_of, struct_of, target_scalar, texel_of, type_of_variable}
+use Rattle.naga_typing.specs.Math.{exponent_type}
 use Rattle.naga_typing.specs.PlainLaws.{IsLawfulResult, all_parts_exist, lawful as plain_result, lawful_binary, lawful_named, lawful_operand, lawful_same, of_cast, of_element, of_matrix, of_part, of_product, of_scalar, of_vector, plain_lawful}
-use Rattle.naga_typing.specs.PlainTyping.{ResolveResult, of_form, same_type}
-use Rattle.naga_typing.specs.Resolutions.{AllPartsExist, PartsExist}
+use Rattle.naga_typing.specs.PlainTyping.{ResolveResult, of_form, plain_resolves, same_type}
+use Rattle.naga_typing.specs.Resolutions.{AllPartsExist, PartsExist, operand}
 use Rattle.naga_typing.specs.Typings.{CanResolve, IsLawful}
+use Rattle.naga_typing.specs.declared.typifier.ResolveError.TheVariants.{IncompatibleOperands, NotResolvable, OutOfMemory}
 use Rattle.naga_typing.specs.declared.typifier.TypeResolution.{TypeResolution}
 use Rattle.naga_typing.specs.declared.typifier.TypeResolution.TheVariants.{Value}
 
@@ -136,7 +144,6 @@ module _ (g : GlobalLists) (types_ok : AllPartsExist g.types) where
 
   of_texel : (class : ImageClass) → IsLawfulResult g (texel_of class)
   of_texel (Depth multi) = of_scalar g _
-  of_texel (Storage format access) = tt
   of_texel _ = of_vector g _ _
 
   of_gathered : (class : ImageClass) → IsLawfulResult g (gathered_of class)
@@ -160,6 +167,12 @@ module _ (g : GlobalLists) (types_ok : AllPartsExist g.types) where
   of_query (Size level) _ = tt
   of_query _ inner = of_scalar g _
 
+  of_cooperative_matrix : (shape : CooperativeShape) (scalar : Option ScalarType)
+      → IsLawfulResult g (cooperative_matrix shape scalar)
+  unfolding parts size_override
+  of_cooperative_matrix shape None = tt
+  of_cooperative_matrix shape (Some scalar) = (All-nil (ExistsGlobally g), tt)
+
   of_full_product : (left right : ResolveResult) (x y : TypeInner) → IsLawfulResult g left → IsLawfulResult g right
       → IsLawfulResult g (full_product_of left right x y)
   of_full_product left right (Scalar s) (CooperativeMatrix columns rows scalar role) l r = r
@@ -170,9 +183,21 @@ module _ (g : GlobalLists) (types_ok : AllPartsExist g.types) where
   of_full_cast kind convert (Matrix columns rows scalar) = of_matrix g columns rows _
   of_full_cast kind convert inner = of_cast g kind convert inner
 
+-- what holds of all items of a list holds of the first that passes a test
+found : (p : ℕ → Bool) (P : ℕ → Type 0) (xs : List ℕ) → All P xs → All P (option_to_list (find p xs))
+found p P [] all = All-nil P
+found p P (x ∷ xs) all = by_test (p x) (found p P xs (all-right P (x ∷ []) xs all))
+  where
+    by_test : (b : Bool) → All P (option_to_list (find p xs)) → All P (option_to_list (cond b (Some x) (find p xs)))
+    by_test true rest = All-cons P x [] (all 0 x (omega arith)) (All-nil P)
+    by_test false rest = rest
+
 module _ (m : Module) (handles : HandlesAccepted m) where
   abbrev g : GlobalLists
   g = global_lists m
+
+  abbrev In : Reference → Type 0
+  In = Exists (module_counts m)
 
   types_ok : AllPartsExist m.types
   types_ok = all_parts_exist g (global_references_ok m handles)
@@ -184,6 +209,34 @@ module _ (m : Module) (handles : HandlesAccepted m) where
           → IsLawfulResult g (type_of_variable found)
       by_variable None at = tt
       by_variable (Some v) at = of_reference g types_ok v.ty v.space (variable_type_exists m handles k v at)
+
+  abbrev IsType : ℕ → Type 0
+  IsType t = t < length m.types
+
+  -- the types that functions may return exist
+  pub result_types_exist : All IsType (result_types m)
+  result_types_exist =
+      let variables = flat_map global_variable_references m.global_variables in
+      let rest = all-right In variables _ handles.exist.others in
+      let types = special_types m.special_types in
+      let special = all-unmap In to.Type_ types (all-left In (map to.Type_ types) _ rest) in
+      let after_desc = all-right IsType (option_to_list m.special_types.ray_desc) _ special in
+      let after_intersection = all-right IsType (option_to_list m.special_types.ray_intersection) _ after_desc in
+      All-take IsType most_result_types m.special_types.others
+      (all-right IsType (option_to_list m.special_types.ray_vertex_return) m.special_types.others after_intersection)
+
+  of_struct : (fun : MathFunction) (inner : TypeInner) → IsLawfulResult g (declared (struct_of m fun inner))
+  of_struct Modf inner =
+      of_declared g types_ok _ (found (is_pair m.types inner inner) IsType (result_types m) result_types_exist)
+  of_struct Frexp inner = by_exponent (exponent_type inner)
+    where
+      by_exponent : (exponent : Option TypeInner)
+          → IsLawfulResult g
+          (declared (option_and_then (λ (e : TypeInner). find (is_pair m.types inner e) (result_types m)) exponent))
+      by_exponent None = tt
+      by_exponent (Some e) =
+          of_declared g types_ok _ (found (is_pair m.types inner e) IsType (result_types m) result_types_exist)
+  of_struct _ inner = tt
 
   of_call : (k : ℕ) → IsLawfulResult g (declared (option_and_then result_of (slice_get m.functions k)))
   of_call k = by_function (slice_get m.functions k) refl
@@ -211,6 +264,23 @@ module _ (m : Module) (x : Expression) (earlier : List TypeResolution) (can : Ca
       (same_type (slice_get earlier right)) a b (lawful_same m x earlier can left)
       (lawful_same m x earlier can right)))
   lawful_full_binary op left right = lawful_binary m x earlier can op left right
+
+  lawful_or_struct : (fun : MathFunction) (arg : ℕ) (plain : ResolveResult) → IsLawfulResult (global_lists m) plain
+      → IsLawfulResult (global_lists m) (or_struct m fun (operand m.types earlier arg) plain)
+  lawful_or_struct fun arg (Ok r) h = h
+  lawful_or_struct fun arg (Err IncompatibleOperands) h = h
+  lawful_or_struct fun arg (Err OutOfMemory) h = h
+  lawful_or_struct fun arg (Err NotResolvable) h =
+      lawful_operand m x earlier can arg (λ inner. declared (struct_of m fun inner))
+      (λ inner exist. of_struct m can.handles fun inner)
+
+  lawful_cooperative_load : (shape : Option CooperativeShape) (pointer : ℕ)
+      → IsLawfulResult (global_lists m) (cooperative_load_of m.types shape (operand m.types earlier pointer))
+  lawful_cooperative_load None pointer = tt
+  lawful_cooperative_load (Some shape) pointer =
+      lawful_operand m x earlier can pointer (λ inner. cooperative_matrix shape (target_scalar m.types inner))
+      (λ inner exist.
+      of_cooperative_matrix (global_lists m) (types_ok m can.handles) shape (target_scalar m.types inner))
 
 -- each result of `FullTyping` keeps the laws
 lawful : (m : Module) (x : Expression) (earlier : List TypeResolution) → CanResolve m x earlier
@@ -258,7 +328,11 @@ lawful m (form.CooperativeMultiplyAdd a b c) earlier can =
     lawful_same m (form.CooperativeMultiplyAdd a b c) earlier can c
 lawful m (form.FunctionArgument index) earlier can = tt
 lawful m (form.LocalVariable v) earlier can = tt
-lawful m (form.CooperativeLoad pointer stride) earlier can = tt
+lawful m (form.CooperativeLoad shape pointer stride) earlier can =
+    lawful_cooperative_load m (form.CooperativeLoad shape pointer stride) earlier can shape pointer
+lawful m (form.Math fun arg arg1 arg2 arg3) earlier can =
+    let x = form.Math fun arg arg1 arg2 arg3 in
+    lawful_or_struct m x earlier can fun arg (plain_resolves m x earlier) (plain_result m x earlier can)
 lawful m _ earlier can = plain_result m _ earlier can
 
 -- `FullTyping` is a lawful typing

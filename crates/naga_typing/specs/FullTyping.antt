@@ -1,11 +1,18 @@
 -- The types that `FullTyping` resolves.
-use Rattle.std.specs.Prelude.{ℕ, List, Option, Some, None, Ok, Err, option_and_then, option_map, slice_get}
+use Rattle.std.specs.Prelude.{◌&&◌, ℕ, Bool as Boolean, false, List, [], ◌∷◌, Option, Some, None, Ok, Err, option_and_then, option_map, slice_get, take}
+use Rattle.std.specs.List.{find}
+use Rattle.std.specs.Option.{option_map_or}
+use Rattle.naga_ir.specs.StorageFormats.{format_scalar}
+use Rattle.naga_ir.specs.TypeWords.{scalar_of}
 use Rattle.naga_ir.specs.declared.expression.BinaryOperator.{BinaryOperator}
 use Rattle.naga_ir.specs.declared.expression.BinaryOperator.TheVariants.{Multiply}
+use Rattle.naga_ir.specs.declared.expression.CooperativeShape.{CooperativeShape}
 use Rattle.naga_ir.specs.declared.expression.Expression.{Expression}
 use Rattle.naga_ir.specs.declared.expression.Expression.TheVariants as form
 use Rattle.naga_ir.specs.declared.expression.ImageQuery.{ImageQuery as Query}
 use Rattle.naga_ir.specs.declared.expression.ImageQuery.TheVariants.{Size}
+use Rattle.naga_ir.specs.declared.expression.MathFunction.{MathFunction}
+use Rattle.naga_ir.specs.declared.expression.MathFunction.TheVariants.{Modf, Frexp}
 use Rattle.naga_ir.specs.declared.expression.SwizzleComponent.{SwizzleComponent}
 use Rattle.naga_ir.specs.declared.ir.Function.{Function}
 use Rattle.naga_ir.specs.declared.ir.FunctionResult.{FunctionResult}
@@ -18,12 +25,13 @@ use Rattle.naga_ir.specs.declared.types.ImageClass.{ImageClass}
 use Rattle.naga_ir.specs.declared.types.ImageClass.TheVariants.{Sampled, Depth, Storage, External}
 use Rattle.naga_ir.specs.declared.types.ImageDimension.{ImageDimension}
 use Rattle.naga_ir.specs.declared.types.ImageDimension.TheVariants.{D1, D2, D3, Cube}
+use Rattle.naga_ir.specs.declared.types.Scalar.{Scalar as ScalarType}
 use Rattle.naga_ir.specs.declared.types.ScalarKind.{ScalarKind}
 use Rattle.naga_ir.specs.declared.types.StructMember.{StructMember}
 use Rattle.naga_ir.specs.declared.types.TypeInner.{TypeInner}
 use Rattle.naga_ir.specs.declared.types.TypeInner.TheVariants.{Scalar, Vector, Matrix, CooperativeMatrix, Atomic, Pointer, ValuePointer, Array, Struct, Image, BindingArray}
 use Rattle.naga_ir.specs.declared.types.VectorSize.TheVariants.{Bi, Tri, Quad}
-use Rattle.naga_typing.specs.Math.{f32_scalar, of_components, u32_scalar}
+use Rattle.naga_typing.specs.Math.{exponent_type, f32_scalar, of_components, same, u32_scalar}
 use Rattle.naga_typing.specs.PlainTyping.{ResolveResult, binary_of, bool_scalar, cast_of, cast_scalar, element_of, of_form, part_of, plain_resolves, product_of, same_type}
 use Rattle.naga_typing.specs.Resolutions.{inner_in, operand}
 use Rattle.naga_typing.specs.declared.typifier.ResolveError.TheVariants.{IncompatibleOperands, NotResolvable}
@@ -115,12 +123,11 @@ of_image (Some parts) rule = rule parts.0 parts.1
 abbrev pub four_of : ScalarKind → ResolveResult
 four_of kind = Ok (Value (Vector Quad (record { kind = kind; width = 4 })))
 
--- a texel of an image: one number of a depth, and else four components; of the format of a storage image only the
--- number is known, and so no type
+-- a texel of an image: one number of a depth, and else four components
 abbrev pub texel_of : ImageClass → ResolveResult
 texel_of (Sampled kind multi) = four_of kind
 texel_of (Depth multi) = Ok (Value (Scalar f32_scalar))
-texel_of (Storage format access) = Err NotResolvable
+texel_of (Storage format access) = Ok (Value (Vector Quad (format_scalar format)))
 texel_of External = four_of f32_scalar.kind
 
 -- one component of four texels
@@ -149,6 +156,64 @@ abbrev pub query_of : Query → TypeInner → ResolveResult
 query_of (Size level) inner = of_image (image_parts inner) (λ dim class. extent_of dim)
 query_of _ _ = Ok (Value (Scalar u32_scalar))
 
+-- the scalar of what `inner` points to, if that is a scalar, a vector or a matrix of either kind
+abbrev pub target_scalar : List «Type» → TypeInner → Option ScalarType
+target_scalar types (Pointer base space) = option_and_then scalar_of (inner_in types (Handle base))
+target_scalar types (ValuePointer size scalar space) = Some scalar
+target_scalar _ _ = None
+
+-- the cooperative matrix of a shape and a scalar, if there is a scalar
+abbrev pub cooperative_matrix : CooperativeShape → Option ScalarType → ResolveResult
+cooperative_matrix shape None = Err IncompatibleOperands
+cooperative_matrix shape (Some scalar) = Ok (Value (CooperativeMatrix shape.columns shape.rows scalar shape.role))
+
+-- a cooperative matrix from memory, of the scalar of what `pointer` points to, if the shape is said
+abbrev pub cooperative_load_of : List «Type» → Option CooperativeShape → Option TypeInner → ResolveResult
+cooperative_load_of types None pointer = Err NotResolvable
+cooperative_load_of types (Some shape) pointer =
+    of_form pointer (λ inner. cooperative_matrix shape (target_scalar types inner))
+
+-- how many of the types that a module predeclares may be structs that functions return: a number, so that a module's
+-- expressions take time in proportion to how many they are
+abbrev pub most_result_types : ℕ
+most_result_types = 64
+
+-- the types that a module predeclares and that may be structs that functions return
+abbrev pub result_types : Module → List ℕ
+result_types m = take most_result_types m.special_types.others
+
+-- the type `t` of a list is `inner`
+abbrev pub is_type : List «Type» → TypeInner → ℕ → Boolean
+is_type types inner t = option_map_or (same inner) (inner_in types (Handle t)) false
+
+-- the members of a struct; other types have none
+abbrev pub members_of : TypeInner → List StructMember
+members_of (Struct members span) = members
+members_of _ = []
+
+-- `members` are two, of the types `first` and `second`
+abbrev pub are_two : List «Type» → TypeInner → TypeInner → List StructMember → Boolean
+are_two types first second (a ∷ b ∷ []) = is_type types first a.ty && is_type types second b.ty
+are_two types first second _ = false
+
+-- the type `t` of a list is a struct of two members, of the types `first` and `second`
+abbrev pub is_pair : List «Type» → TypeInner → TypeInner → ℕ → Boolean
+is_pair types first second t =
+    option_map_or (λ inner. are_two types first second (members_of inner)) (inner_in types (Handle t)) false
+
+-- the struct that `fun` returns for an argument of the type `first`: of two such values, or of such a value and its
+-- exponents; other functions return none
+abbrev pub struct_of : Module → MathFunction → TypeInner → Option ℕ
+struct_of m Modf first = find (is_pair m.types first first) (result_types m)
+struct_of m Frexp first =
+    option_and_then (λ exponent. find (is_pair m.types first exponent) (result_types m)) (exponent_type first)
+struct_of m _ first = None
+
+-- what `fun` returns for a first argument of the type `first`: what `PlainTyping` resolves, or a struct of the module
+abbrev pub or_struct : Module → MathFunction → Option TypeInner → ResolveResult → ResolveResult
+or_struct m fun first (Err NotResolvable) = of_form first (λ inner. declared (struct_of m fun inner))
+or_struct m fun first plain = plain
+
 -- the type of the product of `x` and `y`, whose types are `left` and `right`: the type of a cooperative matrix that a
 -- scalar is multiplied by, and else the one that `PlainTyping` resolves
 abbrev pub full_product_of : ResolveResult → ResolveResult → TypeInner → TypeInner → ResolveResult
@@ -173,11 +238,13 @@ full_cast_of kind convert (Matrix columns rows scalar) =
     Ok (Value (Matrix columns rows (cast_scalar scalar.kind convert scalar)))
 full_cast_of kind convert inner = cast_of kind convert inner
 
--- the type of an expression of the module `m`, by the types `earlier` of those before it; products and conversions as
--- `full_binary_of` and `full_cast_of` say
+-- the type of an expression of the module `m`, by the types `earlier` of those before it; products, conversions and
+-- mathematical functions as `full_binary_of`, `full_cast_of` and `or_struct` say
 unfoldable pub full_resolves : Module → Expression → List TypeResolution → ResolveResult
 full_resolves m (form.Binary op left right) earlier = full_binary_of m.types earlier op left right
 full_resolves m (form.As expr kind convert) earlier = of_form (operand m.types earlier expr) (full_cast_of kind convert)
+full_resolves m (form.Math fun arg arg1 arg2 arg3) earlier =
+    or_struct m fun (operand m.types earlier arg) (plain_resolves m (form.Math fun arg arg1 arg2 arg3) earlier)
 full_resolves m (form.Access base index) earlier = of_form (operand m.types earlier base) (part_in m.types None)
 full_resolves m (form.AccessIndex base index) earlier =
     of_form (operand m.types earlier base) (part_in m.types (Some index))
@@ -200,5 +267,6 @@ full_resolves m (form.SubgroupOperationResult ty) earlier = Ok (Handle ty)
 full_resolves m (form.CooperativeMultiplyAdd a b c) earlier = same_type (slice_get earlier c)
 full_resolves m (form.FunctionArgument index) earlier = Err NotResolvable
 full_resolves m (form.LocalVariable v) earlier = Err NotResolvable
-full_resolves m (form.CooperativeLoad pointer stride) earlier = Err NotResolvable
+full_resolves m (form.CooperativeLoad shape pointer stride) earlier =
+    cooperative_load_of m.types shape (operand m.types earlier pointer)
 full_resolves m x earlier = plain_resolves m x earlier

@@ -1,6 +1,6 @@
 -- `PlainTyping` keeps the laws of typings. The proof is among the definitions, since an `impl` cites it.
 use Rattle.std.proofs.Common.{◌≡◌, ◌<◌, ℕ, List, Option, Some, None, Ok, Err, All, length, get_or, map, slice_get, refl, ap, subst, arith}
-use Rattle.std.specs.Prelude.{Bool, true, false, if◌then◌else◌, IfSome, [], ◌∷◌, ⊤}
+use Rattle.std.specs.Prelude.{Bool, true, false, if◌then◌else◌, IfSome, [], ◌∷◌, Result, ⊤}
 use Rattle.std.specs.Option.{option_and_then, option_map}
 use Rattle.std.proofs.lemmas.Option.{same_Some, slice_get-get_or}
 use Rattle.std.proofs.lemmas.List.Elements.{All-contains, All-nil}
@@ -31,10 +31,11 @@ use Rattle.naga_ir.specs.declared.types.TypeInner.{TypeInner}
 use Rattle.naga_ir.specs.declared.types.TypeInner.TheVariants.{Scalar, Vector, Matrix, CooperativeMatrix, Array, Struct}
 use Rattle.naga_ir.specs.declared.types.VectorSize.{VectorSize}
 use Rattle.naga_ir.proofs.PartLemmas.{base_is, members_are}
-use Rattle.naga_typing.specs.Math.{argument_type, arguments, has_no_gap, math_type, result_type, scalar_type, signature, transposed}
+use Rattle.naga_typing.specs.Math.{argument_type, arguments, has_no_gap, math_type, matrix_type, outer_product, result_type, scalar_type, signature, transposed, unless_of_module, vector_parts}
 use Rattle.naga_typing.specs.PlainTyping.{ResolveResult, binary_of, cast_of, element_of, math_of, of_form, part_of, plain_resolves, product_of, relational_of, same_type, splat_of, swizzle_of, bools_of, type_of_constant, type_of_member, type_of_override, value_of}
 use Rattle.naga_typing.specs.Resolutions.{AllPartsExist, IsProperResolution, PartsExist, ResolutionExists, TypesExist, inner_in, operand}
 use Rattle.naga_typing.specs.Typings.{CanResolve, IsLawful, counts_in_sight}
+use Rattle.naga_typing.specs.declared.typifier.ResolveError.{ResolveError}
 use Rattle.naga_typing.specs.declared.typifier.ResolveError.TheVariants.{IncompatibleOperands, NotResolvable, OutOfMemory}
 use Rattle.naga_typing.specs.declared.typifier.TypeResolution.{TypeResolution}
 use Rattle.naga_typing.specs.declared.typifier.TypeResolution.TheVariants.{Handle, Value}
@@ -46,6 +47,10 @@ IsLawfulResult g (Ok r) = ResolutionExists g r × IsProperResolution r
 IsLawfulResult g (Err IncompatibleOperands) = ⊤
 IsLawfulResult g (Err NotResolvable) = ⊤
 IsLawfulResult g (Err OutOfMemory) = ⊥
+
+-- a type, if there is one, keeps the laws as a result
+abbrev IsLawfulType : GlobalLists → Result TypeInner ResolveError → Type 0
+IsLawfulType g type = IsLawfulResult g (value_of type)
 
 -- the type `inner` as a result keeps the laws
 abbrev IsLawfulForm : GlobalLists → TypeInner → Type 0
@@ -115,52 +120,89 @@ module _ (g : GlobalLists) where
   of_relational IsNan inner = of_bools inner
   of_relational IsInf inner = of_bools inner
 
-  of_value : (inner : Option TypeInner) → IfSome inner (IsLawfulForm g) → IsLawfulResult g (value_of inner)
-  of_value None h = tt
-  of_value (Some inner) h = h
+  of_argument_type : (inner : TypeInner) (further : List TypeInner)
+      → IfSome (argument_type inner further) (IsLawfulForm g)
+  of_argument_type (Scalar scalar) further = of_scalar scalar
+  of_argument_type (Vector size scalar) further = of_vector size scalar
+  of_argument_type _ further = tt
 
-  of_argument_type : (inner : TypeInner) → IfSome (argument_type inner) (IsLawfulForm g)
-  of_argument_type (Scalar scalar) = of_scalar scalar
-  of_argument_type (Vector size scalar) = of_vector size scalar
-  of_argument_type _ = tt
+  of_scalar_type : (inner : TypeInner) (further : List TypeInner) → IfSome (scalar_type inner further) (IsLawfulForm g)
+  of_scalar_type (Scalar scalar) further = of_scalar scalar
+  of_scalar_type (Vector size scalar) further = of_scalar scalar
+  of_scalar_type (Matrix columns rows scalar) further = of_scalar scalar
+  of_scalar_type (CooperativeMatrix columns rows scalar role) further = of_scalar scalar
+  of_scalar_type _ further = tt
 
-  of_scalar_type : (inner : TypeInner) → IfSome (scalar_type inner) (IsLawfulForm g)
-  of_scalar_type (Scalar scalar) = of_scalar scalar
-  of_scalar_type (Vector size scalar) = of_scalar scalar
-  of_scalar_type (Matrix columns rows scalar) = of_scalar scalar
-  of_scalar_type (CooperativeMatrix columns rows scalar role) = of_scalar scalar
-  of_scalar_type _ = tt
+  of_transposed : (inner : TypeInner) (further : List TypeInner) → IfSome (transposed inner further) (IsLawfulForm g)
+  of_transposed (Matrix columns rows scalar) further = of_matrix rows columns scalar
+  of_transposed _ further = tt
 
-  of_transposed : (inner : TypeInner) → IfSome (transposed inner) (IsLawfulForm g)
-  of_transposed (Matrix columns rows scalar) = of_matrix rows columns scalar
-  of_transposed _ = tt
+  of_matrix_type : (inner : TypeInner) (further : List TypeInner) → IfSome (matrix_type inner further) (IsLawfulForm g)
+  of_matrix_type (Matrix columns rows scalar) further = of_matrix columns rows scalar
+  of_matrix_type _ further = tt
 
-  of_signature : (fun : MathFunction) (inner : TypeInner) → IfSome ((signature fun).result inner) (IsLawfulForm g)
+  of_outer : (inner : TypeInner) (further : List TypeInner) → IfSome (outer_product inner further) (IsLawfulForm g)
+  of_outer inner further = by_parts (vector_parts inner) (option_and_then vector_parts (slice_get further 0))
+    where
+      by_parts : (left right : Option (VectorSize × ScalarType))
+          → IfSome
+          (option_and_then (λ (l : VectorSize × ScalarType).
+          option_map (λ (r : VectorSize × ScalarType). Matrix r.0 l.0 l.1) right) left)
+          (IsLawfulForm g)
+      by_parts None right = tt
+      by_parts (Some l) None = tt
+      by_parts (Some l) (Some r) = of_matrix r.0 l.0 l.1
+
+  of_signature : (fun : MathFunction) (inner : TypeInner) (further : List TypeInner)
+      → IfSome ((signature fun).result inner further) (IsLawfulForm g)
   unfolding signature
-  of_signature math.Length inner = of_scalar_type inner
-  of_signature math.Distance inner = of_scalar_type inner
-  of_signature math.Dot inner = of_scalar_type inner
-  of_signature math.Determinant inner = of_scalar_type inner
-  of_signature math.Transpose inner = of_transposed inner
-  of_signature math.Pack2x16float inner = of_scalar _
-  of_signature math.Unpack2x16float inner = of_vector _ _
-  of_signature _ inner = of_argument_type inner
+  of_signature math.Length inner further = of_scalar_type inner further
+  of_signature math.Distance inner further = of_scalar_type inner further
+  of_signature math.Dot inner further = of_scalar_type inner further
+  of_signature math.Determinant inner further = of_scalar_type inner further
+  of_signature math.Transpose inner further = of_transposed inner further
+  of_signature math.Inverse inner further = of_matrix_type inner further
+  of_signature math.Outer inner further = of_outer inner further
+  of_signature math.Modf inner further = tt
+  of_signature math.Frexp inner further = tt
+  of_signature math.Dot4I8Packed inner further = of_scalar _
+  of_signature math.Dot4U8Packed inner further = of_scalar _
+  of_signature math.Pack4x8snorm inner further = of_scalar _
+  of_signature math.Pack4x8unorm inner further = of_scalar _
+  of_signature math.Pack2x16snorm inner further = of_scalar _
+  of_signature math.Pack2x16unorm inner further = of_scalar _
+  of_signature math.Pack2x16float inner further = of_scalar _
+  of_signature math.Pack4xI8 inner further = of_scalar _
+  of_signature math.Pack4xU8 inner further = of_scalar _
+  of_signature math.Pack4xI8Clamp inner further = of_scalar _
+  of_signature math.Pack4xU8Clamp inner further = of_scalar _
+  of_signature math.Unpack4x8snorm inner further = of_vector _ _
+  of_signature math.Unpack4x8unorm inner further = of_vector _ _
+  of_signature math.Unpack2x16snorm inner further = of_vector _ _
+  of_signature math.Unpack2x16unorm inner further = of_vector _ _
+  of_signature math.Unpack2x16float inner further = of_vector _ _
+  of_signature math.Unpack4xI8 inner further = of_vector _ _
+  of_signature math.Unpack4xU8 inner further = of_vector _ _
+  of_signature _ inner further = of_argument_type inner further
 
-  of_choice : (b : Bool) (o : Option TypeInner) → IfSome o (IsLawfulForm g)
-      → IfSome (if b then o else None) (IsLawfulForm g)
-  of_choice true o h = h
-  of_choice false o h = tt
+  of_choice : (b : Bool) (type : Result TypeInner ResolveError) → IsLawfulType g type
+      → IsLawfulType g (if b then type else Err IncompatibleOperands)
+  of_choice true type h = h
+  of_choice false type h = tt
 
-  of_result_type : (fun : MathFunction) (types : List TypeInner) → IfSome (result_type fun types) (IsLawfulForm g)
+  of_type : (inner : Option TypeInner) → IfSome inner (IsLawfulForm g) → IsLawfulType g (unless_of_module inner)
+  of_type None h = tt
+  of_type (Some inner) h = h
+
+  of_result_type : (fun : MathFunction) (types : List TypeInner) → IsLawfulType g (result_type fun types)
   of_result_type fun [] = tt
-  of_result_type fun (first ∷ further) = of_choice _ _ (of_signature fun first)
+  of_result_type fun (first ∷ further) = of_choice _ _ (of_type _ (of_signature fun first further))
 
   of_math : (fun : MathFunction) (first : TypeInner) (second third fourth : Option TypeInner)
       → IsLawfulResult g (value_of (math_type fun first second third fourth))
   of_math fun first second third fourth =
       let types = arguments first second third fourth in
-      of_value (math_type fun first second third fourth)
-      (of_choice (has_no_gap second third fourth) (result_type fun types) (of_result_type fun types))
+      of_choice (has_no_gap second third fourth) (result_type fun types) (of_result_type fun types)
 
   pub of_product : (left right : ResolveResult) (x y : TypeInner) → IsLawfulResult g left → IsLawfulResult g right
       → IsLawfulResult g (product_of left right x y)

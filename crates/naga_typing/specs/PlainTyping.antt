@@ -132,10 +132,10 @@ relational_of Any inner = Ok (Value (Scalar bool_scalar))
 relational_of IsNan inner = bools_of inner
 relational_of IsInf inner = bools_of inner
 
--- a type as a result, if there is one
-abbrev pub value_of : Option TypeInner → ResolveResult
-value_of None = Err IncompatibleOperands
-value_of (Some inner) = Ok (Value inner)
+-- a type, if there is one, as a result
+abbrev pub value_of : Result TypeInner ResolveError → ResolveResult
+value_of (Err error) = Err error
+value_of (Ok inner) = Ok (Value inner)
 
 -- the type of the result of a mathematical function
 abbrev pub math_of : List «Type» → List TypeResolution → MathFunction → ℕ → Option ℕ → Option ℕ → Option ℕ

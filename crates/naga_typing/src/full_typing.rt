@@ -1,26 +1,31 @@
 //! A typing that supports nearly all variants of expressions.
 
-ghost use Rattle.std.specs.Prelude.{◌≡◌, ◌<◌, All, Ok, length};
+ghost use Rattle.std.specs.Prelude.{◌≡◌, ◌<◌, All, Ok, Some, length};
+ghost use Rattle.std.specs.List.{find};
+ghost use Rattle.naga_ir.specs.Handles.{HandlesAccepted};
 ghost use Rattle.naga_ir.specs.ItemReferences.{global_lists};
 ghost use Rattle.naga_ir.specs.declared.expression.Expression.TheVariants as form;
 ghost use Rattle.naga_typing.specs.FullTyping as spec;
-ghost use Rattle.naga_typing.specs.Resolutions.{IsProperResolution, PartsExist, ResolutionExists};
+ghost use Rattle.naga_typing.specs.Resolutions.{AllPartsExist, IsProperResolution, PartsExist, ResolutionExists};
 ghost use Rattle.naga_typing.specs.Typings.{CanResolve};
 
-use crate::math::{accepts, argument_count};
+use crate::math::{accepts, argument_count, exponent_type};
 use crate::plain_typing::{
     self, binary_of, cast_of, element_of, operand, part_of, product, same_type, scalar, vector,
 };
 use crate::pushing::push_full;
 use crate::typifier::{ResolveError, TypeResolution};
 use crate::typing::Typing;
-use naga_ir::expression::{BinaryOperator, Expression, ImageQuery, MathFunction, SwizzleComponent};
+use naga_ir::expression::{
+    BinaryOperator, CooperativeShape, Expression, ImageQuery, MathFunction, SwizzleComponent,
+};
 use naga_ir::handle::Handle;
 use naga_ir::ir::{Function, Module};
 use naga_ir::list::List;
 use naga_ir::tags::{ExpressionTag, TypeTag};
 use naga_ir::types::{
-    AddressSpace, ImageClass, ImageDimension, Scalar, ScalarKind, TypeInner, VectorSize,
+    AddressSpace, ImageClass, ImageDimension, Scalar, ScalarKind, StructMember, TypeInner,
+    VectorSize,
 };
 use naga_ir::unique_arena::UniqueArena;
 use std::alloc::Global;
@@ -36,17 +41,22 @@ use std::alloc::Global;
 /// - parts of what pointers point to, which are pointers in the same address space, and elements of
 ///   binding arrays;
 /// - loads, of an atomic as its scalar;
-/// - samples, texels and properties of images;
+/// - samples, texels and properties of images, of a storage image by its format;
 /// - results of calls, of atomic operations, of ray queries, and of operations of subgroups and
 ///   workgroups;
-/// - products of cooperative matrices.
+/// - cooperative matrices from memory, of the scalar of what the pointer points to, and products of
+///   cooperative matrices;
+/// - `Modf` and `Frexp`, whose results are structs that the module predeclares (`SpecialTypes::others`).
 ///
-/// `NotResolvable` are arguments and local variables, as the function isn't given; cooperative loads,
-/// whose expression doesn't hold the size of the matrix; texels of storage images, whose format is a
-/// number without meaning here; results of ray queries in a module without the special type; and
-/// results of functions without one. `resolve` takes no memory, and `push_type` only for the list.
+/// `NotResolvable` are arguments and local variables, as the function isn't given; cooperative loads
+/// without a shape; results of ray queries, of `Modf` and of `Frexp` in a module without the special
+/// type; and results of functions without one. `resolve` takes no memory, and `push_type` only for the
+/// list.
 ///
-/// It follows naga's typifier (`proc/typifier.rs`). It has the mathematical functions of `PlainTyping`.
+/// It follows naga's typifier (`proc/typifier.rs`). It has the mathematical functions of `PlainTyping`. The
+/// struct of `Modf` is the first among the first 64 predeclared types that has exactly two members of the
+/// argument's type; the one of `Frexp` has a member of the argument's type, and then one of as many `I32` as the
+/// argument has components.
 #[derive(Clone, Copy, Debug, PartialEq, Eq)]
 pub struct FullTyping;
 
@@ -269,7 +279,7 @@ fn texel_of(class: ImageClass) -> Result<TypeResolution, ResolveError>
     match class {
         ImageClass::Sampled { kind, .. } => four_of(kind),
         ImageClass::Depth { .. } => scalar(Scalar::F32),
-        ImageClass::Storage { .. } => Err(ResolveError::NotResolvable),
+        ImageClass::Storage { format, .. } => vector(VectorSize::Quad, format.scalar()),
         ImageClass::External => four_of(ScalarKind::Float),
     }
 }
@@ -384,6 +394,152 @@ pub(crate) fn full_cast_of(
     }
 }
 
+/// The scalar of what a type points to, if that is a scalar, a vector or a matrix of either kind.
+pub fn target_scalar(types: &UniqueArena, inner: &TypeInner) -> Option<Scalar>
+    requires { PartsExist types.now inner.now }
+    ensures { result ≡ spec.target_scalar types.now inner.now }
+{
+    match *inner {
+        TypeInner::Pointer { base, .. } => types[base].inner.scalar(),
+        TypeInner::ValuePointer { scalar, .. } => Some(scalar),
+        TypeInner::Scalar(_)
+        | TypeInner::Vector { .. }
+        | TypeInner::Matrix { .. }
+        | TypeInner::CooperativeMatrix { .. }
+        | TypeInner::Atomic(_)
+        | TypeInner::Array { .. }
+        | TypeInner::Struct { .. }
+        | TypeInner::Image { .. }
+        | TypeInner::Sampler { .. }
+        | TypeInner::AccelerationStructure { .. }
+        | TypeInner::RayQuery { .. }
+        | TypeInner::BindingArray { .. } => None,
+    }
+}
+
+/// The type of a cooperative matrix from memory, of the scalar of what a pointer points to, if the shape is said.
+fn cooperative_load_of(
+    types: &UniqueArena,
+    shape: Option<CooperativeShape>,
+    pointer: &TypeInner,
+) -> Result<TypeResolution, ResolveError>
+    requires { PartsExist types.now pointer.now }
+    ensures { result ≡ spec.cooperative_load_of types.now shape (Some pointer.now) }
+{
+    let Some(shape) = shape else {
+        return Err(ResolveError::NotResolvable);
+    };
+    match target_scalar(types, pointer) {
+        Some(scalar) => Ok(TypeResolution::Value(TypeInner::CooperativeMatrix {
+            columns: shape.columns,
+            rows: shape.rows,
+            scalar,
+            role: shape.role,
+        })),
+        None => Err(ResolveError::IncompatibleOperands),
+    }
+}
+
+/// How many of the types that a module predeclares may be structs that functions return. A bound keeps the time
+/// that the expressions of a module take in proportion to how many they are; naga predeclares at most one such
+/// struct for each function and type of its argument.
+const MOST_RESULT_TYPES: usize = 64;
+
+/// The types that a module predeclares and that may be structs that functions return.
+fn result_types(module: &Module) -> &[Handle<TypeTag>]
+    ensures { result.now ≡ spec.result_types «module».now }
+{
+    let others = module.special_types.others.as_slice();
+    &others[..MOST_RESULT_TYPES.min(others.len())]
+}
+
+/// Whether a type of the module is `inner`.
+fn is_type(types: &UniqueArena, inner: &TypeInner, ty: Handle<TypeTag>) -> bool
+    requires { ty < length types.now }
+    ensures { result ≡ spec.is_type types.now inner.now ty }
+{
+    *inner == types[ty].inner
+}
+
+/// Whether the members of a struct are two, of the types `first` and `second`.
+fn are_two(
+    types: &UniqueArena,
+    first: &TypeInner,
+    second: &TypeInner,
+    members: &[StructMember],
+) -> bool
+    requires { All (λ m. m.ty < length types.now) members.now }
+    ensures { result ≡ spec.are_two types.now first.now second.now members.now }
+{
+    match members {
+        [one, other] => is_type(types, first, one.ty) && is_type(types, second, other.ty),
+        _ => false,
+    }
+}
+
+/// Whether a type of the module is a struct of two members, of the types `first` and `second`.
+fn is_pair(types: &UniqueArena, first: &TypeInner, second: &TypeInner, ty: Handle<TypeTag>) -> bool
+    requires exists { ty < length types.now }
+    requires parts { AllPartsExist types.now }
+    ensures { result ≡ spec.is_pair types.now first.now second.now ty }
+{
+    match &types[ty].inner {
+        TypeInner::Struct { members, .. } => are_two(types, first, second, members.as_slice()),
+        _ => false,
+    }
+}
+
+/// The first of some types that is a struct of two members, of the types `first` and `second`.
+fn find_pair(
+    types: &UniqueArena,
+    among: &[Handle<TypeTag>],
+    first: &TypeInner,
+    second: &TypeInner,
+) -> Option<Handle<TypeTag>>
+    requires exist { All (λ t. t < length types.now) among.now }
+    requires parts { AllPartsExist types.now }
+    ensures { result ≡ find (spec.is_pair types.now first.now second.now) among.now }
+{
+    for ty in among {
+        if is_pair(types, first, second, *ty) {
+            return Some(*ty);
+        }
+    }
+    None
+}
+
+/// The struct that a function returns for a first argument of this type, if it returns one and the module
+/// predeclares it.
+fn struct_of(module: &Module, fun: MathFunction, first: &TypeInner) -> Option<Handle<TypeTag>>
+    requires { HandlesAccepted «module».now }
+    ensures { result ≡ spec.struct_of «module».now fun first.now }
+{
+    match fun {
+        MathFunction::Modf => find_pair(&module.types, result_types(module), first, first),
+        MathFunction::Frexp => {
+            let exponent = exponent_type(first)?;
+            find_pair(&module.types, result_types(module), first, &exponent)
+        }
+        _ => None,
+    }
+}
+
+/// The type of the result of a mathematical function, by what `PlainTyping` resolves.
+fn or_struct(
+    module: &Module,
+    fun: MathFunction,
+    first: &TypeInner,
+    plain: Result<TypeResolution, ResolveError>,
+) -> Result<TypeResolution, ResolveError>
+    requires { HandlesAccepted «module».now }
+    ensures { result ≡ spec.or_struct «module».now fun (Some first.now) plain }
+{
+    match plain {
+        Err(ResolveError::NotResolvable) => declared(struct_of(module, fun, first)),
+        _ => plain,
+    }
+}
+
 impl Typing for FullTyping {
     ghost use Rattle.naga_typing.specs.FullLaws.{full_lawful};
     ghost use Rattle.naga_typing.specs.FullTyping.{full_resolves};
@@ -452,7 +608,6 @@ pub(crate) fn resolve_full(
         | Expression::Derivative { .. }
         | Expression::Select { .. }
         | Expression::Relational { .. }
-        | Expression::Math { .. }
         | Expression::ArrayLength(_) => plain_typing::resolve(module, expression, earlier),
         Expression::Access { base, .. } => part_in(types, None, operand(module, earlier, base)),
         Expression::AccessIndex { base, index } => {
@@ -475,6 +630,12 @@ pub(crate) fn resolve_full(
             kind,
             convert,
         } => full_cast_of(kind, convert, operand(module, earlier, expr)),
+        Expression::Math { fun, arg, .. } => or_struct(
+            module,
+            fun,
+            operand(module, earlier, arg),
+            plain_typing::resolve(module, expression, earlier),
+        ),
         Expression::CallResult(function) => declared(result_of(&module.functions[function])),
         Expression::AtomicResult { ty, .. }
         | Expression::WorkGroupUniformLoadResult { ty }
@@ -487,9 +648,14 @@ pub(crate) fn resolve_full(
             module.special_types.ray_vertex_return,
         ),
         Expression::SubgroupBallotResult => four_of(ScalarKind::Uint),
+        Expression::CooperativeLoad { shape, pointer, .. } => cooperative_load_of(
+            types,
+            shape,
+            operand(module, earlier, pointer),
+        ),
         Expression::CooperativeMultiplyAdd { c, .. } => same_type(earlier, c),
-        Expression::FunctionArgument(_)
-        | Expression::LocalVariable(_)
-        | Expression::CooperativeLoad { .. } => Err(ResolveError::NotResolvable),
+        Expression::FunctionArgument(_) | Expression::LocalVariable(_) => {
+            Err(ResolveError::NotResolvable)
+        }
     }
 }

@@ -5,11 +5,19 @@ ghost use Rattle.std.specs.Prelude.{◌≡◌, map};
 ghost use Rattle.std.specs.List.{list_any};
 ghost use Rattle.naga_ir.specs.contracts.types.ScalarKindPartialEq.TheImpl as of_kind;
 ghost use Rattle.naga_typing.specs.Math as spec;
-ghost use Rattle.naga_typing.specs.steps.Math.{concluded, kinds_of, meaning, takes_first, takes_further};
+ghost use Rattle.naga_typing.specs.steps.Math.{concluded, kinds_of, known_type, meaning, takes_first, takes_further};
 
-use ConclusionRule::{ArgumentType, ScalarOfArgument, Transposed};
-use FirstArgument::{Matrix, ScalarOrVector, SquareMatrix, Vector, VectorOfThree};
-use FurtherArgument::{ExactlyU32, Same, SameOrScalar, ScalarOfFirst};
+use crate::typifier::ResolveError;
+use ConclusionRule::{
+    Always, ArgumentType, MatrixOfArgument, OfModule, OuterProduct, ScalarOfArgument, Transposed,
+};
+use FirstArgument::{
+    Exactly, Matrix, ScalarOrVector, SquareMatrix, SquareMatrixOf, Vector, VectorOfThree,
+};
+use FurtherArgument::{
+    ExactlyU32, ExponentOfFirst, Same, SameOrScalar, ScalarOfFirst, VectorOfScalar,
+};
+use KnownType::{FourF32, FourI32, FourU32, I32, TwoF32, U32};
 use naga_ir::expression::MathFunction as Math;
 use naga_ir::types::{Scalar, ScalarKind, TypeInner, VectorSize};
 
@@ -26,6 +34,21 @@ enum ScalarSet {
     Integer,
 }
 
+/// A type that functions take or return whatever their other types are.
+#[derive(Clone, Copy)]
+enum KnownType {
+    I32,
+    U32,
+    /// A vector of two `F32`.
+    TwoF32,
+    /// A vector of four `F32`.
+    FourF32,
+    /// A vector of four `I32`.
+    FourI32,
+    /// A vector of four `U32`.
+    FourU32,
+}
+
 /// Which types a function takes as its first argument.
 #[derive(Clone, Copy)]
 enum FirstArgument {
@@ -38,9 +61,10 @@ enum FirstArgument {
     Matrix,
     /// Matrices with as many columns as rows.
     SquareMatrix,
-    /// A vector of two `F32`.
-    TwoF32,
-    U32,
+    /// Matrices with as many columns as rows, of scalars of a set.
+    SquareMatrixOf(ScalarSet),
+    /// One type.
+    Exactly(KnownType),
 }
 
 /// Which types a function takes as one of its further arguments.
@@ -52,6 +76,10 @@ enum FurtherArgument {
     SameOrScalar,
     /// The type of the scalar of the first.
     ScalarOfFirst,
+    /// Vectors of the scalar of the first.
+    VectorOfScalar,
+    /// As many `I32` as the first has components.
+    ExponentOfFirst,
     /// `U32`, whatever the first is.
     ExactlyU32,
 }
@@ -65,9 +93,15 @@ enum ConclusionRule {
     ScalarOfArgument,
     /// The type of a matrix whose columns are the rows of the first argument.
     Transposed,
-    /// A vector of two `F32`.
-    TwoF32,
-    U32,
+    /// The type of the first argument, a matrix.
+    MatrixOfArgument,
+    /// The type of a matrix whose rows are the components of the first argument, and whose columns are those of the
+    /// second.
+    OuterProduct,
+    /// One type.
+    Always(KnownType),
+    /// A struct of the module, which doesn't follow from the arguments.
+    OfModule,
 }
 
 /// What a function takes and returns.
@@ -108,6 +142,13 @@ fn unary(first: FirstArgument) -> Signature
     row(first, &[], ArgumentType)
 }
 
+/// The row of functions of one argument of a type, whose result has another.
+fn conversion(from: KnownType, to: KnownType) -> Signature
+    ensures { meaning result ≡ spec.conversion (known_type from) (known_type to) }
+{
+    row(Exactly(from), &[], Always(to))
+}
+
 /// What each function takes and returns.
 #[tactic(auto, unfolding(crate::specs::Math::signature))]
 fn signature_of(fun: Math) -> Signature
@@ -123,6 +164,8 @@ fn signature_of(fun: Math) -> Signature
         Math::Sqrt | Math::InverseSqrt => unary(FLOATS),
         Math::Length => row(FLOATS, &[], ScalarOfArgument),
         Math::Normalize => unary(FLOAT_VECTORS),
+        Math::Modf | Math::Frexp => row(FLOATS, &[], OfModule),
+        Math::Ldexp => row(FLOATS, &[ExponentOfFirst], ArgumentType),
         Math::Atan2 | Math::Pow | Math::Step => row(FLOATS, &[Same], ArgumentType),
         Math::Distance => row(FLOATS, &[Same], ScalarOfArgument),
         Math::Reflect => row(FLOAT_VECTORS, &[Same], ArgumentType),
@@ -135,6 +178,9 @@ fn signature_of(fun: Math) -> Signature
         Math::Min | Math::Max => row(NUMBERS, &[Same], ArgumentType),
         Math::Clamp => row(NUMBERS, &[Same, Same], ArgumentType),
         Math::Dot => row(Vector(ScalarSet::Number), &[Same], ScalarOfArgument),
+        Math::Dot4I8Packed => row(Exactly(U32), &[Same], Always(I32)),
+        Math::Dot4U8Packed => row(Exactly(U32), &[Same], Always(U32)),
+        Math::Outer => row(FLOAT_VECTORS, &[VectorOfScalar], OuterProduct),
         Math::Sign => unary(ScalarOrVector(ScalarSet::Signed)),
         Math::CountTrailingZeros | Math::CountLeadingZeros | Math::CountOneBits => unary(INTEGERS),
         Math::ReverseBits | Math::FirstTrailingBit | Math::FirstLeadingBit => unary(INTEGERS),
@@ -142,8 +188,16 @@ fn signature_of(fun: Math) -> Signature
         Math::InsertBits => row(INTEGERS, &[Same, ExactlyU32, ExactlyU32], ArgumentType),
         Math::Transpose => row(Matrix, &[], Transposed),
         Math::Determinant => row(SquareMatrix, &[], ScalarOfArgument),
-        Math::Pack2x16float => row(FirstArgument::TwoF32, &[], ConclusionRule::U32),
-        Math::Unpack2x16float => row(FirstArgument::U32, &[], ConclusionRule::TwoF32),
+        Math::Inverse => row(SquareMatrixOf(ScalarSet::Float), &[], MatrixOfArgument),
+        Math::Pack4x8snorm | Math::Pack4x8unorm => conversion(FourF32, U32),
+        Math::Pack2x16snorm | Math::Pack2x16unorm | Math::Pack2x16float => conversion(TwoF32, U32),
+        Math::Pack4xI8 | Math::Pack4xI8Clamp => conversion(FourI32, U32),
+        Math::Pack4xU8 | Math::Pack4xU8Clamp => conversion(FourU32, U32),
+        Math::Unpack4x8snorm | Math::Unpack4x8unorm => conversion(U32, FourF32),
+        Math::Unpack2x16snorm | Math::Unpack2x16unorm => conversion(U32, TwoF32),
+        Math::Unpack2x16float => conversion(U32, TwoF32),
+        Math::Unpack4xI8 => conversion(U32, FourI32),
+        Math::Unpack4xU8 => conversion(U32, FourU32),
     }
 }
 
@@ -183,13 +237,38 @@ fn of_components(size: Option<VectorSize>, scalar: Scalar) -> TypeInner
     }
 }
 
-/// The type of a vector of two `F32`.
-fn two_f32() -> TypeInner
-    ensures { result ≡ TypeInner.Vector VectorSize.Bi spec.f32_scalar }
+/// The number of components of a vector, and its scalar.
+fn vector_parts(inner: &TypeInner) -> Option<(VectorSize, Scalar)>
+    ensures { result ≡ spec.vector_parts inner.now }
 {
-    TypeInner::Vector {
-        size: VectorSize::Bi,
-        scalar: Scalar::F32,
+    match inner.vector_size_and_scalar() {
+        Some((Some(size), scalar)) => Some((size, scalar)),
+        Some((None, _)) | None => None,
+    }
+}
+
+/// The type of the exponents of a scalar or a vector: as many `I32` as it has components.
+pub(crate) fn exponent_type(inner: &TypeInner) -> Option<TypeInner>
+    ensures { result ≡ spec.exponent_type inner.now }
+{
+    let (size, _) = inner.vector_size_and_scalar()?;
+    Some(of_components(size, Scalar::I32))
+}
+
+impl KnownType {
+    /// The type.
+    fn inner(self) -> TypeInner
+        ensures { result ≡ known_type self }
+    {
+        let (size, scalar) = match self {
+            I32 => (None, Scalar::I32),
+            U32 => (None, Scalar::U32),
+            TwoF32 => (Some(VectorSize::Bi), Scalar::F32),
+            FourF32 => (Some(VectorSize::Quad), Scalar::F32),
+            FourI32 => (Some(VectorSize::Quad), Scalar::I32),
+            FourU32 => (Some(VectorSize::Quad), Scalar::U32),
+        };
+        of_components(size, scalar)
     }
 }
 
@@ -228,8 +307,13 @@ impl FirstArgument {
             SquareMatrix => {
                 matches!(matrix_parts(inner), Some((columns, rows, _)) if columns == rows)
             }
-            FirstArgument::TwoF32 => two_f32() == *inner,
-            FirstArgument::U32 => TypeInner::Scalar(Scalar::U32) == *inner,
+            SquareMatrixOf(set) => {
+                matches!(
+                    matrix_parts(inner),
+                    Some((columns, rows, scalar)) if columns == rows && set.contains(scalar.kind)
+                )
+            }
+            Exactly(known) => known.inner() == *inner,
         }
     }
 }
@@ -244,6 +328,26 @@ fn is_scalar_of(first: &TypeInner, inner: &TypeInner) -> bool
     }
 }
 
+/// Whether a type is a vector of the scalar of another.
+fn is_vector_of_scalar(first: &TypeInner, inner: &TypeInner) -> bool
+    ensures { result ≡ spec.vector_of_scalar first.now inner.now }
+{
+    match vector_parts(inner) {
+        Some((_, scalar)) => is_scalar_of(first, &TypeInner::Scalar(scalar)),
+        None => false,
+    }
+}
+
+/// Whether a type is the type of the exponents of another.
+fn is_exponent_of(first: &TypeInner, inner: &TypeInner) -> bool
+    ensures { result ≡ spec.exponent_of_first first.now inner.now }
+{
+    match exponent_type(first) {
+        Some(exponent) => exponent == *inner,
+        None => false,
+    }
+}
+
 impl FurtherArgument {
     /// Whether a further argument may have this type, after a first one of type `first`.
     fn takes(self, first: &TypeInner, inner: &TypeInner) -> bool
@@ -253,15 +357,17 @@ impl FurtherArgument {
             Same => first == inner,
             SameOrScalar => first == inner || is_scalar_of(first, inner),
             ScalarOfFirst => is_scalar_of(first, inner),
+            VectorOfScalar => is_vector_of_scalar(first, inner),
+            ExponentOfFirst => is_exponent_of(first, inner),
             ExactlyU32 => TypeInner::Scalar(Scalar::U32) == *inner,
         }
     }
 }
 
 impl ConclusionRule {
-    /// The type of the result, by the type of the first argument.
-    fn conclude(self, first: &TypeInner) -> Option<TypeInner>
-        ensures { result ≡ concluded self first.now }
+    /// The type of the result, by the types of the first argument and of those after it.
+    fn conclude(self, first: &TypeInner, further: &[&TypeInner]) -> Option<TypeInner>
+        ensures { result ≡ concluded self first.now (map (λ t. t.now) further.now) }
     {
         match self {
             ArgumentType => {
@@ -277,8 +383,25 @@ impl ConclusionRule {
                     scalar,
                 })
             }
-            ConclusionRule::TwoF32 => Some(two_f32()),
-            ConclusionRule::U32 => Some(TypeInner::Scalar(Scalar::U32)),
+            MatrixOfArgument => {
+                let (columns, rows, scalar) = matrix_parts(first)?;
+                Some(TypeInner::Matrix {
+                    columns,
+                    rows,
+                    scalar,
+                })
+            }
+            OuterProduct => {
+                let (rows, scalar) = vector_parts(first)?;
+                let (columns, _) = vector_parts(further.first()?)?;
+                Some(TypeInner::Matrix {
+                    columns,
+                    rows,
+                    scalar,
+                })
+            }
+            Always(known) => Some(known.inner()),
+            OfModule => None,
         }
     }
 }
@@ -317,11 +440,22 @@ pub(crate) fn argument_count(fun: Math) -> usize
 }
 
 /// The type of the result, if a function takes these arguments.
-pub(crate) fn result_type(fun: Math, types: &[&TypeInner]) -> Option<TypeInner>
+///
+/// # Errors
+///
+/// - `IncompatibleOperands` if it doesn't.
+/// - `NotResolvable` if the result is a struct of the module.
+pub(crate) fn result_type(fun: Math, types: &[&TypeInner]) -> Result<TypeInner, ResolveError>
     ensures { result ≡ spec.result_type fun (map (λ t. t.now) types.now) }
 {
+    let Some((first, further)) = types.split_first() else {
+        return Err(ResolveError::IncompatibleOperands);
+    };
     if !accepts(fun, types) || types.len() != argument_count(fun) {
-        return None;
+        return Err(ResolveError::IncompatibleOperands);
     }
-    signature_of(fun).conclusion.conclude(types.first()?)
+    match signature_of(fun).conclusion.conclude(first, further) {
+        Some(inner) => Ok(inner),
+        None => Err(ResolveError::NotResolvable),
+    }
 }

@@ -24,11 +24,14 @@ use std::alloc::Global;
 /// functions, conversions, splats and swizzles. Operands aren't compared with one another, except the
 /// arguments of mathematical functions: the type of a sum is the type of its left operand, whatever the
 /// right one is. Operands from which no type follows are `IncompatibleOperands`, and so are arguments
-/// that a mathematical function doesn't take. Loads, variables, arguments, images, rays, calls and the
-/// results of statements are `NotResolvable`. `resolve` takes no memory, and `push_type` only for the list.
+/// that a mathematical function doesn't take. Loads, variables, arguments, images, rays, calls, the
+/// results of statements, and those of `Modf` and `Frexp`, which are structs of the module, are
+/// `NotResolvable`. `resolve` takes no memory, and `push_type` only for the list.
 ///
 /// Each mathematical function has one row of types (WGSL "Numeric Built-in Functions" and those after
-/// it), of scalars of any width.
+/// it), of scalars of any width. `Outer` and `Inverse`, which WGSL lacks, are those of GLSL: `Outer` takes two
+/// vectors of one scalar to the matrix that has as many columns as the second has components, and as many rows
+/// as the first; `Inverse` takes a square matrix of floating-point numbers.
 #[derive(Clone, Copy, Debug, PartialEq, Eq)]
 pub struct PlainTyping;
 
@@ -372,11 +375,13 @@ fn math_of(
         (Some(second), Some(third), Some(fourth)) => {
             result_type(fun, &[first, second, third, fourth])
         }
-        (None, Some(_), _) | (None, None, Some(_)) | (Some(_), None, Some(_)) => None,
+        (None, Some(_), _) | (None, None, Some(_)) | (Some(_), None, Some(_)) => {
+            Err(ResolveError::IncompatibleOperands)
+        }
     };
     match inner {
-        Some(inner) => Ok(TypeResolution::Value(inner)),
-        None => Err(ResolveError::IncompatibleOperands),
+        Ok(inner) => Ok(TypeResolution::Value(inner)),
+        Err(error) => Err(error),
     }
 }
 

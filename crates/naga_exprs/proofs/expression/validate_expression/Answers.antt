@@ -83,7 +83,7 @@ pub validate_ray_query_vertex_positions-requires-clause-query : goal.validate_ra
 validate_ray_query_vertex_positions-requires-clause-query g c = typed (surroundings c.args.context) c.requires.ready.0 c.args.expression.now c.requires.ready.1 _ (of_vertices c.args.expression.now c.in-RayQueryVertexPositions.query c.in-RayQueryVertexPositions.committed c.in-RayQueryVertexPositions.is)
 
 pub validate_cooperative_load-requires-clause-pointer : goal.validate_cooperative_load-requires-clause-pointer
-validate_cooperative_load-requires-clause-pointer g c = typed (surroundings c.args.context) c.requires.ready.0 c.args.expression.now c.requires.ready.1 _ (of_cooperative_load c.args.expression.now c.in-CooperativeLoad.pointer c.in-CooperativeLoad.stride c.in-CooperativeLoad.is)
+validate_cooperative_load-requires-clause-pointer g c = typed (surroundings c.args.context) c.requires.ready.0 c.args.expression.now c.requires.ready.1 _ (of_cooperative_load c.args.expression.now c.in-CooperativeLoad.shape c.in-CooperativeLoad.pointer c.in-CooperativeLoad.stride c.in-CooperativeLoad.is)
 
 pub validate_cooperative_multiply_add-requires-clause-left : goal.validate_cooperative_multiply_add-requires-clause-left
 validate_cooperative_multiply_add-requires-clause-left g c = typed (surroundings c.args.context) c.requires.ready.0 c.args.expression.now c.requires.ready.1 _ (left_of_multiply_add c.args.expression.now c.in-CooperativeMultiplyAdd.a c.in-CooperativeMultiplyAdd.b c.in-CooperativeMultiplyAdd.c c.in-CooperativeMultiplyAdd.is)

@@ -1,5 +1,5 @@
 use Rattle.naga_typing.proofs.CanResolve.{function_exists, global_variable_exists, operand_parts_exist, operands_earlier}
-use Rattle.naga_typing.proofs.FormOperands.{image_of_load, image_of_query, image_of_sample, left_of_binary, of_access, of_access_index, of_as, of_load, right_of_binary, summand_of_product}
+use Rattle.naga_typing.proofs.FormOperands.{image_of_load, image_of_query, image_of_sample, left_of_binary, of_access, of_access_index, of_as, of_cooperative_load, first_of_math, of_load, right_of_binary, summand_of_product}
 use Rattle.naga_typing.proofs.full_typing.resolve_full.Goals as goal
 
 pub operand-requires-clause-earlier : goal.operand-requires-clause-earlier
@@ -46,3 +46,12 @@ index-requires c = function_exists _ _ _ c.requires _ c.in-CallResult.is
 
 pub same_type-requires-clause-earlier : goal.same_type-requires-clause-earlier
 same_type-requires-clause-earlier c = operands_earlier _ _ _ c.requires _ (summand_of_product _ _ _ _ c.in-CooperativeMultiplyAdd.is)
+
+pub operand-requires-in-Math-clause-earlier : goal.operand-requires-in-Math-clause-earlier
+operand-requires-in-Math-clause-earlier c = operands_earlier _ _ _ c.requires _ (first_of_math _ _ _ _ _ _ c.in-Math.is)
+
+pub operand-requires-in-CooperativeLoad-clause-earlier : goal.operand-requires-in-CooperativeLoad-clause-earlier
+operand-requires-in-CooperativeLoad-clause-earlier c = operands_earlier _ _ _ c.requires _ (of_cooperative_load _ _ _ _ c.in-CooperativeLoad.is)
+
+pub cooperative_load_of-requires : goal.cooperative_load_of-requires
+cooperative_load_of-requires c = operand_parts_exist _ _ _ c.requires _ _ c.operand-in-CooperativeLoad.ensures
