@@ -11,11 +11,12 @@ use Rattle.naga_ir.specs.declared.statement.SwitchCase.{SwitchCase}
 use Rattle.naga_draft.proofs.MarkLemmas.{case_depth-push, case_marks-push, depth-none, depth-plain, depth-push, depth_of_statement-out, items_of, marks-none, marks-plain, marks-push, marks_of_statement-out, own_depth, own_marks}
 use Rattle.naga_draft.proofs.MarkRuns.{length-kinds}
 use Rattle.naga_draft.specs.Bodies.{Marks, depth, greatest, marks_of_block}
-use Rattle.naga_draft.specs.BodyParts.{HasNoBlocks, depth_of_case, depth_of_statement, marks_of_case, marks_of_statement}
+use Rattle.naga_draft.specs.BodyParts.{HasNoBlocks, depth_of_case, depth_of_statement, head_of, marks_of_case, marks_of_statement}
 use Rattle.naga_draft.specs.declared.blocks.OpenBlocks.{OpenBlocks}
 use Rattle.naga_draft.specs.declared.blocks.Opener.{Opener}
 use Rattle.naga_draft.specs.declared.blocks.Opener.TheVariants as opener
 use Rattle.naga_draft.specs.declared.blocks.OuterBlock.{OuterBlock}
+use Rattle.naga_draft.specs.declared.item.CaseHead.{CaseHead}
 use Rattle.naga_draft.specs.declared.item.Mark.{Mark}
 use Rattle.naga_draft.specs.declared.item.Mark.TheVariants as mark
 use Rattle.naga_draft.specs.declared.unread.Unread.{Unread}
@@ -138,10 +139,10 @@ push-adds old new s plain t same items marks read =
     subst (λ outer. IsRead (marks ++ mark.Statement s ∷ []) outer new.block) (ap reverse (sym same)) after
 
 -- the marks of one more case, and a mark after it
-pub more_cases : (old new : List SwitchCase) (falls : Bool) (body : Block) (m : Mark) → AddsCase old falls body new → flat_map marks_of_case new ++ m ∷ [] ≡ (flat_map marks_of_case old ++ mark.Case falls ∷ []) ++ (marks_of_block body ++ m ∷ [])
-more_cases old new falls body m h = ap (λ xs. xs ++ m ∷ []) h.said ∙ split (flat_map marks_of_case old) (marks_of_block body) (m ∷ [])
+pub more_cases : (old new : List SwitchCase) (head : CaseHead) (body : Block) (m : Mark) → AddsCase old head body new → flat_map marks_of_case new ++ m ∷ [] ≡ (flat_map marks_of_case old ++ mark.Case head ∷ []) ++ (marks_of_block body ++ m ∷ [])
+more_cases old new head body m h = ap (λ xs. xs ++ m ∷ []) h.said ∙ split (flat_map marks_of_case old) (marks_of_block body) (m ∷ [])
   where
-    split : (a b c : Marks) → (a ++ mark.Case falls ∷ b) ++ c ≡ (a ++ mark.Case falls ∷ []) ++ (b ++ c)
+    split : (a b c : Marks) → (a ++ mark.Case head ∷ b) ++ c ≡ (a ++ mark.Case head ∷ []) ++ (b ++ c)
     split a b c = simp append_assoc
 
 -- what a block, an `if`, a switch without cases, a switch with a last case and a loop end with
@@ -167,9 +168,9 @@ closes-empty_switch selector cases inner s is none = record {
   shallow = omega (arith, depth_of_statement-out s ∙ ap own_depth is ∙ ap (λ cs. greatest (map depth_of_case cs) + 1) none);
 }
 
-pub closes-switch : (selector : ℕ) (old cases : Vec SwitchCase Global) (falls : Bool) (inner : Block) (s : Statement) → out-Statement s ≡ one.Switch selector cases → AddsCase old.items falls inner cases.items → Closes (mark.End ∷ []) (opener.Case selector old falls) inner s
-closes-switch selector old cases falls inner s is adds = record {
-  said = λ _. marks_of_statement-out s ∙ ap own_marks is ∙ ap (λ xs. mark.Switch selector ∷ xs) (more_cases old.items cases.items falls inner mark.End adds);
+pub closes-switch : (selector : ℕ) (old cases : Vec SwitchCase Global) (head : CaseHead) (inner : Block) (s : Statement) → out-Statement s ≡ one.Switch selector cases → AddsCase old.items head inner cases.items → Closes (mark.End ∷ []) (opener.Case selector old head) inner s
+closes-switch selector old cases head inner s is adds = record {
+  said = λ _. marks_of_statement-out s ∙ ap own_marks is ∙ ap (λ xs. mark.Switch selector ∷ xs) (more_cases old.items cases.items head inner mark.End adds);
   shallow = omega (arith, depth_of_statement-out s ∙ ap own_depth is, adds.shallow);
 }
 
@@ -180,25 +181,25 @@ closes-loop body continuing break_if s is = record {
 }
 
 -- a switch has one more case
-pub adds-case : (old new : List SwitchCase) (c : SwitchCase) → new ≡ old ++ c ∷ [] → AddsCase old c.fall_through c.body new
+pub adds-case : (old new : List SwitchCase) (c : SwitchCase) → new ≡ old ++ c ∷ [] → AddsCase old (head_of c) c.body new
 adds-case old new c is = record {
   said = ap (flat_map marks_of_case) is ∙ case_marks-push old c;
   shallow = ap (λ cs. greatest (map depth_of_case cs)) is ∙ case_depth-push old c;
 }
 
 -- a case is opened in a switch without cases, or after another case
-pub first_case-adds : (old mid new : OpenBlocks) (selector : ℕ) (cases : Vec SwitchCase Global) (falls : Bool) (inner : Block) → TakesBlock old (opener.Switch selector) inner mid → Opens (opener.Case selector cases falls) mid new → cases.items ≡ [] → Adds (mark.Case falls) old new
-first_case-adds old mid new selector cases falls inner taken opens none =
-    swap-adds old mid new (opener.Switch selector) (opener.Case selector cases falls) inner (mark.Case falls) taken opens
+pub first_case-adds : (old mid new : OpenBlocks) (selector : ℕ) (cases : Vec SwitchCase Global) (head : CaseHead) (inner : Block) → TakesBlock old (opener.Switch selector) inner mid → Opens (opener.Case selector cases head) mid new → cases.items ≡ [] → Adds (mark.Case head) old new
+first_case-adds old mid new selector cases head inner taken opens none =
+    swap-adds old mid new (opener.Switch selector) (opener.Case selector cases head) inner (mark.Case head) taken opens
     (λ empty.
-    ap (λ cs. mark.Switch selector ∷ (flat_map marks_of_case cs ++ mark.Case falls ∷ [])) none
-    ∙ ap (λ xs. mark.Switch selector ∷ (xs ++ mark.Case falls ∷ [])) (sym (marks-none inner (empty refl))))
+    ap (λ cs. mark.Switch selector ∷ (flat_map marks_of_case cs ++ mark.Case head ∷ [])) none
+    ∙ ap (λ xs. mark.Switch selector ∷ (xs ++ mark.Case head ∷ [])) (sym (marks-none inner (empty refl))))
     (omega (arith, ap (λ cs. greatest (map depth_of_case cs)) none))
 
-pub next_case-adds : (old mid new : OpenBlocks) (selector : ℕ) (cases more : Vec SwitchCase Global) (before falls : Bool) (inner : Block) → TakesBlock old (opener.Case selector cases before) inner mid → Opens (opener.Case selector more falls) mid new → AddsCase cases.items before inner more.items → Adds (mark.Case falls) old new
-next_case-adds old mid new selector cases more before falls inner taken opens adds =
-    swap-adds old mid new (opener.Case selector cases before) (opener.Case selector more falls) inner (mark.Case falls) taken opens
-    (λ _. ap (λ xs. mark.Switch selector ∷ xs) (more_cases cases.items more.items before inner (mark.Case falls) adds))
+pub next_case-adds : (old mid new : OpenBlocks) (selector : ℕ) (cases more : Vec SwitchCase Global) (before head : CaseHead) (inner : Block) → TakesBlock old (opener.Case selector cases before) inner mid → Opens (opener.Case selector more head) mid new → AddsCase cases.items before inner more.items → Adds (mark.Case head) old new
+next_case-adds old mid new selector cases more before head inner taken opens adds =
+    swap-adds old mid new (opener.Case selector cases before) (opener.Case selector more head) inner (mark.Case head) taken opens
+    (λ _. ap (λ xs. mark.Switch selector ∷ xs) (more_cases cases.items more.items before inner (mark.Case head) adds))
     (omega (arith, adds.shallow))
 
 -- the kinds of blocks of which the innermost is taken, or none is left
@@ -225,12 +226,12 @@ continuing-added old mid new p body (Ok x) taken is opens =
 continuing-added old mid new p body (Err e) taken is opens = tt
 
 -- a case, of what opening its block returned
-pub first_case-added : (old mid new : OpenBlocks) (p : Opener) (selector : ℕ) (cases : Vec SwitchCase Global) (falls : Bool) (inner : Block) (r : Result (Unit {0}) Unread) → TakesBlock old p inner mid → p ≡ opener.Switch selector → cases.items ≡ [] → OnOk r (Opens (opener.Case selector cases falls) mid new) → OnOk r (Adds (mark.Case falls) old new)
-first_case-added old mid new p selector cases falls inner (Ok x) taken is none opens =
-    first_case-adds old mid new selector cases falls inner (subst (λ q. TakesBlock old q inner mid) is taken) opens none
-first_case-added old mid new p selector cases falls inner (Err e) taken is none opens = tt
+pub first_case-added : (old mid new : OpenBlocks) (p : Opener) (selector : ℕ) (cases : Vec SwitchCase Global) (head : CaseHead) (inner : Block) (r : Result (Unit {0}) Unread) → TakesBlock old p inner mid → p ≡ opener.Switch selector → cases.items ≡ [] → OnOk r (Opens (opener.Case selector cases head) mid new) → OnOk r (Adds (mark.Case head) old new)
+first_case-added old mid new p selector cases head inner (Ok x) taken is none opens =
+    first_case-adds old mid new selector cases head inner (subst (λ q. TakesBlock old q inner mid) is taken) opens none
+first_case-added old mid new p selector cases head inner (Err e) taken is none opens = tt
 
-pub next_case-added : (old mid new : OpenBlocks) (p : Opener) (selector : ℕ) (cases more : Vec SwitchCase Global) (before falls : Bool) (inner : Block) (r : Result (Unit {0}) Unread) → TakesBlock old p inner mid → p ≡ opener.Case selector cases before → AddsCase cases.items before inner more.items → OnOk r (Opens (opener.Case selector more falls) mid new) → OnOk r (Adds (mark.Case falls) old new)
-next_case-added old mid new p selector cases more before falls inner (Ok x) taken is adds opens =
-    next_case-adds old mid new selector cases more before falls inner (subst (λ q. TakesBlock old q inner mid) is taken) opens adds
-next_case-added old mid new p selector cases more before falls inner (Err e) taken is adds opens = tt
+pub next_case-added : (old mid new : OpenBlocks) (p : Opener) (selector : ℕ) (cases more : Vec SwitchCase Global) (before head : CaseHead) (inner : Block) (r : Result (Unit {0}) Unread) → TakesBlock old p inner mid → p ≡ opener.Case selector cases before → AddsCase cases.items before inner more.items → OnOk r (Opens (opener.Case selector more head) mid new) → OnOk r (Adds (mark.Case head) old new)
+next_case-added old mid new p selector cases more before head inner (Ok x) taken is adds opens =
+    next_case-adds old mid new selector cases more before head inner (subst (λ q. TakesBlock old q inner mid) is taken) opens adds
+next_case-added old mid new p selector cases more before head inner (Err e) taken is adds opens = tt

@@ -121,16 +121,16 @@ ending (opener.Switch selector) last few =
     let cases : Vec SwitchCase Global = vec_of (out-Block last).body [] (omega arith) in
     let s : Statement = roll-Statement (one.Switch selector cases) in
     record { marks = mark.End ∷ []; statement = s; closes = closes-empty_switch selector cases last s (by_form (one.Switch selector cases)) (vec_of-items (out-Block last).body [] (omega arith)) }
-ending (opener.Case selector cases falls) last few =
-    let case : SwitchCase = record { body = last; fall_through = falls } in
+ending (opener.Case selector cases head) last few =
+    let case : SwitchCase = record { value = head.value; body = last; fall_through = head.fall_through } in
     let fits : length (cases.items ++ case ∷ []) < 2 ^ 63 =
-    omega (arith, few, cases-few cases.items, length-append cases.items (case ∷ []), length-append (flat_map marks_of_case cases.items) (mark.Case falls ∷ [])) in
+    omega (arith, few, cases-few cases.items, length-append cases.items (case ∷ []), length-append (flat_map marks_of_case cases.items) (mark.Case head ∷ [])) in
     let all : Vec SwitchCase Global = vec_of cases (cases.items ++ case ∷ []) fits in
     let s : Statement = roll-Statement (one.Switch selector all) in
     record {
       marks = mark.End ∷ [];
       statement = s;
-      closes = closes-switch selector cases all falls last s (by_form (one.Switch selector all)) (adds-case cases.items all.items case (vec_of-items cases (cases.items ++ case ∷ []) fits));
+      closes = closes-switch selector cases all head last s (by_form (one.Switch selector all)) (adds-case cases.items all.items case (vec_of-items cases (cases.items ++ case ∷ []) fits));
     }
 ending opener.Body last few =
     let empty : Block = block_of last [] (omega arith) in
@@ -154,7 +154,7 @@ opener_marks-some opener.Block = omega arith
 opener_marks-some (opener.Accept condition) = omega arith
 opener_marks-some (opener.Reject condition accept) = omega arith
 opener_marks-some (opener.Switch selector) = omega arith
-opener_marks-some (opener.Case selector cases falls) = omega arith
+opener_marks-some (opener.Case selector cases head) = omega arith
 opener_marks-some opener.Body = omega arith
 opener_marks-some (opener.Continuing body) = omega arith
 

@@ -13,7 +13,7 @@ use Rattle.naga_ir.specs.declared.statement.Statement.TheViews.{out-Block, out-S
 use Rattle.naga_ir.specs.declared.statement.SwitchCase.{SwitchCase}
 use Rattle.naga_ir.specs.steps.StatementParts.{Form}
 use Rattle.naga_draft.specs.Bodies.{Marks, block_depth_step, block_step, case_depth_step, case_step, depth, greatest, marks_of_block, statement_depth_step, statement_step}
-use Rattle.naga_draft.specs.BodyParts.{HasNoBlocks, IsBlockless, depth_of_case, depth_of_statement, marks_of_case, marks_of_statement}
+use Rattle.naga_draft.specs.BodyParts.{HasNoBlocks, IsBlockless, depth_of_case, depth_of_statement, head_of, marks_of_case, marks_of_statement}
 use Rattle.naga_draft.specs.declared.item.Mark.TheVariants as mark
 
 -- the statements of a block
@@ -70,7 +70,7 @@ unfolding depth depth_of_statement
 depth-out b = fold_out-Block ℕ ℕ ℕ statement_depth_step block_depth_step case_depth_step b
 
 -- the marks and the depth of a case, by its block
-pub marks_of_case-out : (c : SwitchCase) → marks_of_case c ≡ mark.Case c.fall_through ∷ marks_of_block c.body
+pub marks_of_case-out : (c : SwitchCase) → marks_of_case c ≡ mark.Case (head_of c) ∷ marks_of_block c.body
 unfolding marks_of_case marks_of_block
 marks_of_case-out c = fold_out-SwitchCase Marks Marks Marks statement_step block_step case_step c
 
@@ -129,7 +129,7 @@ depth-push b more s h =
     ∙ ap (λ n. max n (depth_of_statement s)) (sym (depth-out b))
 
 -- a case of a switch with one more
-pub case_marks-push : (cs : List SwitchCase) (c : SwitchCase) → flat_map marks_of_case (cs ++ c ∷ []) ≡ flat_map marks_of_case cs ++ mark.Case c.fall_through ∷ marks_of_block c.body
+pub case_marks-push : (cs : List SwitchCase) (c : SwitchCase) → flat_map marks_of_case (cs ++ c ∷ []) ≡ flat_map marks_of_case cs ++ mark.Case (head_of c) ∷ marks_of_block c.body
 case_marks-push cs c =
     flat_map-append marks_of_case cs (c ∷ [])
     ∙ ap (λ ms. flat_map marks_of_case cs ++ ms) (append-nil (marks_of_case c) ∙ marks_of_case-out c)

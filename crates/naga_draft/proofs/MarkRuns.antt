@@ -118,9 +118,9 @@ opener-runs (opener.Reject condition accept) ks t fits =
     ap (option_and_then (run (marks_of_block accept ++ mark.Else ∷ []))) (opened-room in_accept ks t (omega arith))
     ∙ run-then (marks_of_block accept) (mark.Else ∷ []) (in_accept ∷ ks) (in_accept ∷ ks) (body-runs accept (in_accept ∷ ks) refl (omega arith))
 opener-runs (opener.Switch selector) ks t fits = ap (option_and_then (run [])) (opened-room in_switch ks t (omega arith))
-opener-runs (opener.Case selector cases fall_through) ks t fits =
-    ap (option_and_then (run (flat_map marks_of_case cases.items ++ mark.Case fall_through ∷ []))) (opened-room in_switch ks t (omega arith))
-    ∙ switch-runs (suc (greatest (map depth_of_case cases.items))) (λ b _. body-runs b) cases.items (omega arith) (mark.Case fall_through ∷ []) ks (Some (in_case ∷ ks)) (omega arith) refl refl
+opener-runs (opener.Case selector cases head) ks t fits =
+    ap (option_and_then (run (flat_map marks_of_case cases.items ++ mark.Case head ∷ []))) (opened-room in_switch ks t (omega arith))
+    ∙ switch-runs (suc (greatest (map depth_of_case cases.items))) (λ b _. body-runs b) cases.items (omega arith) (mark.Case head ∷ []) ks (Some (in_case ∷ ks)) (omega arith) refl refl
 opener-runs opener.Body ks t fits = ap (option_and_then (run [])) (opened-room in_body ks t (omega arith))
 opener-runs (opener.Continuing body) ks t fits =
     ap (option_and_then (run (marks_of_block body ++ mark.Continuing ∷ []))) (opened-room in_body ks t (omega arith))

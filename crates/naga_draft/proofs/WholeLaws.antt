@@ -60,6 +60,8 @@ still_consistent s ms c = record {
   results = c.results;
   filter_leaves = c.filter_leaves;
   workgroup_sizes = c.workgroup_sizes;
+  stages = c.stages;
+  workgroup_size = c.workgroup_size;
   task_payloads = c.task_payloads;
   mesh_outputs = c.mesh_outputs;
   room_for_local_variables = c.room_for_local_variables;
@@ -95,7 +97,7 @@ completed (function name) parts current h more =
       function_of name (all_parts (parts ++ map Mark more.0)) more.1,
       record {
         consistent = subst ArePartsConsistent (sym s) (still_consistent (all_parts parts) more.0 h.consistent);
-        no_entry_parts = subst HasNoEntryParts (sym s) (record { workgroup_sizes = h.entry.1.workgroup_sizes; task_payloads = h.entry.1.task_payloads; mesh_outputs = h.entry.1.mesh_outputs });
+        no_entry_parts = subst HasNoEntryParts (sym s) (record { workgroup_sizes = h.entry.1.workgroup_sizes; stages = h.entry.1.stages; workgroup_size = h.entry.1.workgroup_size; task_payloads = h.entry.1.task_payloads; mesh_outputs = h.entry.1.mesh_outputs });
         body = subst (λ (s : AllParts). IsBody s.marks more.1) (sym s) more.2;
         function_is = refl;
       },

@@ -26,8 +26,8 @@ statement_step one.Break = mark.Statement (roll-Statement one.Break) ∷ []
 statement_step one.Continue = mark.Statement (roll-Statement one.Continue) ∷ []
 statement_step (one.Return value) = mark.Statement (roll-Statement (one.Return value)) ∷ []
 statement_step one.Kill = mark.Statement (roll-Statement one.Kill) ∷ []
-statement_step one.ControlBarrier = mark.Statement (roll-Statement one.ControlBarrier) ∷ []
-statement_step one.MemoryBarrier = mark.Statement (roll-Statement one.MemoryBarrier) ∷ []
+statement_step (one.ControlBarrier barrier) = mark.Statement (roll-Statement (one.ControlBarrier barrier)) ∷ []
+statement_step (one.MemoryBarrier barrier) = mark.Statement (roll-Statement (one.MemoryBarrier barrier)) ∷ []
 statement_step (one.Store pointer value) = mark.Statement (roll-Statement (one.Store pointer value)) ∷ []
 statement_step (one.ImageStore image coordinate array_index value) =
     mark.Statement (roll-Statement (one.ImageStore image coordinate array_index value)) ∷ []
@@ -45,8 +45,8 @@ statement_step (one.SubgroupBallot result predicate) =
     mark.Statement (roll-Statement (one.SubgroupBallot result predicate)) ∷ []
 statement_step (one.SubgroupGather mode argument result) =
     mark.Statement (roll-Statement (one.SubgroupGather mode argument result)) ∷ []
-statement_step (one.SubgroupCollectiveOperation op argument result) =
-    mark.Statement (roll-Statement (one.SubgroupCollectiveOperation op argument result)) ∷ []
+statement_step (one.SubgroupCollectiveOperation op collective_op argument result) =
+    mark.Statement (roll-Statement (one.SubgroupCollectiveOperation op collective_op argument result)) ∷ []
 statement_step (one.CooperativeStore target pointer stride) =
     mark.Statement (roll-Statement (one.CooperativeStore target pointer stride)) ∷ []
 
@@ -56,7 +56,7 @@ block_step b = flat_map (λ of_statement. of_statement) b.body.items
 
 -- the marks of a case, by those of its block
 abbrev pub case_step : SwitchCase-F Marks Marks Marks → Marks
-case_step c = mark.Case c.fall_through ∷ c.body
+case_step c = mark.Case (record { value = c.value; fall_through = c.fall_through }) ∷ c.body
 
 -- the marks that say the statements of a block, without those where it begins and ends
 unfoldable pub marks_of_block : Block → Marks

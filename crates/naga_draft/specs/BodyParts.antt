@@ -8,6 +8,7 @@ use Rattle.naga_ir.specs.declared.statement.Statement.TheViews.{out-Statement}
 use Rattle.naga_ir.specs.declared.statement.SwitchCase.{SwitchCase}
 use Rattle.naga_ir.specs.steps.StatementParts.{Form}
 use Rattle.naga_draft.specs.Bodies.{IsBody, Marks, block_depth_step, block_step, case_depth_step, case_step, statement_depth_step, statement_step}
+use Rattle.naga_draft.specs.declared.item.CaseHead.{CaseHead}
 use Rattle.naga_draft.specs.declared.item.Mark.{Mark}
 use Rattle.naga_draft.specs.declared.item.Mark.TheVariants as mark
 
@@ -31,6 +32,10 @@ IsPlain _ = Unit {0}
 -- the marks that say a statement
 unfoldable pub marks_of_statement : Statement → Marks
 marks_of_statement = fold-Statement Marks Marks Marks statement_step block_step case_step
+
+-- what stands before the statements of a case
+abbrev pub head_of : SwitchCase → CaseHead
+head_of c = record { value = c.value; fall_through = c.fall_through }
 
 -- the marks that say a case of a switch
 unfoldable pub marks_of_case : SwitchCase → Marks

@@ -12,6 +12,7 @@ use Rattle.naga_ir.specs.declared.ir.LocalVariable.{LocalVariable as LocalVariab
 use Rattle.naga_ir.specs.declared.ir.MeshStageInfo.{MeshStageInfo}
 use Rattle.naga_ir.specs.declared.ir.Override.{Override as OverrideType}
 use Rattle.naga_ir.specs.declared.types.«Type».{«Type»}
+use Rattle.naga_draft.specs.declared.item.EntryStage.{EntryStage}
 use Rattle.naga_draft.specs.declared.item.Commented.{Commented}
 use Rattle.naga_draft.specs.declared.item.Commented.TheVariants as on
 use Rattle.naga_draft.specs.declared.item.Item.{Item}
@@ -145,6 +146,8 @@ pub record SaidOfFunction : Type 0 where
   pub named_expression : Option (ℕ × List ℕ)
   pub filter_leaf : Option ℕ
   pub workgroup_sizes : Option (List (Option ℕ))
+  pub stage : Option EntryStage
+  pub workgroup_size : Option (List ℕ)
   pub task_payload : Option ℕ
   pub mesh_output : Option MeshStageInfo
   pub expression : Option ExpressionType
@@ -159,6 +162,8 @@ nothing_of_function = record {
   named_expression = None;
   filter_leaf = None;
   workgroup_sizes = None;
+  stage = None;
+  workgroup_size = None;
   task_payload = None;
   mesh_output = None;
   expression = None;
@@ -173,6 +178,8 @@ said_by_part (part.Result result) = record nothing_of_function { result = Some r
 said_by_part (part.NamedExpression named name) = record nothing_of_function { named_expression = Some (named, name) }
 said_by_part (part.FilterLeaf leaf) = record nothing_of_function { filter_leaf = Some leaf }
 said_by_part (part.WorkgroupSizes sizes) = record nothing_of_function { workgroup_sizes = Some sizes }
+said_by_part (part.Stage stage) = record nothing_of_function { stage = Some stage }
+said_by_part (part.WorkgroupSize size) = record nothing_of_function { workgroup_size = Some size }
 said_by_part (part.TaskPayload variable) = record nothing_of_function { task_payload = Some variable }
 said_by_part (part.MeshOutput info) = record nothing_of_function { mesh_output = Some info }
 said_by_part (part.Expression expression) = record nothing_of_function { expression = Some expression }
@@ -186,6 +193,8 @@ pub record AllParts : Type 0 where
   pub named_expressions : List (ℕ × List ℕ)
   pub filter_leaves : List ℕ
   pub workgroup_sizes : List (List (Option ℕ))
+  pub stages : List EntryStage
+  pub workgroup_size : List (List ℕ)
   pub task_payloads : List ℕ
   pub mesh_outputs : List MeshStageInfo
   pub expressions : List ExpressionType
@@ -200,6 +209,8 @@ all_parts parts = record {
   named_expressions = filter_map (λ p. (said_by_part p).named_expression) parts;
   filter_leaves = filter_map (λ p. (said_by_part p).filter_leaf) parts;
   workgroup_sizes = filter_map (λ p. (said_by_part p).workgroup_sizes) parts;
+  stages = filter_map (λ p. (said_by_part p).stage) parts;
+  workgroup_size = filter_map (λ p. (said_by_part p).workgroup_size) parts;
   task_payloads = filter_map (λ p. (said_by_part p).task_payload) parts;
   mesh_outputs = filter_map (λ p. (said_by_part p).mesh_output) parts;
   expressions = filter_map (λ p. (said_by_part p).expression) parts;

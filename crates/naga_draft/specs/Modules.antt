@@ -1,6 +1,6 @@
 -- The module and settings that items say together.
 use Rattle.std.specs.List.{AllZip}
-use Rattle.std.specs.Prelude.{◌≡◌, ℕ, ◌≤◌, ◌+◌, false, List, [], ◌++◌, Option, None, Some, length, slice_get, unwrap_or}
+use Rattle.std.specs.Prelude.{◌≡◌, ℕ, ◌≤◌, ◌+◌, false, List, [], ◌∷◌, ◌++◌, Option, None, Some, length, slice_get, unwrap_or}
 use Rattle.naga_arena.specs.Numbers.{largest_u32}
 use Rattle.naga_ir.specs.Distinct.{AllDistinct}
 use Rattle.naga_ir.specs.declared.ir.EntryPoint.{EntryPoint as EntryPointType}
@@ -10,6 +10,7 @@ use Rattle.naga_ir.specs.declared.ir.SpecialTypes.{SpecialTypes as SpecialTypesO
 use Rattle.naga_ir.specs.declared.statement.Block.{Block}
 use Rattle.naga_draft.specs.Bodies.{IsBody}
 use Rattle.naga_draft.specs.Items.{AllParts, AllSaid, all_parts, all_said, entry_points_in, functions_in, sections}
+use Rattle.naga_draft.specs.declared.item.EntryStage.{EntryStage}
 use Rattle.naga_draft.specs.declared.item.Item.{Item}
 use Rattle.naga_draft.specs.declared.item.Part.{Part as PartType}
 use Rattle.naga_draft.specs.declared.draft.Contents.{Contents}
@@ -31,10 +32,25 @@ function_of name s body = record {
   diagnostic_filter_leaf = first_of s.filter_leaves;
 }
 
+-- an entry point of which nothing says a stage
+abbrev pub no_stage : EntryStage
+no_stage = record { stage = None; early_depth_test = None }
+
+-- the sizes of a workgroup that aren't said
+abbrev pub no_workgroup : List ℕ
+no_workgroup = 0 ∷ 0 ∷ 0 ∷ []
+
+-- the stage that parts say together, or none
+abbrev pub stage_in : AllParts → EntryStage
+stage_in s = unwrap_or (first_of s.stages) no_stage
+
 -- the entry point of this name, of what its parts say, and of the body of its function
 abbrev pub entry_point_of : List ℕ → AllParts → Block → EntryPointType
 entry_point_of name s body = record {
   name = name;
+  stage = (stage_in s).stage;
+  early_depth_test = (stage_in s).early_depth_test;
+  workgroup_size = unwrap_or (first_of s.workgroup_size) no_workgroup;
   workgroup_size_overrides = first_of s.workgroup_sizes;
   function = function_of None s body;
   task_payload = first_of s.task_payloads;
@@ -46,6 +62,8 @@ pub record ArePartsConsistent (s : AllParts) : Type 0 where
   pub results : length s.results ≤ 1
   pub filter_leaves : length s.filter_leaves ≤ 1
   pub workgroup_sizes : length s.workgroup_sizes ≤ 1
+  pub stages : length s.stages ≤ 1
+  pub workgroup_size : length s.workgroup_size ≤ 1
   pub task_payloads : length s.task_payloads ≤ 1
   pub mesh_outputs : length s.mesh_outputs ≤ 1
   pub room_for_local_variables : length s.local_variables ≤ largest_u32
@@ -54,6 +72,8 @@ pub record ArePartsConsistent (s : AllParts) : Type 0 where
 -- parts say nothing that only entry points have
 pub record HasNoEntryParts (s : AllParts) : Type 0 where
   pub workgroup_sizes : s.workgroup_sizes ≡ []
+  pub stages : s.stages ≡ []
+  pub workgroup_size : s.workgroup_size ≡ []
   pub task_payloads : s.task_payloads ≡ []
   pub mesh_outputs : s.mesh_outputs ≡ []
 

@@ -11,6 +11,7 @@ use Rattle.naga_draft.specs.declared.blocks.OpenBlocks.{OpenBlocks}
 use Rattle.naga_draft.specs.declared.blocks.Opener.{Opener}
 use Rattle.naga_draft.specs.declared.blocks.Opener.TheVariants as opener
 use Rattle.naga_draft.specs.declared.blocks.OuterBlock.{OuterBlock}
+use Rattle.naga_draft.specs.declared.item.CaseHead.{CaseHead}
 use Rattle.naga_draft.specs.declared.item.Mark.{Mark}
 use Rattle.naga_draft.specs.declared.item.Mark.TheVariants as mark
 
@@ -24,7 +25,7 @@ kind_of opener.Block = in_block
 kind_of (opener.Accept condition) = in_accept
 kind_of (opener.Reject condition accept) = in_reject
 kind_of (opener.Switch selector) = in_switch
-kind_of (opener.Case selector cases fall_through) = in_case
+kind_of (opener.Case selector cases head) = in_case
 kind_of opener.Body = in_body
 kind_of (opener.Continuing body) = in_continuing
 
@@ -94,7 +95,7 @@ step ks mark.Block = opened in_block ks
 step ks (mark.If condition) = opened in_accept ks
 step ks mark.Else = replaced to_reject ks
 step ks (mark.Switch selector) = opened in_switch ks
-step ks (mark.Case fall_through) = replaced to_case ks
+step ks (mark.Case head) = replaced to_case ks
 step ks mark.Loop = opened in_body ks
 step ks mark.Continuing = replaced to_continuing ks
 step ks mark.End = ended ends ks
@@ -106,8 +107,8 @@ opener_marks opener.Block = mark.Block ∷ []
 opener_marks (opener.Accept condition) = mark.If condition ∷ []
 opener_marks (opener.Reject condition accept) = mark.If condition ∷ (marks_of_block accept ++ mark.Else ∷ [])
 opener_marks (opener.Switch selector) = mark.Switch selector ∷ []
-opener_marks (opener.Case selector cases fall_through) =
-    mark.Switch selector ∷ (flat_map marks_of_case cases.items ++ mark.Case fall_through ∷ [])
+opener_marks (opener.Case selector cases head) =
+    mark.Switch selector ∷ (flat_map marks_of_case cases.items ++ mark.Case head ∷ [])
 opener_marks opener.Body = mark.Loop ∷ []
 opener_marks (opener.Continuing body) = mark.Loop ∷ (marks_of_block body ++ mark.Continuing ∷ [])
 
@@ -117,7 +118,7 @@ opener_depth opener.Block = 0
 opener_depth (opener.Accept condition) = 0
 opener_depth (opener.Reject condition accept) = depth accept
 opener_depth (opener.Switch selector) = 0
-opener_depth (opener.Case selector cases fall_through) = greatest (map depth_of_case cases.items)
+opener_depth (opener.Case selector cases head) = greatest (map depth_of_case cases.items)
 opener_depth opener.Body = 0
 opener_depth (opener.Continuing body) = depth body
 
@@ -179,7 +180,7 @@ pub record Closes (last : Marks) (p : Opener) (inner : Block) (s : Statement) : 
       → marks_of_statement s ≡ opener_marks p ++ (marks_of_block inner ++ last)
   pub shallow : depth_of_statement s ≤ max (opener_depth p) (depth inner) + 1
 
--- the cases `new` are the cases `old` and one more, of the block `body`, after which the next is executed if it `falls`
-pub record AddsCase (old : List SwitchCase) (falls : Bool) (body : Block) (new : List SwitchCase) : Type 0 where
-  pub said : flat_map marks_of_case new ≡ flat_map marks_of_case old ++ mark.Case falls ∷ marks_of_block body
+-- the cases `new` are the cases `old` and one more, of the block `body`, which begins with `head`
+pub record AddsCase (old : List SwitchCase) (head : CaseHead) (body : Block) (new : List SwitchCase) : Type 0 where
+  pub said : flat_map marks_of_case new ≡ flat_map marks_of_case old ++ mark.Case head ∷ marks_of_block body
   pub shallow : greatest (map depth_of_case new) ≡ max (greatest (map depth_of_case old)) (depth body)

@@ -23,6 +23,8 @@ name_of (entry_point name) = None
 abbrev pub entry_parts_of : List ℕ → AllParts → EntryParts
 entry_parts_of name s = record {
   name = name;
+  stage = first_of s.stages;
+  workgroup_size = first_of s.workgroup_size;
   workgroup_sizes = first_of s.workgroup_sizes;
   payload = first_of s.task_payloads;
   mesh = first_of s.mesh_outputs;
@@ -74,6 +76,8 @@ SaysNoBlocks (part.Result result) = ⊤
 SaysNoBlocks (part.NamedExpression named name) = ⊤
 SaysNoBlocks (part.FilterLeaf leaf) = ⊤
 SaysNoBlocks (part.WorkgroupSizes sizes) = ⊤
+SaysNoBlocks (part.Stage stage) = ⊤
+SaysNoBlocks (part.WorkgroupSize size) = ⊤
 SaysNoBlocks (part.TaskPayload variable) = ⊤
 SaysNoBlocks (part.MeshOutput info) = ⊤
 SaysNoBlocks (part.Expression expression) = ⊤

@@ -10,7 +10,7 @@ ghost use Rattle.naga_draft.specs.OpenBlocks.{Adds, AddsCase, AreRead, Closes, O
 ghost use Rattle.naga_draft.specs.OpenBlocks.{ends, has_room, kind_of, kinds, outer_of, takes};
 ghost use Rattle.std.specs.Prelude.{◌≡◌, List, [], ◌∷◌, ◌++◌, IfErr, IfOk, OnOk, false, true};
 
-use crate::item::Mark;
+use crate::item::{CaseHead, Mark};
 use crate::unread::{Unread, known};
 use naga_ir::handle::Handle;
 use naga_ir::ir::MOST_NESTED;
@@ -37,7 +37,7 @@ enum Opener {
     Case {
         selector: Handle<ExpressionTag>,
         cases: Vec<SwitchCase>,
-        fall_through: bool,
+        head: CaseHead,
     },
     Body,
     Continuing {
@@ -57,12 +57,16 @@ struct OuterBlock {
 fn with_case(
     mut cases: Vec<SwitchCase>,
     body: Block,
-    fall_through: bool,
+    head: CaseHead,
 ) -> Result<Vec<SwitchCase>, Unread>
-    ensures added { IfOk result (λ v. AddsCase cases.items fall_through body v.items) }
+    ensures added { IfOk result (λ v. AddsCase cases.items head body v.items) }
     ensures refused { IfErr result (λ e. e ≡ unread.OutOfMemory) }
 {
-    cases.push(SwitchCase { body, fall_through })?;
+    cases.push(SwitchCase {
+        value: head.value,
+        body,
+        fall_through: head.fall_through,
+    })?;
     Ok(cases)
 }
 
@@ -86,10 +90,10 @@ fn closed(alloc: Global, opener: Opener, block: Block) -> Result<Statement, Unre
         Opener::Case {
             selector,
             cases,
-            fall_through,
+            head,
         } => Ok(Statement::Switch {
             selector,
-            cases: with_case(cases, block, fall_through)?,
+            cases: with_case(cases, block, head)?,
         }),
         Opener::Accept { .. } | Opener::Body | Opener::Continuing { .. } => Err(Unread::Item),
     }
@@ -188,27 +192,27 @@ impl OpenBlocks {
     }
 
     /// Ends the case before, if there is one, and opens the next.
-    fn open_case(&mut self, falls: bool) -> Result<(), Unread>
-        ensures added { OnOk result (Adds (mark.Case falls) self.old self.new) }
-        ensures refused { IfErr result (λ e. e ≡ unread.Item → Refuses (mark.Case falls) self.old) }
+    fn open_case(&mut self, next: CaseHead) -> Result<(), Unread>
+        ensures added { OnOk result (Adds (mark.Case next) self.old self.new) }
+        ensures refused { IfErr result (λ e. e ≡ unread.Item → Refuses (mark.Case next) self.old) }
     {
         let (opener, block) = self.take()?;
         match opener {
             Opener::Switch { selector } => self.enter(Opener::Case {
                 selector,
                 cases: Vec::new(self.alloc),
-                fall_through: falls,
+                head: next,
             }),
             Opener::Case {
                 selector,
                 cases,
-                fall_through,
+                head,
             } => {
-                let cases = with_case(cases, block, fall_through)?;
+                let cases = with_case(cases, block, head)?;
                 self.enter(Opener::Case {
                     selector,
                     cases,
-                    fall_through: falls,
+                    head: next,
                 })
             }
             Opener::Block
@@ -284,7 +288,7 @@ impl OpenBlocks {
             Mark::If(condition) => self.begin(Opener::Accept { condition }),
             Mark::Else => self.open_reject(),
             Mark::Switch(selector) => self.begin(Opener::Switch { selector }),
-            Mark::Case(fall_through) => self.open_case(fall_through),
+            Mark::Case(head) => self.open_case(head),
             Mark::Loop => self.begin(Opener::Body),
             Mark::Continuing => self.open_continuing(),
             Mark::End => self.close(),

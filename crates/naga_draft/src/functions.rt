@@ -8,7 +8,7 @@ ghost use Rattle.std.specs.Prelude.{◌≡◌, ◌++◌, ◌∷◌, [], IfErr, I
 
 use crate::adding::{append, push, set_once};
 use crate::blocks::OpenBlocks;
-use crate::item::Part;
+use crate::item::{EntryStage, Part};
 use crate::unread::Unread;
 use naga_ir::expression::Expression;
 use naga_ir::handle::Handle;
@@ -22,6 +22,8 @@ use std::alloc::Global;
 #[derive(Drop)]
 struct EntryParts {
     name: Text,
+    stage: Option<EntryStage>,
+    workgroup_size: Option<[u32; 3]>,
     workgroup_sizes: Option<[Option<Handle<ExpressionTag>>; 3]>,
     payload: Option<Handle<GlobalVariableTag>>,
     mesh: Option<MeshStageInfo>,
@@ -65,6 +67,8 @@ impl OpenFunction {
             blocks: OpenBlocks::new(alloc),
             entry: Some(EntryParts {
                 name,
+                stage: None,
+                workgroup_size: None,
                 workgroup_sizes: None,
                 payload: None,
                 mesh: None,
@@ -93,6 +97,14 @@ impl OpenFunction {
             Part::FilterLeaf(filter) => set_once(&mut function.diagnostic_filter_leaf, filter),
             Part::WorkgroupSizes(sizes) => match &mut self.entry {
                 Some(entry) => set_once(&mut entry.workgroup_sizes, sizes),
+                None => Err(Unread::Item),
+            },
+            Part::Stage(stage) => match &mut self.entry {
+                Some(entry) => set_once(&mut entry.stage, stage),
+                None => Err(Unread::Item),
+            },
+            Part::WorkgroupSize(size) => match &mut self.entry {
+                Some(entry) => set_once(&mut entry.workgroup_size, size),
                 None => Err(Unread::Item),
             },
             Part::TaskPayload(payload) => match &mut self.entry {
@@ -135,13 +147,22 @@ impl OpenFunction {
         function.body = blocks.finish()?;
         match entry {
             None => Ok(Finished::Function(function)),
-            Some(entry) => Ok(Finished::EntryPoint(EntryPoint {
-                name: entry.name,
-                workgroup_size_overrides: entry.workgroup_sizes,
-                function,
-                task_payload: entry.payload,
-                mesh_info: entry.mesh,
-            })),
+            Some(entry) => {
+                let stage = entry.stage.unwrap_or(EntryStage {
+                    stage: None,
+                    early_depth_test: None,
+                });
+                Ok(Finished::EntryPoint(EntryPoint {
+                    name: entry.name,
+                    stage: stage.stage,
+                    early_depth_test: stage.early_depth_test,
+                    workgroup_size: entry.workgroup_size.unwrap_or([0; 3]),
+                    workgroup_size_overrides: entry.workgroup_sizes,
+                    function,
+                    task_payload: entry.payload,
+                    mesh_info: entry.mesh,
+                }))
+            }
         }
     }
 }

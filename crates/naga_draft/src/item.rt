@@ -4,10 +4,10 @@ use naga_flags::flags::{Capabilities, ValidationFlags};
 use naga_ir::expression::Expression;
 use naga_ir::handle::Handle;
 use naga_ir::ir::{
-    Constant, DiagnosticFilterNode, FunctionArgument, FunctionResult, GlobalVariable,
-    LocalVariable, MeshStageInfo, Override,
+    Constant, DiagnosticFilterNode, EarlyDepthTest, FunctionArgument, FunctionResult,
+    GlobalVariable, LocalVariable, MeshStageInfo, Override, ShaderStage,
 };
-use naga_ir::statement::Statement;
+use naga_ir::statement::{Statement, SwitchValue};
 use naga_ir::tags::{
     ConstantTag, DiagnosticFilterNodeTag, ExpressionTag, FunctionTag, GlobalVariableTag, TypeTag,
 };
@@ -27,6 +27,23 @@ pub enum Commented {
     GlobalVariable(Handle<GlobalVariableTag>),
 }
 
+/// What an item says of a case of a switch.
+#[derive(Clone, Copy)]
+pub struct CaseHead {
+    /// When it is executed, if that is said.
+    pub value: Option<SwitchValue>,
+    /// Whether the next case is executed after it.
+    pub fall_through: bool,
+}
+
+/// What an item says of the stage of an entry point.
+#[derive(Clone, Copy)]
+pub struct EntryStage {
+    pub stage: Option<ShaderStage>,
+    /// Of a fragment shader, whether depths are tested before it runs.
+    pub early_depth_test: Option<EarlyDepthTest>,
+}
+
 /// What an item says of the body of a function: a statement that has no blocks, or where the blocks of a statement
 /// begin and end.
 #[derive(Drop)]
@@ -40,8 +57,8 @@ pub enum Mark {
     Else,
     /// Begins a switch, by its selector.
     Switch(Handle<ExpressionTag>),
-    /// Ends the case before, if there is one, and opens a case: whether the next one is executed after it.
-    Case(bool),
+    /// Ends the case before, if there is one, and opens a case.
+    Case(CaseHead),
     /// Opens the body of a loop.
     Loop,
     /// Ends the body, and opens the block that is executed after it.
@@ -63,6 +80,10 @@ pub enum Part {
     FilterLeaf(Handle<DiagnosticFilterNodeTag>),
     /// The overrides of the sizes of an entry point's workgroup.
     WorkgroupSizes([Option<Handle<ExpressionTag>>; 3]),
+    /// The stage of an entry point.
+    Stage(EntryStage),
+    /// The sizes of an entry point's workgroup.
+    WorkgroupSize([u32; 3]),
     /// The variable that an entry point hands to its mesh shaders.
     TaskPayload(Handle<GlobalVariableTag>),
     /// The output of an entry point that is a mesh shader.

@@ -3,7 +3,7 @@ use Rattle.std.proofs.Common.{◌≡◌, ◌≢◌, ◌-◌, ◌<◌, ◌≤◌,
 use Rattle.std.proofs.lemmas.Bool.{le-ltb, lt-ltb, ne_eqb}
 use Rattle.std.specs.Prelude.{option_map, ⊤}
 use Rattle.naga_words.specs.Expressions.{early_forms, expression_of, late_forms}
-use Rattle.naga_words.specs.Items.{item_of, part_of, plain_item_of, named_item_of, named_part_of, plain_part_of}
+use Rattle.naga_words.specs.Items.{entry_stage_of, function_result_of, item_of, mesh_output_of, named_item_of, named_part_of, part_of, plain_item_of, plain_part_of, workgroup_size_of, workgroup_sizes_of}
 use Rattle.naga_words.specs.Reading.{read_by}
 use Rattle.naga_words.specs.Statements.{mark_of, block_mark_of, call_of, fixed_statements, is_of_statement, statement_of}
 use Rattle.std.proofs.lemmas.Option.{option_and_then_some, same_Some}
@@ -39,14 +39,14 @@ module _ (o : ℕ) (ws : List ℕ) where
   pub plain_item : o < 16 → item_of o ws ≡ plain_item_of o ws
   plain_item h = rw (lt-ltb o 16 h) refl
 
-  pub part_item : 37 ≤ o → o < 64 → item_of o ws ≡ option_map item.Part (part_of o ws)
-  part_item h k = rw (le-ltb o 16 (omega (arith, h)), le-ltb o 32 (omega (arith, h)), le-ltb o 36 (omega (arith, h)), ne_eqb o 36 (λ e. omega (arith, e, h)), lt-ltb o 64 k) refl
+  pub part_item : 37 ≤ o → o < 64 → o ≢ 50 → item_of o ws ≡ option_map item.Part (part_of o ws)
+  part_item h k n = rw (le-ltb o 16 (omega (arith, h)), le-ltb o 32 (omega (arith, h)), le-ltb o 36 (omega (arith, h)), ne_eqb o 36 (λ e. omega (arith, e, h)), ne_eqb o 50 n, lt-ltb o 64 k) refl
 
   pub expression_item : 64 ≤ o → o < 128 → item_of o ws ≡ option_map item.Expression (expression_of (o - 64) ws)
-  expression_item h k = rw (le-ltb o 16 (omega (arith, h)), le-ltb o 32 (omega (arith, h)), le-ltb o 36 (omega (arith, h)), ne_eqb o 36 (λ e. omega (arith, e, h)), le-ltb o 64 h, lt-ltb o 128 k) refl
+  expression_item h k = rw (le-ltb o 16 (omega (arith, h)), le-ltb o 32 (omega (arith, h)), le-ltb o 36 (omega (arith, h)), ne_eqb o 36 (λ e. omega (arith, e, h)), ne_eqb o 50 (λ e. omega (arith, e, h)), le-ltb o 64 h, lt-ltb o 128 k) refl
 
   pub later_item : 128 ≤ o → item_of o ws ≡ option_map item.Part (part_of o ws)
-  later_item h = rw (le-ltb o 16 (omega (arith, h)), le-ltb o 32 (omega (arith, h)), le-ltb o 36 (omega (arith, h)), ne_eqb o 36 (λ e. omega (arith, e, h)), le-ltb o 64 (omega (arith, h)), le-ltb o 128 h) refl
+  later_item h = rw (le-ltb o 16 (omega (arith, h)), le-ltb o 32 (omega (arith, h)), le-ltb o 36 (omega (arith, h)), ne_eqb o 36 (λ e. omega (arith, e, h)), ne_eqb o 50 (λ e. omega (arith, e, h)), le-ltb o 64 (omega (arith, h)), le-ltb o 128 h) refl
 
 -- which items opcodes have
 pub ruleset opcodes_of_items = (plain_item, part_item, expression_item, later_item)
@@ -100,7 +100,15 @@ named_part_plain : (o : ℕ) (name : Option (List ℕ)) (ws : List ℕ) (p : Par
 named_part_plain o name ws p h = search rules
 
 plain_part_plain : (o : ℕ) (ws : List ℕ) (p : Part) → plain_part_of o ws ≡ Some p → PartSaysNoBlocks p
-plain_part_plain o ws p h = search rules
+plain_part_plain o ws p h =
+    let P = PartSaysNoBlocks in
+    chosen (o == code.OP_RESULT) _ _ p h (λ h. made P part.Result (function_result_of ws) p h (λ _ _. tt)) (λ h.
+    chosen (o == code.OP_FUNCTION_FILTER_LEAF) _ _ p h (λ h. made P part.FilterLeaf (only_handle_of ws) p h (λ _ _. tt)) (λ h.
+    chosen (o == code.OP_WORKGROUP_SIZES) _ _ p h (λ h. made P part.WorkgroupSizes (workgroup_sizes_of ws) p h (λ _ _. tt)) (λ h.
+    chosen (o == code.OP_TASK_PAYLOAD) _ _ p h (λ h. made P part.TaskPayload (only_handle_of ws) p h (λ _ _. tt)) (λ h.
+    chosen (o == code.OP_MESH_OUTPUT) _ _ p h (λ h. made P part.MeshOutput (mesh_output_of ws) p h (λ _ _. tt)) (λ h.
+    chosen (o == code.OP_STAGE) _ _ p h (λ h. made P part.Stage (entry_stage_of ws) p h (λ _ _. tt)) (λ h.
+    chosen (o == code.OP_WORKGROUP_SIZE) _ _ p h (λ h. made P part.WorkgroupSize (workgroup_size_of ws) p h (λ _ _. tt)) (λ h. cc)))))))
 
 part_plain : (o : ℕ) (ws : List ℕ) (p : Part) → part_of o ws ≡ Some p → PartSaysNoBlocks p
 part_plain o ws p h =
@@ -125,5 +133,6 @@ item_plain o ws x h =
     chosen (nat_lt o code.OP_CONSTANT) _ _ x h (λ h. made P item.Type_ (type_of o ws) x h (λ _ _. tt)) (λ h.
     chosen (nat_lt o code.OP_ENTRY_POINT) _ _ x h (λ h. option_and_then_some _ (name_of ws) x h λ name _. named_item_plain o name.0 name.1 x) (λ h.
     chosen (o == code.OP_ENTRY_POINT) _ _ x h (λ h. option_and_then_some _ (text_of ws) x h λ text _ h. made P (λ _. item.EntryPoint text.0) (nothing_of text.1) x h (λ _ _. tt)) (λ h.
+    chosen (o == code.OP_RESOURCE) _ _ x h (λ h. option_and_then_some _ (name_of ws) x h λ name _. named_item_plain o name.0 name.1 x) (λ h.
     chosen (nat_lt o code.OP_GLOBAL_EXPRESSION) _ _ x h is_part (λ h.
-    chosen (nat_lt o code.OP_EXPRESSION) _ _ x h (λ h. made P item.Expression (expression_of (o - code.OP_GLOBAL_EXPRESSION) ws) x h (λ _ _. tt)) is_part)))))
+    chosen (nat_lt o code.OP_EXPRESSION) _ _ x h (λ h. made P item.Expression (expression_of (o - code.OP_GLOBAL_EXPRESSION) ws) x h (λ _ _. tt)) is_part))))))

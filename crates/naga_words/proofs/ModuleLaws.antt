@@ -1,20 +1,23 @@
 -- The items of a module say it, and its words are these items: words say a module, and one at most.
-use Rattle.std.proofs.Common.{◌≡◌, ◌∙◌, ℕ, ◌≤◌, List, [], ◌∷◌, ◌++◌, Option, None, Some, ap, append_assoc, append-nil, arith, length, map, refl, rules, subst, sym, ◌+◌, ◌*◌, ◌/◌, ◌%◌, ◌<◌, drop, false, length-append, take}
+use Rattle.std.proofs.Common.{◌≡◌, ◌∙◌, ℕ, zero, ◌≤◌, List, [], ◌∷◌, ◌++◌, Option, None, Some, ap, append_assoc, append-nil, arith, length, map, refl, rules, subst, sym, ◌+◌, ◌*◌, ◌/◌, ◌%◌, ◌<◌, drop, false, length-append, take}
 use Rattle.std.proofs.lemmas.List.{length-map}
 use Rattle.std.specs.List.{AllByRecursion, AllZip, flat_map}
 use Rattle.std.specs.Prelude.{false, option_to_list, unwrap_or}
 use Rattle.naga_arena.specs.Numbers.{largest_u32}
+use Rattle.naga_ir.specs.declared.ir.EarlyDepthTest.{EarlyDepthTest}
 use Rattle.naga_ir.specs.declared.ir.EntryPoint.{EntryPoint}
+use Rattle.naga_ir.specs.declared.ir.ShaderStage.{ShaderStage}
+use Rattle.naga_draft.specs.declared.item.EntryStage.{EntryStage}
 use Rattle.naga_ir.specs.declared.ir.Function.{Function}
 use Rattle.naga_ir.specs.declared.ir.MeshStageInfo.{MeshStageInfo}
 use Rattle.naga_ir.specs.declared.ir.Module.{Module}
 use Rattle.naga_draft.specs.Bodies.{IsBody, marks_of_block}
 use Rattle.naga_draft.specs.Items.{AllParts, AllSaid, Head, Sections, all_parts, all_said, begins, entry_point, entry_points_in, function, functions_in, neither, role, sections, with_role}
-use Rattle.naga_draft.specs.Modules.{AreConsistent, ArePartsConsistent, HasNoEntryParts, IsEntryPointOf, IsFunctionOf, Say, entry_point_of, first_of, function_of, module_of}
+use Rattle.naga_draft.specs.Modules.{AreConsistent, ArePartsConsistent, HasNoEntryParts, IsEntryPointOf, IsFunctionOf, Say, entry_point_of, first_of, function_of, module_of, no_stage, no_workgroup, stage_in}
 use Rattle.naga_draft.specs.declared.item.Item.{Item}
 use Rattle.naga_draft.specs.declared.item.Mark.{Mark}
 use Rattle.naga_draft.specs.declared.item.Part.{Part}
-use Rattle.naga_words.specs.ModuleWords.{CanBeSaid, HaveNoTexts, IsSayable, IsSayableEntryPoint, entry_parts_in, entry_point_items, function_items, items_in, module_alone, parts_in, AreSame, IsSameEntryPoint, IsSameFunction, words_of}
+use Rattle.naga_words.specs.ModuleWords.{CanBeSaid, HaveNoTexts, IsSayable, IsSayableEntryPoint, entry_parts_in, entry_point_items, function_items, items_in, module_alone, said_size, said_stage, parts_in, AreSame, IsSameEntryPoint, IsSameFunction, words_of}
 use Rattle.std.proofs.Math.Seq.{drop-append_seam, take-append_seam}
 use Rattle.std.proofs.lemmas.Option.{same_Some}
 use Rattle.naga_draft.specs.declared.draft.Contents.{Contents}
@@ -192,6 +195,8 @@ parts_of f = record {
   named_expressions = f.named_expressions;
   filter_leaves = option_to_list f.diagnostic_filter_leaf;
   workgroup_sizes = [];
+  stages = [];
+  workgroup_size = [];
   task_payloads = [];
   mesh_outputs = [];
   expressions = f.expressions;
@@ -220,26 +225,32 @@ function_said f =
 abbrev entry_parts_of : EntryPoint → AllParts
 entry_parts_of e = record (parts_of e.function) {
   workgroup_sizes = option_to_list e.workgroup_size_overrides;
+  stages = option_to_list (said_stage e.stage e.early_depth_test);
+  workgroup_size = option_to_list (said_size e.workgroup_size);
   task_payloads = option_to_list e.task_payload;
   mesh_outputs = option_to_list e.mesh_info;
 }
 
 entry_point_said : (e : EntryPoint) → all_parts (entry_parts_in e) ≡ entry_parts_of e
 entry_point_said e =
+    segment all_parts part.Stage (λ xs s. record s { stages = xs ++ s.stages }) (λ _. refl) (λ x _ _ _. ap (λ (s : AllParts). record s { stages = x ∷ s.stages })) (option_to_list (said_stage e.stage e.early_depth_test)) _ _ (
+    segment all_parts part.WorkgroupSize (λ xs s. record s { workgroup_size = xs ++ s.workgroup_size }) (λ _. refl) (λ x _ _ _. ap (λ (s : AllParts). record s { workgroup_size = x ∷ s.workgroup_size })) (option_to_list (said_size e.workgroup_size)) _ _ (
     segment all_parts part.WorkgroupSizes (λ xs s. record s { workgroup_sizes = xs ++ s.workgroup_sizes }) (λ _. refl) (λ x _ _ _. ap (λ (s : AllParts). record s { workgroup_sizes = x ∷ s.workgroup_sizes })) (option_to_list e.workgroup_size_overrides) _ _ (
     segment all_parts part.TaskPayload (λ xs s. record s { task_payloads = xs ++ s.task_payloads }) (λ _. refl) (λ x _ _ _. ap (λ (s : AllParts). record s { task_payloads = x ∷ s.task_payloads })) (option_to_list e.task_payload) _ _ (
     segment all_parts part.MeshOutput (λ xs s. record s { mesh_outputs = xs ++ s.mesh_outputs }) (λ _. refl) (λ x _ _ _. ap (λ (s : AllParts). record s { mesh_outputs = x ∷ s.mesh_outputs })) (option_to_list e.mesh_info) _ _ (
-    function_said e.function)))
+    function_said e.function)))))
     ∙ (λ j. record (entry_parts_of e) {
+      stages = append-nil (option_to_list (said_stage e.stage e.early_depth_test)) j;
+      workgroup_size = append-nil (option_to_list (said_size e.workgroup_size)) j;
       workgroup_sizes = append-nil (option_to_list e.workgroup_size_overrides) j;
       task_payloads = append-nil (option_to_list e.task_payload) j;
       mesh_outputs = append-nil (option_to_list e.mesh_info) j;
     })
 
 -- parts that say once what can be said once
-listed_once : (f : Function) (sizes : Option (List (Option ℕ))) (payload : Option ℕ) (mesh : Option MeshStageInfo) → IsSayable f
-    → ArePartsConsistent (record (parts_of f) { workgroup_sizes = option_to_list sizes; task_payloads = option_to_list payload; mesh_outputs = option_to_list mesh })
-listed_once f sizes payload mesh h = search (rules, few_listed)
+listed_once : (f : Function) (stage : Option EntryStage) (size : Option (List ℕ)) (sizes : Option (List (Option ℕ))) (payload : Option ℕ) (mesh : Option MeshStageInfo) → IsSayable f
+    → ArePartsConsistent (record (parts_of f) { stages = option_to_list stage; workgroup_size = option_to_list size; workgroup_sizes = option_to_list sizes; task_payloads = option_to_list payload; mesh_outputs = option_to_list mesh })
+listed_once f stage size sizes payload mesh h = search (rules, few_listed)
 
 -- a function is what its parts say
 same_function : (f : Function) → f ≡ function_of f.name (parts_of f) f.body
@@ -247,18 +258,33 @@ same_function f = λ j. record f { result = sym (first_listed f.result) j; diagn
 
 function_is : (f : Function) → IsSayable f → IsFunctionOf (f.name, parts_in f) f
 function_is f h = let said = sym (function_said f) in record {
-  consistent = subst ArePartsConsistent said (listed_once f None None None h);
-  no_entry_parts = subst HasNoEntryParts said (record { workgroup_sizes = refl; task_payloads = refl; mesh_outputs = refl });
+  consistent = subst ArePartsConsistent said (listed_once f None None None None None h);
+  no_entry_parts = subst HasNoEntryParts said (record { workgroup_sizes = refl; stages = refl; workgroup_size = refl; task_payloads = refl; mesh_outputs = refl });
   body = subst (λ (s : AllParts). IsBody s.marks f.body) said (record { said = refl; shallow = h.shallow });
   function_is = same_function f ∙ ap (λ (s : AllParts). function_of f.name s f.body) said;
 }
 
+-- what is said of a stage is the stage, and what is said of sizes the sizes
+stage_said : (stage : Option ShaderStage) (early_depth_test : Option EarlyDepthTest) → unwrap_or (said_stage stage early_depth_test) no_stage ≡ record { stage = stage; early_depth_test = early_depth_test }
+stage_said None None = refl
+stage_said _ _ = refl
+
+stage_listed : (e : EntryPoint) → record { stage = e.stage; early_depth_test = e.early_depth_test } ≡ stage_in (entry_parts_of e)
+stage_listed e = sym (stage_said e.stage e.early_depth_test) ∙ ap (λ s. unwrap_or s no_stage) (sym (first_listed (said_stage e.stage e.early_depth_test)))
+
+size_said : (sizes : List ℕ) → unwrap_or (said_size sizes) no_workgroup ≡ sizes
+size_said (zero ∷ zero ∷ zero ∷ []) = refl
+size_said _ = refl
+
 -- so is an entry point
 entry_point_is : (e : EntryPoint) → IsSayableEntryPoint e → IsEntryPointOf (e.name, entry_parts_in e) e
 entry_point_is e h = let said = sym (entry_point_said e) in record {
-  consistent = subst ArePartsConsistent said (listed_once e.function e.workgroup_size_overrides e.task_payload e.mesh_info h.sayable);
+  consistent = subst ArePartsConsistent said (listed_once e.function (said_stage e.stage e.early_depth_test) (said_size e.workgroup_size) e.workgroup_size_overrides e.task_payload e.mesh_info h.sayable);
   body = subst (λ (s : AllParts). IsBody s.marks e.function.body) said (record { said = refl; shallow = h.sayable.shallow });
   entry_point_is = (λ j. record e {
+    stage = ap (λ (s : EntryStage). s.stage) (stage_listed e) j;
+    early_depth_test = ap (λ (s : EntryStage). s.early_depth_test) (stage_listed e) j;
+    workgroup_size = (sym (size_said e.workgroup_size) ∙ ap (λ s. unwrap_or s no_workgroup) (sym (first_listed (said_size e.workgroup_size)))) j;
     workgroup_size_overrides = sym (first_listed e.workgroup_size_overrides) j;
     function = (same_function e.function ∙ ap (λ n. function_of n (parts_of e.function) e.function.body) h.nameless) j;
     task_payload = sym (first_listed e.task_payload) j;

@@ -1,8 +1,32 @@
 -- What is read of written items is what was written.
-use Rattle.std.proofs.Common.{◌≡◌, ◌∙◌, ◌==◌, ◌%◌, ◌/◌, ◌^◌, ◌≤◌, ◌≢◌, ℕ, Bool, true, List, [], ◌∷◌, Option, None, Some, ap, arith, cond, map, refl, rules, slice_get, sym, ◌+◌, ◌<◌, zero, suc, ◌++◌, drop, get_or, length, length-append, take, ◌-◌, lit<, lit≤}
+use Rattle.std.proofs.Common.{◌≡◌, ◌∙◌, ◌==◌, ◌*◌, ◌%◌, ◌/◌, ◌^◌, ◌≤◌, ◌≢◌, ℕ, Bool, true, List, [], ◌∷◌, Option, None, Some, ap, arith, cond, map, refl, rules, slice_get, sym, ◌+◌, ◌<◌, zero, suc, ◌++◌, drop, get_or, length, length-append, take, ◌-◌, lit<, lit≤, false}
 use Rattle.std.proofs.lemmas.Bool.{le-leb, ne_eqb, le-ltb, lt-ltb}
 use Rattle.std.specs.List.{position_or_len, AllByRecursion, list_all}
 use Rattle.naga_arena.specs.Numbers.{largest_u8}
+use Rattle.naga_ir.specs.BuiltIns.{built_ins, number as built_in_number}
+use Rattle.naga_ir.specs.declared.built_in.BuiltIn.{BuiltIn as BuiltInType}
+use Rattle.naga_ir.specs.declared.ir.GlobalVariable.{GlobalVariable}
+use Rattle.naga_ir.specs.declared.ir.MemoryDecorations.{MemoryDecorations}
+use Rattle.naga_ir.specs.declared.ir.MeshOutputTopology.{MeshOutputTopology}
+use Rattle.naga_ir.specs.declared.ir.MeshOutputTopology.TheVariants as topology
+use Rattle.naga_ir.specs.declared.ir.ResourceBinding.{ResourceBinding}
+use Rattle.naga_ir.specs.declared.statement.Barrier.{Barrier}
+use Rattle.naga_ir.specs.declared.statement.CollectiveOperation.TheVariants as collective
+use Rattle.naga_ir.specs.declared.statement.SwitchValue.{SwitchValue}
+use Rattle.naga_ir.specs.declared.statement.SwitchValue.TheVariants as value
+use Rattle.naga_ir.specs.declared.storage_format.StorageFormat.TheVariants as format
+use Rattle.naga_ir.specs.declared.types.Interpolation.{Interpolation}
+use Rattle.naga_ir.specs.declared.types.Sampling.{Sampling}
+use Rattle.naga_draft.specs.declared.item.CaseHead.{CaseHead}
+use Rattle.naga_ir.specs.contracts.ir.EarlyDepthTestPartialEq.TheImpl as of_early
+use Rattle.naga_ir.specs.contracts.ir.MemoryDecorationsPartialEq.TheImpl as of_decorations
+use Rattle.naga_ir.specs.contracts.ir.MeshOutputTopologyPartialEq.TheImpl as of_topology
+use Rattle.naga_ir.specs.contracts.ir.ShaderStagePartialEq.TheImpl as of_stage
+use Rattle.naga_ir.specs.contracts.statement.BarrierPartialEq.TheImpl as of_barrier
+use Rattle.naga_ir.specs.contracts.statement.CollectiveOperationPartialEq.TheImpl as of_collective
+use Rattle.naga_ir.specs.contracts.storage_format.StorageFormatPartialEq.TheImpl as of_format
+use Rattle.naga_ir.specs.contracts.types.InterpolationPartialEq.TheImpl as of_interpolation
+use Rattle.naga_ir.specs.contracts.types.SamplingPartialEq.TheImpl as of_sampling
 use Rattle.naga_ir.specs.Sizes.{components as component_count, cooperative_components}
 use Rattle.naga_ir.specs.declared.expression.ImageQuery.{ImageQuery}
 use Rattle.naga_ir.specs.declared.expression.Literal.{Literal}
@@ -18,13 +42,13 @@ use Rattle.naga_ir.specs.declared.types.Binding.TheVariants.{BuiltIn, Location}
 use Rattle.naga_ir.specs.declared.types.CooperativeSize.{CooperativeSize}
 use Rattle.naga_ir.specs.declared.types.ImageClass.{ImageClass}
 use Rattle.naga_ir.specs.declared.types.VectorSize.{VectorSize}
-use Rattle.naga_words.specs.Items.{optional_id_of, item_of}
+use Rattle.naga_words.specs.Items.{optional_id_of, item_of, mesh_output_of}
 use Rattle.naga_words.specs.Numbers.{largest_u16, wide}
-use Rattle.naga_words.specs.Operands.{array_size_of, binding_of, class_of, converted_width_of, cooperative_size_of, handle_of, level_of, literal_of, none, optional_component_of, pointed_size_of, query_of, size_of, space_of, width_of}
+use Rattle.naga_words.specs.Operands.{array_size_of, binding_of, class_of, converted_width_of, cooperative_size_of, handle_of, level_of, literal_of, none, optional_component_of, pointed_size_of, query_of, size_of, space_of, width_of, resource_binding_of, source_of}
 use Rattle.naga_words.specs.Reading.{read_each, read_all, reads_triple}
-use Rattle.naga_words.specs.Statements.{atomic_function_of, gather_mode_of, step_of, mark_of}
-use Rattle.naga_words.specs.Tables.{accesses, binary_operators, bools, components, dimensions, kinds, math_functions, relational_functions, roles, subgroup_operations, unary_operators}
-use Rattle.naga_words.specs.Writing.{Can, Operands, array_size_operands, atomic_operands, binding_operands, class_operands, component, gather_operands, index, level_operands, literal_operands, number, optional, pointed_size, query_operands, space_operands, step_operands, up_to, words, member_operands, members_operands, name_operands, packed, text_operands, Written, written_comment, written_expression, written_inner, written_item, written_mark, written_part, written_statement}
+use Rattle.naga_words.specs.Statements.{atomic_function_of, gather_mode_of, step_of, mark_of, barrier_of, case_of}
+use Rattle.naga_words.specs.Tables.{accesses, binary_operators, bools, components, dimensions, kinds, math_functions, relational_functions, roles, subgroup_operations, unary_operators, barriers, collective_operations, early_depth_tests, interpolations, memory_decorations, samplings, stages, storage_formats, topologies}
+use Rattle.naga_words.specs.Writing.{Can, Operands, array_size_operands, atomic_operands, binding_operands, class_operands, component, gather_operands, index, level_operands, literal_operands, number, optional, pointed_size, query_operands, space_operands, step_operands, up_to, words, member_operands, members_operands, name_operands, packed, text_operands, Written, written_comment, written_expression, written_inner, written_item, written_mark, written_part, written_statement, barrier_operands, bool, is_bound, location_form, mesh_operands, place, place_or_none, resource_operands, value_operands, written_variable}
 use Rattle.naga_words.proofs.Counts.{count_again}
 use Rattle.std.proofs.Math.Seq.{drop-append_seam, take-append_seam}
 use Rattle.std.proofs.lemmas.Nat.{le_bytes_4}
@@ -110,6 +134,39 @@ binary_read a = search rules
 pub relational_read : AreAtPlaces of_relational.ghosts.eq relational_functions
 relational_read a = search rules
 
+pub format_read : AreAtPlaces of_format.ghosts.eq storage_formats
+format_read format.R8Unorm = refl
+format_read _ = refl
+
+pub decorations_read : AreAtPlaces of_decorations.ghosts.eq memory_decorations
+decorations_read a = search rules
+
+pub topology_read : AreAtPlaces of_topology.ghosts.eq topologies
+topology_read a = search rules
+
+pub collective_read : AreAtPlaces of_collective.ghosts.eq collective_operations
+collective_read a = search rules
+
+-- each value, or none, is at its place in its table
+abbrev AreAtPlacesOrNone : {A : Type 0} → (A → A → Bool) → List (Option A) → Type 0
+AreAtPlacesOrNone {A} eq table = (a : Option A) → slice_get table (place_or_none eq table a) ≡ Some a
+
+pub interpolation_read : AreAtPlacesOrNone of_interpolation.ghosts.eq interpolations
+interpolation_read a = search rules
+
+pub sampling_read : AreAtPlacesOrNone of_sampling.ghosts.eq samplings
+sampling_read a = search rules
+
+pub stage_read : AreAtPlacesOrNone of_stage.ghosts.eq stages
+stage_read a = search rules
+
+pub early_read : AreAtPlacesOrNone of_early.ghosts.eq early_depth_tests
+early_read a = search rules
+
+-- the number of a built-in value is its place
+pub built_in_read : (a : BuiltInType) → slice_get built_ins (built_in_number a) ≡ Some a
+built_in_read a = search rules
+
 pub math_read : AreAtPlaces of_math.ghosts.eq math_functions
 math_read math.Abs = refl
 math_read _ = refl
@@ -167,15 +224,40 @@ pub array_size_read : (s : ArraySize) (more : Operands) → Can (array_size_oper
 array_size_read (sized.Constant n) more h = (_, _, refl, rw (count_again n) refl, h.1.1)
 array_size_read _ more h = (_, _, refl, search (rules, index_read), h.1.1)
 
+-- the four bytes of a word
+bytes_read : (form i s p : ℕ) → form < 256 → i < 256 → s < 256 → let w = form + 256 * i + 65536 * s + 16777216 * p in (w % 256 ≡ form) × (w / 256 % 256 ≡ i) × (w / 65536 % 256 ≡ s) × (w / 16777216 ≡ p)
+bytes_read form i s p f g h = (omega (arith, f, g, h), omega (arith, f, g, h), omega (arith, f, g, h), omega (arith, f, g, h))
+
+-- the place of a value, or none, in a short table
+interpolation_place : (a : Option Interpolation) → place_or_none of_interpolation.ghosts.eq interpolations a < 256
+interpolation_place a = search rules
+
+sampling_place : (a : Option Sampling) → place_or_none of_sampling.ghosts.eq samplings a < 256
+sampling_place a = search rules
+
+-- a location is read
+location_read : (form location source : ℕ) (i : Option Interpolation) (s : Option Sampling) (b : Option ℕ) (p : Bool) → 2 ≤ form → form < 256 → source_of form source ≡ Some b
+    → binding_of (location_form form i s p).word location source ≡ Some (Some (Location location i s b p))
+location_read form location source i s b p low high from =
+    let w = (location_form form i s p).word in
+    let parts = bytes_read form (place_or_none of_interpolation.ghosts.eq interpolations i) (place_or_none of_sampling.ghosts.eq samplings s) (position_or_len (of_bool.ghosts.eq p) bools) high (interpolation_place i) (sampling_place s) in
+    let front : w % 256 ≡ form = parts.0 in
+    rw (ne_eqb w 0 (λ e. omega (arith, e, front, low)), ne_eqb w 1 (λ e. omega (arith, e, front, low)), parts.0, from, parts.1, interpolation_read i, parts.2, sampling_read s, parts.3, bool_read p) refl
+
 pub binding_read : (b : Option Binding) (more : Operands) → Can (binding_operands b more) → AreThree binding_of b (binding_operands b more) more
 binding_read None more h = (_, _, _, refl, refl, h.1.1.1)
-binding_read (Some (BuiltIn value)) more h = (_, _, _, refl, refl, h.1.1.1)
-binding_read (Some (Location location None)) more h = (_, _, _, refl, refl, h.1.1.1)
-binding_read (Some (Location location (Some blend_src))) more h = (_, _, _, refl, refl, h.1.1.1)
+binding_read (Some (BuiltIn value)) more h = (_, _, _, refl, rw (built_in_read value) refl, h.1.1.1)
+binding_read (Some (Location location i s None p)) more h = (_, _, _, refl, location_read 2 location 0 i s None p (omega arith) (omega arith) refl, h.1.1.1)
+binding_read (Some (Location location i s (Some blend_src) p)) more h = (_, _, _, refl, location_read 3 location blend_src i s (Some blend_src) p (omega arith) (omega arith) refl, h.1.1.1)
+
+pub resource_read : (b : Option ResourceBinding) (more : Operands) → Can (resource_operands b more) → AreThree resource_binding_of b (resource_operands b more) more
+resource_read None more h = (_, _, _, refl, refl, h.1.1.1)
+resource_read (Some b) more h = (_, _, _, refl, refl, h.1.1.1)
 
 pub class_read : (c : ImageClass) (more : Operands) → Can (class_operands c more) → AreThree class_of c (class_operands c more) more
 class_read (class.Sampled kind multi) more h = (_, _, _, refl, rw (kind_read kind, bool_read multi) refl, h.1.1.1)
-class_read _ more h = (_, _, _, refl, search (rules, bool_read, access_read), h.1.1.1)
+class_read (class.Storage f a) more h = (_, _, _, refl, rw (format_read f, access_read a) refl, h.1.1.1)
+class_read _ more h = (_, _, _, refl, search (rules, bool_read), h.1.1.1)
 
 pub level_read : (l : SampleLevel) (more : Operands) → Can (level_operands l more) → AreThree level_of l (level_operands l more) more
 level_read level.Auto more h = (_, _, _, refl, refl, h.1.1.1)
@@ -316,7 +398,41 @@ expression_read (expression.Swizzle size vector (x ∷ y ∷ z ∷ w ∷ [])) h 
 expression_read (expression.Swizzle size vector _) h = absurd h.0
 expression_read (expression.ImageSample image sampler gather coordinate array_index offset l depth_ref clamp) h = let g = level_read l _ h.1.1.1.1.1.1 in (lit≤ tt, rw (g.3, index_read image h.0, index_read sampler h.1.0, optional_component_read gather, index_read coordinate h.1.1.1.0, optional_index_read array_index h.1.1.1.1.0, optional_index_read offset h.1.1.1.1.1.0, g.4, optional_index_read depth_ref g.5.0, bool_read clamp) refl)
 expression_read (expression.ImageQuery image q) h = let g = query_read q _ h.1 in (lit≤ tt, rw (g.2, index_read image h.0, g.3) refl)
+expression_read (expression.CooperativeLoad None pointer stride) h = (lit≤ tt, rw (index_read pointer h.0, index_read stride h.1.0) refl)
+expression_read (expression.CooperativeLoad (Some shape) pointer stride) h = (lit≤ tt, rw (index_read pointer h.0, index_read stride h.1.0, cooperative_size_read shape.columns, cooperative_size_read shape.rows, role_read shape.role) refl)
 expression_read _ h = (lit≤ tt, search (each_read))
+
+-- the memory of a barrier is read
+barrier_read : (b : Barrier) → barrier_of (words (barrier_operands b)) ≡ Some b
+barrier_read b = go b.storage b.work_group b.sub_group b.texture
+  where
+    go : (s w g t : Bool) → let b : Barrier = record { storage = s; work_group = w; sub_group = g; texture = t } in barrier_of (words (barrier_operands b)) ≡ Some b
+    go false false false false = refl
+    go false false false true = refl
+    go false false true false = refl
+    go false false true true = refl
+    go false true false false = refl
+    go false true false true = refl
+    go false true true false = refl
+    go false true true true = refl
+    go true false false false = refl
+    go true false false true = refl
+    go true false true false = refl
+    go true false true true = refl
+    go true true false false = refl
+    go true true false true = refl
+    go true true true false = refl
+    go true true true true = refl
+
+-- when a case is executed is read
+case_read : (head : CaseHead) → Can (bool head.fall_through ∷ value_operands head.value) → case_of (words (bool head.fall_through ∷ value_operands head.value)) ≡ Some head
+case_read head h = go head.value h refl
+  where
+    go : (v : Option SwitchValue) → Can (bool head.fall_through ∷ value_operands v) → head.value ≡ v → case_of (words (bool head.fall_through ∷ value_operands v)) ≡ Some head
+    go None h e = rw (bool_read head.fall_through) (ap (λ v. Some (record head { value = v })) (sym e))
+    go (Some value.Default) h e = rw (bool_read head.fall_through) (ap (λ v. Some (record head { value = v })) (sym e))
+    go (Some (value.I32 z)) h e = rw (bool_read head.fall_through, to_z-of_z w32 z h.1.1.0) (ap (λ v. Some (record head { value = v })) (sym e))
+    go (Some (value.U32 n)) h e = rw (bool_read head.fall_through) (ap (λ v. Some (record head { value = v })) (sym e))
 
 -- the opcode and the operands of an item of a body, of which it is read
 abbrev IsMarkRead : Mark → Written → Type 0
@@ -333,16 +449,30 @@ statement_read (statement.ImageAtomic image coordinate array_index fun value) h 
 statement_read (statement.RayQuery query fun) h = let g = step_read fun _ h.1 in (lit≤ tt, lit< tt, rw (g.3, index_read query h.0, g.4) refl)
 statement_read (statement.RayPipelineFunction (TraceRay structure descriptor payload)) h = (lit≤ tt, lit< tt, rw (index_read structure h.0, index_read descriptor h.1.0, index_read payload h.1.1.0) refl)
 statement_read (statement.SubgroupGather mode argument result) h = let g = gather_read mode _ h in (lit≤ tt, lit< tt, rw (g.2, g.3, index_read argument g.4.0, index_read result g.4.1.0) refl)
+statement_read (statement.ControlBarrier barrier) h = (lit≤ tt, lit< tt, rw (barrier_read barrier) refl)
+statement_read (statement.MemoryBarrier barrier) h = (lit≤ tt, lit< tt, rw (barrier_read barrier) refl)
+statement_read (statement.SubgroupCollectiveOperation op collective.Reduce argument result) h = (lit≤ tt, lit< tt, rw (subgroup_read op, index_read argument h.1.0, index_read result h.1.1.0) refl)
+statement_read (statement.SubgroupCollectiveOperation op by argument result) h = (lit≤ tt, lit< tt, rw (subgroup_read op, index_read argument h.1.0, index_read result h.1.1.0) refl)
 statement_read _ h = (lit≤ tt, lit< tt, search (each_read))
 
 -- an item of a body is read
 mark_read : (m : Mark) → Can (written_mark m).1 → IsMarkRead m (written_mark m)
 mark_read (mark.Statement s) h = statement_read s h
+mark_read (mark.Case head) h = (lit≤ tt, lit< tt, rw (case_read head h) refl)
 mark_read _ h = (lit≤ tt, lit< tt, search (each_read))
 
 -- the opcode and the operands of an item, of which it is read
 abbrev IsRead : Item → Written → Type 0
 IsRead x written = (written.0 < 256) × (item_of written.0 (words written.1) ≡ Some x)
+
+-- the output of a mesh shader is read, whatever it is of
+mesh_read : (t : MeshOutputTopology) (x y o v p : ℕ) (n m : Option ℕ) → Can (index o ∷ index v ∷ index p ∷ optional index n ∷ optional index m ∷ mesh_operands t x y)
+    → mesh_output_of (words (index o ∷ index v ∷ index p ∷ optional index n ∷ optional index m ∷ mesh_operands t x y)) ≡ Some (record { topology = t; max_vertices = x; max_primitives = y; output_variable = o; vertex_output_type = v; primitive_output_type = p; max_vertices_override = n; max_primitives_override = m })
+mesh_read topology.Points zero zero o v p n m h = rw (index_read o h.0, index_read v h.1.0, index_read p h.1.1.0, optional_index_read n h.1.1.1.0, optional_index_read m h.1.1.1.1.0) refl
+mesh_read topology.Points zero (suc y) o v p n m h = rw (index_read o h.0, index_read v h.1.0, index_read p h.1.1.0, optional_index_read n h.1.1.1.0, optional_index_read m h.1.1.1.1.0) refl
+mesh_read topology.Points (suc x) y o v p n m h = rw (index_read o h.0, index_read v h.1.0, index_read p h.1.1.0, optional_index_read n h.1.1.1.0, optional_index_read m h.1.1.1.1.0) refl
+mesh_read topology.Lines x y o v p n m h = rw (index_read o h.0, index_read v h.1.0, index_read p h.1.1.0, optional_index_read n h.1.1.1.0, optional_index_read m h.1.1.1.1.0) refl
+mesh_read topology.Triangles x y o v p n m h = rw (index_read o h.0, index_read v h.1.0, index_read p h.1.1.0, optional_index_read n h.1.1.1.0, optional_index_read m h.1.1.1.1.0) refl
 
 -- a part is read
 part_read : (p : Part) → Can (written_part p).1 → IsRead (item.Part p) (written_part p)
@@ -364,12 +494,35 @@ part_read (part.Mark m) h =
     let high : 192 ≤ (written_mark m).0 = e.0 in
     let ws = words (written_mark m).1 in
     (e.1, later_item (written_mark m).0 ws (omega (arith, high)) ∙ ap (option_map item.Part) (mark_part (written_mark m).0 ws high ∙ ap (option_map part.Mark) e.2))
+part_read (part.MeshOutput m) h = (lit< tt, rw (mesh_read m.topology m.max_vertices m.max_primitives m.output_variable m.vertex_output_type m.primitive_output_type m.max_vertices_override m.max_primitives_override h) refl)
+part_read (part.Stage s) h = (lit< tt, rw (stage_read s.stage, early_read s.early_depth_test) refl)
+part_read (part.WorkgroupSize (x ∷ y ∷ z ∷ [])) h = (lit< tt, refl)
+part_read (part.WorkgroupSize _) h = absurd h.0
 part_read _ h = (lit< tt, search (each_read))
 
 -- a comment is read
 comment_read : (c : Commented) → Can (written_comment c).1 → IsRead (item.Comment c) (written_comment c)
 comment_read (on.Type_ ty) h = (lit< tt, rw (index_read ty h.0) refl)
 comment_read _ h = (lit< tt, search (each_read))
+
+-- a global variable that a pipeline binds, or that has memory decorations, is read
+bound_read : (v : GlobalVariable) → Can (written_variable v true).1 → IsRead (item.GlobalVariable v) (written_variable v true)
+bound_read v h =
+    let n = name_read v.name _ h in
+    let g = space_read v.space _ n.1 in
+    let r = resource_read v.binding _ g.4.1.1 in
+    (lit< tt, rw (n.0, g.2, r.3, g.3, index_read v.ty g.4.0, r.4, decorations_read v.memory_decorations, optional_index_read v.init g.4.1.0) refl)
+
+-- a global variable is read, by what it has of these
+variable_read : (v : GlobalVariable) (b : Option ResourceBinding) (c d : Bool) → v.binding ≡ b → v.memory_decorations ≡ record { coherent = c; is_volatile = d }
+    → Can (written_variable v (is_bound b c d)).1 → IsRead (item.GlobalVariable v) (written_variable v (is_bound b c d))
+variable_read v None false false e f h =
+    let n = name_read v.name _ h in
+    let g = space_read v.space _ n.1 in
+    (lit< tt, rw (n.0, g.2, g.3, index_read v.ty g.4.0, optional_index_read v.init g.4.1.0) (λ j. Some (item.GlobalVariable (record v { binding = sym e j; memory_decorations = sym f j }))))
+variable_read v None false true e f h = bound_read v h
+variable_read v None true d e f h = bound_read v h
+variable_read v (Some b) c d e f h = bound_read v h
 
 -- an item is read
 pub item_read : (x : Item) → Can (written_item x).1 → IsRead x (written_item x)
@@ -385,7 +538,7 @@ item_read (item.Type_ ty) h =
     (omega (arith, high), rw (le-ltb o 16 low, lt-ltb o 32 high, n.0, i.2) refl)
 item_read (item.Constant c) h = let n = name_read c.name _ h in (lit< tt, rw (n.0, index_read c.ty n.1.0, index_read c.init n.1.1.0) refl)
 item_read (item.Override o) h = let n = name_read o.name _ h in (lit< tt, rw (n.0, index_read o.ty n.1.0, optional_index_read o.init n.1.1.0, optional_id_read o.id n.1.1.1.0) refl)
-item_read (item.GlobalVariable v) h = let n = name_read v.name _ h in let g = space_read v.space _ n.1 in (lit< tt, rw (n.0, g.2, g.3, index_read v.ty g.4.0, optional_index_read v.init g.4.1.0) refl)
+item_read (item.GlobalVariable v) h = variable_read v v.binding v.memory_decorations.coherent v.memory_decorations.is_volatile refl refl h
 item_read (item.Expression x) h =
     let e = expression_read x h in
     let few : (written_expression x).0 ≤ 63 = e.0 in

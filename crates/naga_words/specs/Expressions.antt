@@ -5,7 +5,7 @@ use Rattle.naga_ir.specs.declared.expression.Expression.TheVariants as expressio
 use Rattle.naga_words.specs.Reading.{read_by, read_each, reads_five, reads_none, reads_one, reads_three, reads_triple, reads_two}
 use Rattle.naga_words.specs.declared.opcodes.TheConstants as code
 use Rattle.naga_words.specs.Tables.{binary_operators, bools, components, kinds, math_functions, relational_functions, unary_operators}
-use Rattle.naga_words.specs.Operands.{◌>>=◌, converted_width_of, handle_of, level_of, literal_of, optional_component_of, query_of, size_of}
+use Rattle.naga_words.specs.Operands.{◌>>=◌, converted_width_of, handle_of, level_of, literal_of, optional_component_of, query_of, shape_of, size_of}
 
 -- the reader of `Swizzle`
 abbrev pub swizzle_of : List ℕ → Option Expression
@@ -59,6 +59,19 @@ early_forms =
     (code.FORM_IMAGE_QUERY, image_query_of) ∷
     []
 
+-- the reader of `CooperativeLoad`, which may say the shape of the matrix
+abbrev pub cooperative_load_of : List ℕ → Option Expression
+cooperative_load_of (p ∷ s ∷ []) = do
+  pointer ← handle_of p
+  stride ← handle_of s
+  Some (expression.CooperativeLoad None pointer stride)
+cooperative_load_of (p ∷ s ∷ c ∷ r ∷ o ∷ []) = do
+  pointer ← handle_of p
+  stride ← handle_of s
+  shape ← shape_of c r o
+  Some (expression.CooperativeLoad (Some shape) pointer stride)
+cooperative_load_of _ = None
+
 -- the readers of the other forms
 abbrev pub late_forms : List (ℕ × (List ℕ → Option Expression))
 late_forms =
@@ -78,7 +91,7 @@ late_forms =
     (code.FORM_RAY_QUERY_VERTEX_POSITIONS, reads_two handle_of (slice_get bools) expression.RayQueryVertexPositions) ∷
     (code.FORM_SUBGROUP_BALLOT_RESULT, reads_none expression.SubgroupBallotResult) ∷
     (code.FORM_SUBGROUP_OPERATION_RESULT, reads_one handle_of expression.SubgroupOperationResult) ∷
-    (code.FORM_COOPERATIVE_LOAD, reads_two handle_of handle_of expression.CooperativeLoad) ∷
+    (code.FORM_COOPERATIVE_LOAD, cooperative_load_of) ∷
     (code.FORM_COOPERATIVE_MULTIPLY_ADD, reads_three handle_of handle_of handle_of expression.CooperativeMultiplyAdd) ∷
     []
 

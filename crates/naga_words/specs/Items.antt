@@ -1,5 +1,5 @@
 -- The items that words say: one reader for each, of its operands, or of those after its name or text if it has one.
-use Rattle.std.specs.Prelude.{◌==◌, ◌-◌, ℕ, List, [], ◌∷◌, Option, Some, None, if◌then◌else◌, nat_le, nat_lt, option_map}
+use Rattle.std.specs.Prelude.{◌==◌, ◌-◌, ℕ, List, [], ◌∷◌, Option, Some, None, if◌then◌else◌, nat_le, nat_lt, option_map, slice_get}
 use Rattle.naga_flags.specs.Bits.{all_capabilities, all_validation_flags}
 use Rattle.naga_flags.specs.declared.flags.Capabilities.{Capabilities}
 use Rattle.naga_flags.specs.declared.flags.ValidationFlags.{ValidationFlags}
@@ -9,17 +9,21 @@ use Rattle.naga_ir.specs.declared.ir.FunctionArgument.{FunctionArgument}
 use Rattle.naga_ir.specs.declared.ir.FunctionResult.{FunctionResult}
 use Rattle.naga_ir.specs.declared.ir.GlobalVariable.{GlobalVariable}
 use Rattle.naga_ir.specs.declared.ir.LocalVariable.{LocalVariable}
+use Rattle.naga_ir.specs.declared.ir.MeshOutputTopology.{MeshOutputTopology}
+use Rattle.naga_ir.specs.declared.ir.MeshOutputTopology.TheVariants.{Points}
 use Rattle.naga_ir.specs.declared.ir.MeshStageInfo.{MeshStageInfo}
 use Rattle.naga_ir.specs.declared.ir.Override.{Override}
 use Rattle.naga_draft.specs.declared.item.Commented.{Commented}
 use Rattle.naga_draft.specs.declared.item.Commented.TheVariants as on
+use Rattle.naga_draft.specs.declared.item.EntryStage.{EntryStage}
 use Rattle.naga_draft.specs.declared.item.Item.{Item}
 use Rattle.naga_draft.specs.declared.item.Item.TheVariants as item
 use Rattle.naga_draft.specs.declared.item.Part.{Part}
 use Rattle.naga_draft.specs.declared.item.Part.TheVariants as part
 use Rattle.naga_words.specs.Expressions.{expression_of}
 use Rattle.naga_words.specs.Numbers.{largest_u16, wide}
-use Rattle.naga_words.specs.Operands.{◌>>=◌, binding_of, handle_of, none, nothing_of, only_handle_of, only_of, space_of}
+use Rattle.naga_words.specs.Operands.{◌>>=◌, binding_of, handle_of, none, nothing_of, only_handle_of, only_of, resource_binding_of, space_of}
+use Rattle.naga_words.specs.Tables.{early_depth_tests, memory_decorations, stages, topologies, undecorated}
 use Rattle.naga_words.specs.Statements.{mark_of}
 use Rattle.naga_words.specs.Texts.{name_of, text_of}
 use Rattle.naga_words.specs.Types.{type_of}
@@ -113,8 +117,32 @@ abbrev pub global_variable_of : Option (List ℕ) → List ℕ → Option Global
 global_variable_of name (s ∷ a ∷ t ∷ x ∷ []) = do
   space ← space_of s a
   ty ← handle_of t
-  Some (record { name = name; space = space; ty = ty; init = handle_of x })
+  Some (record {
+    name = name;
+    space = space;
+    binding = None;
+    ty = ty;
+    init = handle_of x;
+    memory_decorations = undecorated;
+  })
 global_variable_of name _ = None
+
+-- a global variable of this name that a pipeline binds, or that has memory decorations
+abbrev pub resource_of : Option (List ℕ) → List ℕ → Option GlobalVariable
+resource_of name (s ∷ a ∷ t ∷ x ∷ z ∷ g ∷ b ∷ d ∷ []) = do
+  space ← space_of s a
+  ty ← handle_of t
+  binding ← resource_binding_of z g b
+  decorations ← slice_get memory_decorations d
+  Some (record {
+    name = name;
+    space = space;
+    binding = binding;
+    ty = ty;
+    init = handle_of x;
+    memory_decorations = decorations;
+  })
+resource_of name _ = None
 
 -- the item of opcode `o` that has a name and is no type
 abbrev pub named_item_of : ℕ → Option (List ℕ) → List ℕ → Option Item
@@ -123,6 +151,7 @@ named_item_of o name ws =
     else if o == code.OP_OVERRIDE then option_map item.Override (override_of name ws)
     else if o == code.OP_GLOBAL_VARIABLE then option_map item.GlobalVariable (global_variable_of name ws)
     else if o == code.OP_FUNCTION then option_map (λ _. item.Function name) (nothing_of ws)
+    else if o == code.OP_RESOURCE then option_map item.GlobalVariable (resource_of name ws)
     else None
 
 -- the beginning of an entry point of this name
@@ -168,13 +197,26 @@ abbrev pub workgroup_sizes_of : List ℕ → Option (List (Option ℕ))
 workgroup_sizes_of (x ∷ y ∷ z ∷ []) = Some (handle_of x ∷ handle_of y ∷ handle_of z ∷ [])
 workgroup_sizes_of _ = None
 
+-- what the primitives of a mesh shader are and how many vertices and primitives it has at most: points and 0, if nothing
+-- is said
+abbrev pub mesh_numbers_of : List ℕ → Option (MeshOutputTopology × ℕ × ℕ)
+mesh_numbers_of [] = Some (Points, 0, 0)
+mesh_numbers_of (t ∷ x ∷ y ∷ []) = do
+  topology ← slice_get topologies t
+  Some (topology, x, y)
+mesh_numbers_of _ = None
+
 -- the output of a mesh shader
 abbrev pub mesh_output_of : List ℕ → Option MeshStageInfo
-mesh_output_of (o ∷ v ∷ p ∷ n ∷ m ∷ []) = do
+mesh_output_of (o ∷ v ∷ p ∷ n ∷ m ∷ more) = do
+  numbers ← mesh_numbers_of more
   variable ← handle_of o
   vertex ← handle_of v
   primitive ← handle_of p
   Some (record {
+    topology = numbers.0;
+    max_vertices = numbers.1;
+    max_primitives = numbers.2;
     output_variable = variable;
     vertex_output_type = vertex;
     primitive_output_type = primitive;
@@ -182,6 +224,19 @@ mesh_output_of (o ∷ v ∷ p ∷ n ∷ m ∷ []) = do
     max_primitives_override = handle_of m;
   })
 mesh_output_of _ = None
+
+-- the stage of an entry point
+abbrev pub entry_stage_of : List ℕ → Option EntryStage
+entry_stage_of (s ∷ e ∷ []) = do
+  stage ← slice_get stages s
+  early_depth_test ← slice_get early_depth_tests e
+  Some (record { stage = stage; early_depth_test = early_depth_test })
+entry_stage_of _ = None
+
+-- the sizes of a workgroup
+abbrev pub workgroup_size_of : List ℕ → Option (List ℕ)
+workgroup_size_of (x ∷ y ∷ z ∷ []) = Some (x ∷ y ∷ z ∷ [])
+workgroup_size_of _ = None
 
 -- the part of opcode `o` that has neither a name nor a text and is no expression or mark
 abbrev pub plain_part_of : ℕ → List ℕ → Option Part
@@ -191,6 +246,8 @@ plain_part_of o ws =
     else if o == code.OP_WORKGROUP_SIZES then option_map part.WorkgroupSizes (workgroup_sizes_of ws)
     else if o == code.OP_TASK_PAYLOAD then option_map part.TaskPayload (only_handle_of ws)
     else if o == code.OP_MESH_OUTPUT then option_map part.MeshOutput (mesh_output_of ws)
+    else if o == code.OP_STAGE then option_map part.Stage (entry_stage_of ws)
+    else if o == code.OP_WORKGROUP_SIZE then option_map part.WorkgroupSize (workgroup_size_of ws)
     else None
 
 -- what an item of opcode `o` says of a function or entry point
@@ -209,6 +266,7 @@ item_of o ws =
     else if nat_lt o code.OP_CONSTANT then option_map item.Type_ (type_of o ws)
     else if nat_lt o code.OP_ENTRY_POINT then after_name (named_item_of o) ws
     else if o == code.OP_ENTRY_POINT then after_text entry_point_of ws
+    else if o == code.OP_RESOURCE then after_name (named_item_of o) ws
     else if nat_lt o code.OP_GLOBAL_EXPRESSION then option_map item.Part (part_of o ws)
     else if nat_lt o code.OP_EXPRESSION then
     option_map item.Expression (expression_of (o - code.OP_GLOBAL_EXPRESSION) ws)

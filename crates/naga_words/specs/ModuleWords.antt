@@ -1,15 +1,18 @@
 -- The words of modules.
 use Rattle.std.specs.List.{AllByRecursion, AllZip, flat_map}
-use Rattle.std.specs.Prelude.{◌≡◌, ℕ, ◌<◌, ◌≤◌, ◌^◌, All, false, List, [], ◌∷◌, ◌++◌, None, length, map, option_to_list}
+use Rattle.std.specs.Prelude.{◌≡◌, ℕ, ◌<◌, ◌≤◌, ◌^◌, All, false, List, [], ◌∷◌, ◌++◌, Option, None, Some, zero, length, map, option_to_list}
 use Rattle.naga_arena.specs.Numbers.{largest_u32}
 use Rattle.naga_ir.specs.Distinct.{AllDistinct}
 use Rattle.naga_ir.specs.declared.ir.DocComments.{DocComments}
+use Rattle.naga_ir.specs.declared.ir.EarlyDepthTest.{EarlyDepthTest}
 use Rattle.naga_ir.specs.declared.ir.EntryPoint.{EntryPoint}
 use Rattle.naga_ir.specs.declared.ir.Function.{Function}
 use Rattle.naga_ir.specs.declared.ir.Module.{Module}
+use Rattle.naga_ir.specs.declared.ir.ShaderStage.{ShaderStage}
 use Rattle.naga_draft.specs.Bodies.{depth, marks_of_block, most_open}
 use Rattle.naga_draft.specs.declared.draft.Contents.{Contents}
 use Rattle.naga_draft.specs.declared.item.Commented.TheVariants as on
+use Rattle.naga_draft.specs.declared.item.EntryStage.{EntryStage}
 use Rattle.naga_draft.specs.declared.item.Item.{Item}
 use Rattle.naga_draft.specs.declared.item.Item.TheVariants as item
 use Rattle.naga_draft.specs.declared.item.Part.{Part}
@@ -27,13 +30,25 @@ parts_in f =
     ++ (map part.Expression f.expressions
     ++ map part.Mark (marks_of_block f.body))))))
 
+-- the stage of an entry point and its test of depths, if it has one of them
+abbrev pub said_stage : Option ShaderStage → Option EarlyDepthTest → Option EntryStage
+said_stage None None = None
+said_stage stage early_depth_test = Some (record { stage = stage; early_depth_test = early_depth_test })
+
+-- the sizes of a workgroup, unless all three are 0
+abbrev pub said_size : List ℕ → Option (List ℕ)
+said_size (zero ∷ zero ∷ zero ∷ []) = None
+said_size sizes = Some sizes
+
 -- the parts of the entry point `e`
 abbrev pub entry_parts_in : EntryPoint → List Part
 entry_parts_in e =
-    map part.WorkgroupSizes (option_to_list e.workgroup_size_overrides)
+    map part.Stage (option_to_list (said_stage e.stage e.early_depth_test))
+    ++ (map part.WorkgroupSize (option_to_list (said_size e.workgroup_size))
+    ++ (map part.WorkgroupSizes (option_to_list e.workgroup_size_overrides)
     ++ (map part.TaskPayload (option_to_list e.task_payload)
     ++ (map part.MeshOutput (option_to_list e.mesh_info)
-    ++ parts_in e.function))
+    ++ parts_in e.function))))
 
 -- the items of the function `f`
 abbrev pub function_items : Function → List Item

@@ -1,9 +1,11 @@
 -- What the readers of one operand return, or of a few that belong together.
-use Rattle.std.specs.Prelude.{◌==◌, ℕ, zero, suc, List, [], ◌∷◌, Option, Some, None, if◌then◌else◌, nat_le, option_and_then, slice_get}
+use Rattle.std.specs.Prelude.{◌==◌, ◌/◌, ◌%◌, ℕ, zero, suc, List, [], ◌∷◌, Option, Some, None, if◌then◌else◌, nat_le, option_and_then, slice_get}
 use Rattle.std.specs.Int.{w16, w32, w64, cast_signed}
 use Rattle.std.proofs.Math.Nat.{zero-lt-suc}
 use Rattle.std.specs.declared.num.NonZeroU32.{NonZeroU32}
 use Rattle.naga_arena.specs.Numbers.{largest_u8, largest_u32}
+use Rattle.naga_ir.specs.BuiltIns.{built_ins}
+use Rattle.naga_ir.specs.declared.expression.CooperativeShape.{CooperativeShape}
 use Rattle.naga_ir.specs.declared.expression.ImageQuery.{ImageQuery}
 use Rattle.naga_ir.specs.declared.expression.ImageQuery.TheVariants.{Size, NumLevels, NumLayers, NumSamples}
 use Rattle.naga_ir.specs.declared.expression.Literal.{Literal}
@@ -11,6 +13,7 @@ use Rattle.naga_ir.specs.declared.expression.Literal.TheVariants as literal
 use Rattle.naga_ir.specs.declared.expression.SampleLevel.{SampleLevel}
 use Rattle.naga_ir.specs.declared.expression.SampleLevel.TheVariants.{Auto, Zero, Exact, Bias, Gradient}
 use Rattle.naga_ir.specs.declared.expression.SwizzleComponent.{SwizzleComponent}
+use Rattle.naga_ir.specs.declared.ir.ResourceBinding.{ResourceBinding}
 use Rattle.naga_ir.specs.declared.types.AddressSpace.{AddressSpace}
 use Rattle.naga_ir.specs.declared.types.AddressSpace.TheVariants as space
 use Rattle.naga_ir.specs.declared.types.ArraySize.{ArraySize}
@@ -25,7 +28,7 @@ use Rattle.naga_ir.specs.declared.types.Scalar.{Scalar}
 use Rattle.naga_ir.specs.declared.types.VectorSize.{VectorSize}
 use Rattle.naga_ir.specs.declared.types.VectorSize.TheVariants.{Bi, Tri, Quad}
 use Rattle.naga_words.specs.Numbers.{largest_u16, wide}
-use Rattle.naga_words.specs.Tables.{accesses, bools, components, kinds}
+use Rattle.naga_words.specs.Tables.{accesses, bools, components, interpolations, kinds, memory_decorations, roles, samplings, storage_formats}
 
 -- what the second reads of the value of the first, as `?` in code
 infixl 10 ◌>>=◌
@@ -89,6 +92,14 @@ pointed_size_of n = if n == 0 then Some None else size_of n >>= (λ size. Some (
 abbrev pub cooperative_size_of : ℕ → Option CooperativeSize
 cooperative_size_of n = if n == 8 then Some Eight else if n == 16 then Some Sixteen else None
 
+-- the shape of a cooperative matrix, of its columns, its rows and its role
+abbrev pub shape_of : ℕ → ℕ → ℕ → Option CooperativeShape
+shape_of c r o = do
+  columns ← cooperative_size_of c
+  rows ← cooperative_size_of r
+  role ← slice_get roles o
+  Some (record { columns = columns; rows = rows; role = role })
+
 -- the address space that has a number and no access
 abbrev pub plain_space_of : ℕ → Option AddressSpace
 plain_space_of w =
@@ -122,22 +133,42 @@ array_size_of z n =
     else if z == 2 then zero_of n >>= (λ _. Some Dynamic)
     else None
 
--- a binding of a form and two numbers
+-- the source of blending of a form, which one form has
+abbrev pub source_of : ℕ → ℕ → Option (Option ℕ)
+source_of z b =
+    if z == 2 then zero_of b >>= (λ _. Some None)
+    else if z == 3 then Some (Some b)
+    else None
+
+-- a location, of the four bytes of a word and two numbers
+abbrev pub location_of : ℕ → ℕ → ℕ → Option Binding
+location_of z a b = do
+  blend_src ← source_of (z % 256) b
+  interpolation ← slice_get interpolations (z / 256 % 256)
+  sampling ← slice_get samplings (z / 65536 % 256)
+  per_primitive ← slice_get bools (z / 16777216)
+  Some (Location a interpolation sampling blend_src per_primitive)
+
+-- a binding of a word that begins with its form, and two numbers
 abbrev pub binding_of : ℕ → ℕ → ℕ → Option (Option Binding)
 binding_of z a b =
-    if z == 3 then Some (Some (Location a (Some b)))
-    else zero_of b >>= (λ _.
-    if z == 0 then zero_of a >>= (λ _. Some None)
-    else if z == 1 then Some (Some (BuiltIn a))
-    else if z == 2 then Some (Some (Location a None))
-    else None)
+    if z == 0 then zero_of a >>= (λ _. zero_of b >>= (λ _. Some None))
+    else if z == 1 then zero_of b >>= (λ _. slice_get built_ins a >>= (λ value. Some (Some (BuiltIn value))))
+    else location_of z a b >>= (λ location. Some (Some location))
+
+-- the binding of a resource, of a form and two numbers, or none
+abbrev pub resource_binding_of : ℕ → ℕ → ℕ → Option (Option ResourceBinding)
+resource_binding_of z g b =
+    if z == 0 then zero_of g >>= (λ _. zero_of b >>= (λ _. Some None))
+    else if z == 1 then Some (Some (record { group = g; binding = b }))
+    else None
 
 -- the class of an image, of a form and two words
 abbrev pub class_of : ℕ → ℕ → ℕ → Option ImageClass
 class_of z a b =
     if z == 0 then slice_get kinds a >>= (λ kind. slice_get bools b >>= (λ multi. Some (class.Sampled kind multi)))
     else if z == 1 then zero_of b >>= (λ _. slice_get bools a >>= (λ multi. Some (class.Depth multi)))
-    else if z == 2 then slice_get accesses b >>= (λ access. Some (class.Storage (record { 0 = a }) access))
+    else if z == 2 then slice_get storage_formats a >>= (λ format. slice_get accesses b >>= (λ access. Some (class.Storage format access)))
     else if z == 3 then zero_of a >>= (λ _. zero_of b >>= (λ _. Some class.External))
     else None
 

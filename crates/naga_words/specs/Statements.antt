@@ -1,7 +1,10 @@
 -- The statements and the items of bodies that words say: one reader for each, of its operands.
+use Rattle.std.specs.Int.{w32, cast_signed}
 use Rattle.std.specs.Prelude.{◌==◌, ◌||◌, ℕ, Bool, List, [], ◌∷◌, Option, Some, None, if◌then◌else◌, nat_lt, option_map, slice_get}
 use Rattle.naga_ir.specs.declared.statement.AtomicFunction.{AtomicFunction}
 use Rattle.naga_ir.specs.declared.statement.AtomicFunction.TheVariants as atomic
+use Rattle.naga_ir.specs.declared.statement.Barrier.{Barrier}
+use Rattle.naga_ir.specs.declared.statement.CollectiveOperation.TheVariants.{Reduce}
 use Rattle.naga_ir.specs.declared.statement.GatherMode.{GatherMode}
 use Rattle.naga_ir.specs.declared.statement.GatherMode.TheVariants as gather
 use Rattle.naga_ir.specs.declared.statement.RayPipelineFunction.TheVariants.{TraceRay}
@@ -9,8 +12,11 @@ use Rattle.naga_ir.specs.declared.statement.RayQueryFunction.{RayQueryFunction}
 use Rattle.naga_ir.specs.declared.statement.RayQueryFunction.TheVariants as step
 use Rattle.naga_ir.specs.declared.statement.Statement.{Statement}
 use Rattle.naga_ir.specs.declared.statement.Statement.TheVariants as statement
+use Rattle.naga_ir.specs.declared.statement.SwitchValue.{SwitchValue}
+use Rattle.naga_ir.specs.declared.statement.SwitchValue.TheVariants as value
 use Rattle.naga_words.specs.declared.opcodes.TheConstants as code
-use Rattle.naga_words.specs.Tables.{bools, subgroup_operations}
+use Rattle.naga_words.specs.Tables.{barriers, bools, collective_operations, subgroup_operations, work_group}
+use Rattle.naga_draft.specs.declared.item.CaseHead.{CaseHead}
 use Rattle.naga_draft.specs.declared.item.Mark.{Mark}
 use Rattle.naga_draft.specs.declared.item.Mark.TheVariants as mark
 use Rattle.naga_words.specs.Operands.{◌>>=◌, handle_of, nothing_of, optional_of, only_handle_of, only_of, zero_of}
@@ -109,6 +115,27 @@ gather_of (z ∷ b ∷ a ∷ r ∷ []) = do
   Some (statement.SubgroupGather mode argument result)
 gather_of _ = None
 
+-- the memory of a barrier: that of the workgroup, if there is no operand
+abbrev pub barrier_of : List ℕ → Option Barrier
+barrier_of [] = Some work_group
+barrier_of (w ∷ []) = slice_get barriers w
+barrier_of _ = None
+
+-- the reader of `SubgroupCollectiveOperation`, which is a reduction unless a fourth operand says what it is
+abbrev pub collective_of : List ℕ → Option Statement
+collective_of (o ∷ a ∷ r ∷ []) = do
+  op ← slice_get subgroup_operations o
+  argument ← handle_of a
+  result ← handle_of r
+  Some (statement.SubgroupCollectiveOperation op Reduce argument result)
+collective_of (o ∷ a ∷ r ∷ c ∷ []) = do
+  op ← slice_get subgroup_operations o
+  argument ← handle_of a
+  result ← handle_of r
+  collective_op ← slice_get collective_operations c
+  Some (statement.SubgroupCollectiveOperation op collective_op argument result)
+collective_of _ = None
+
 -- the reader of `Call`
 abbrev pub call_of : List ℕ → Option Statement
 call_of (f ∷ r ∷ ws) = do
@@ -125,8 +152,8 @@ fixed_statements =
     (code.STATEMENT_CONTINUE, reads_none statement.Continue) ∷
     (code.STATEMENT_RETURN, reads_one optional_of statement.Return) ∷
     (code.STATEMENT_KILL, reads_none statement.Kill) ∷
-    (code.STATEMENT_CONTROL_BARRIER, reads_none statement.ControlBarrier) ∷
-    (code.STATEMENT_MEMORY_BARRIER, reads_none statement.MemoryBarrier) ∷
+    (code.STATEMENT_CONTROL_BARRIER, λ ws. option_map statement.ControlBarrier (barrier_of ws)) ∷
+    (code.STATEMENT_MEMORY_BARRIER, λ ws. option_map statement.MemoryBarrier (barrier_of ws)) ∷
     (code.STATEMENT_STORE, reads_two handle_of handle_of statement.Store) ∷
     (code.STATEMENT_IMAGE_STORE, reads_four handle_of handle_of optional_of handle_of statement.ImageStore) ∷
     (code.STATEMENT_ATOMIC, atomic_of) ∷
@@ -135,10 +162,8 @@ fixed_statements =
     (code.STATEMENT_RAY_QUERY, ray_query_of) ∷
     (code.STATEMENT_TRACE_RAY, trace_ray_of) ∷
     (code.STATEMENT_SUBGROUP_BALLOT, reads_two handle_of optional_of statement.SubgroupBallot) ∷
-    (code.STATEMENT_SUBGROUP_GATHER, gather_of) ∷ (
-      code.STATEMENT_SUBGROUP_OPERATION,
-      reads_three (slice_get subgroup_operations) handle_of handle_of statement.SubgroupCollectiveOperation,
-    ) ∷
+    (code.STATEMENT_SUBGROUP_GATHER, gather_of) ∷
+    (code.STATEMENT_SUBGROUP_OPERATION, collective_of) ∷
     (code.STATEMENT_COOPERATIVE_STORE, reads_three handle_of handle_of handle_of statement.CooperativeStore) ∷
     []
 
@@ -150,6 +175,25 @@ statement_of z ws = if z == code.STATEMENT_CALL then call_of ws else read_by fix
 abbrev pub is_of_statement : ℕ → Bool
 is_of_statement z = nat_lt z code.STATEMENT_BLOCK || nat_lt code.STATEMENT_END_LOOP z
 
+-- when a case is executed, of a form and a word
+abbrev pub switch_value_of : ℕ → ℕ → Option SwitchValue
+switch_value_of z v =
+    if z == 0 then zero_of v >>= (λ _. Some value.Default)
+    else if z == 1 then Some (value.I32 (cast_signed w32 v))
+    else if z == 2 then Some (value.U32 v)
+    else None
+
+-- what an item says of a case: whether the next one is executed after it, and maybe when it is executed
+abbrev pub case_of : List ℕ → Option CaseHead
+case_of (f ∷ []) = do
+  fall_through ← slice_get bools f
+  Some (record { value = None; fall_through = fall_through })
+case_of (f ∷ z ∷ v ∷ []) = do
+  fall_through ← slice_get bools f
+  value ← switch_value_of z v
+  Some (record { value = Some value; fall_through = fall_through })
+case_of _ = None
+
 -- the item of an opcode with which a block begins or ends
 abbrev pub block_mark_of : ℕ → List ℕ → Option Mark
 block_mark_of z ws =
@@ -157,7 +201,7 @@ block_mark_of z ws =
     else if z == code.STATEMENT_IF then option_map mark.If (only_handle_of ws)
     else if z == code.STATEMENT_ELSE then option_map (λ _. mark.Else) (nothing_of ws)
     else if z == code.STATEMENT_SWITCH then option_map mark.Switch (only_handle_of ws)
-    else if z == code.STATEMENT_CASE then option_map mark.Case (only_of ws >>= slice_get bools)
+    else if z == code.STATEMENT_CASE then option_map mark.Case (case_of ws)
     else if z == code.STATEMENT_LOOP then option_map (λ _. mark.Loop) (nothing_of ws)
     else if z == code.STATEMENT_CONTINUING then option_map (λ _. mark.Continuing) (nothing_of ws)
     else if z == code.STATEMENT_END then option_map (λ _. mark.End) (nothing_of ws)

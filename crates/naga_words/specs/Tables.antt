@@ -1,5 +1,5 @@
 -- The values that words stand for: a word is the place of its value in a table.
-use Rattle.std.specs.Prelude.{Bool as Boolean, true, false, List, [], ◌∷◌}
+use Rattle.std.specs.Prelude.{Bool as Boolean, true, false, List, [], ◌∷◌, Option, None, Some}
 use Rattle.naga_ir.specs.declared.expression.BinaryOperator.{BinaryOperator}
 use Rattle.naga_ir.specs.declared.expression.BinaryOperator.TheVariants as binary
 use Rattle.naga_ir.specs.declared.expression.MathFunction.{MathFunction}
@@ -10,6 +10,23 @@ use Rattle.naga_ir.specs.declared.expression.SwizzleComponent.{SwizzleComponent}
 use Rattle.naga_ir.specs.declared.expression.SwizzleComponent.TheVariants.{X, Y, Z, W}
 use Rattle.naga_ir.specs.declared.expression.UnaryOperator.{UnaryOperator}
 use Rattle.naga_ir.specs.declared.expression.UnaryOperator.TheVariants as unary
+use Rattle.naga_ir.specs.declared.ir.ConservativeDepth.TheVariants.{GreaterEqual, LessEqual, Unchanged}
+use Rattle.naga_ir.specs.declared.ir.EarlyDepthTest.{EarlyDepthTest}
+use Rattle.naga_ir.specs.declared.ir.EarlyDepthTest.TheVariants.{Allow, Force}
+use Rattle.naga_ir.specs.declared.ir.MemoryDecorations.{MemoryDecorations}
+use Rattle.naga_ir.specs.declared.ir.MeshOutputTopology.{MeshOutputTopology}
+use Rattle.naga_ir.specs.declared.ir.MeshOutputTopology.TheVariants as topology
+use Rattle.naga_ir.specs.declared.ir.ShaderStage.{ShaderStage}
+use Rattle.naga_ir.specs.declared.ir.ShaderStage.TheVariants as stage
+use Rattle.naga_ir.specs.declared.statement.Barrier.{Barrier}
+use Rattle.naga_ir.specs.declared.statement.CollectiveOperation.{CollectiveOperation}
+use Rattle.naga_ir.specs.declared.statement.CollectiveOperation.TheVariants as collective
+use Rattle.naga_ir.specs.declared.storage_format.StorageFormat.{StorageFormat}
+use Rattle.naga_ir.specs.declared.storage_format.StorageFormat.TheVariants as format
+use Rattle.naga_ir.specs.declared.types.Interpolation.{Interpolation}
+use Rattle.naga_ir.specs.declared.types.Interpolation.TheVariants as interpolation
+use Rattle.naga_ir.specs.declared.types.Sampling.{Sampling}
+use Rattle.naga_ir.specs.declared.types.Sampling.TheVariants as sampling
 use Rattle.naga_ir.specs.declared.statement.SubgroupOperation.{SubgroupOperation}
 use Rattle.naga_ir.specs.declared.statement.SubgroupOperation.TheVariants as subgroup
 use Rattle.naga_ir.specs.declared.types.CooperativeRole.{CooperativeRole}
@@ -151,6 +168,27 @@ math_functions =
     math.FirstLeadingBit ∷
     math.Pack2x16float ∷
     math.Unpack2x16float ∷
+    math.Modf ∷
+    math.Frexp ∷
+    math.Ldexp ∷
+    math.Dot4I8Packed ∷
+    math.Dot4U8Packed ∷
+    math.Outer ∷
+    math.Inverse ∷
+    math.Pack4x8snorm ∷
+    math.Pack4x8unorm ∷
+    math.Pack2x16snorm ∷
+    math.Pack2x16unorm ∷
+    math.Pack4xI8 ∷
+    math.Pack4xU8 ∷
+    math.Pack4xI8Clamp ∷
+    math.Pack4xU8Clamp ∷
+    math.Unpack4x8snorm ∷
+    math.Unpack4x8unorm ∷
+    math.Unpack2x16snorm ∷
+    math.Unpack2x16unorm ∷
+    math.Unpack4xI8 ∷
+    math.Unpack4xU8 ∷
     []
 
 -- the operations of subgroups
@@ -165,4 +203,144 @@ subgroup_operations =
     subgroup.And ∷
     subgroup.Or ∷
     subgroup.Xor ∷
+    []
+
+-- how the value of a fragment is made, if that is said
+abbrev pub interpolations : List (Option Interpolation)
+interpolations =
+    None ∷
+    Some interpolation.Perspective ∷
+    Some interpolation.Linear ∷
+    Some interpolation.Flat ∷
+    Some interpolation.PerVertex ∷
+    []
+
+-- where the value of a fragment is taken, if that is said
+abbrev pub samplings : List (Option Sampling)
+samplings =
+    None ∷
+    Some sampling.Center ∷
+    Some sampling.Centroid ∷
+    Some sampling.Sample ∷
+    Some sampling.First ∷
+    Some sampling.Either ∷
+    []
+
+-- the formats of storage images
+abbrev pub storage_formats : List StorageFormat
+storage_formats =
+    format.R8Unorm ∷
+    format.R8Snorm ∷
+    format.R8Uint ∷
+    format.R8Sint ∷
+    format.R16Uint ∷
+    format.R16Sint ∷
+    format.R16Float ∷
+    format.Rg8Unorm ∷
+    format.Rg8Snorm ∷
+    format.Rg8Uint ∷
+    format.Rg8Sint ∷
+    format.R32Uint ∷
+    format.R32Sint ∷
+    format.R32Float ∷
+    format.Rg16Uint ∷
+    format.Rg16Sint ∷
+    format.Rg16Float ∷
+    format.Rgba8Unorm ∷
+    format.Rgba8Snorm ∷
+    format.Rgba8Uint ∷
+    format.Rgba8Sint ∷
+    format.Bgra8Unorm ∷
+    format.Rgb10a2Uint ∷
+    format.Rgb10a2Unorm ∷
+    format.Rg11b10Ufloat ∷
+    format.R64Uint ∷
+    format.Rg32Uint ∷
+    format.Rg32Sint ∷
+    format.Rg32Float ∷
+    format.Rgba16Uint ∷
+    format.Rgba16Sint ∷
+    format.Rgba16Float ∷
+    format.Rgba32Uint ∷
+    format.Rgba32Sint ∷
+    format.Rgba32Float ∷
+    format.R16Unorm ∷
+    format.R16Snorm ∷
+    format.Rg16Unorm ∷
+    format.Rg16Snorm ∷
+    format.Rgba16Unorm ∷
+    format.Rgba16Snorm ∷
+    []
+
+-- nothing more holds of each access to a variable than of any
+abbrev pub undecorated : MemoryDecorations
+undecorated = record { coherent = false; is_volatile = false }
+
+-- what holds of each access to a variable: of two bits the first says that the accesses are coherent, the second that
+-- the value is volatile
+abbrev pub memory_decorations : List MemoryDecorations
+memory_decorations =
+    record { coherent = false; is_volatile = false } ∷
+    record { coherent = true; is_volatile = false } ∷
+    record { coherent = false; is_volatile = true } ∷
+    record { coherent = true; is_volatile = true } ∷
+    []
+
+-- the stages of pipelines, or none
+abbrev pub stages : List (Option ShaderStage)
+stages =
+    None ∷
+    Some stage.Vertex ∷
+    Some stage.Task ∷
+    Some stage.Mesh ∷
+    Some stage.Fragment ∷
+    Some stage.Compute ∷
+    Some stage.RayGeneration ∷
+    Some stage.Miss ∷
+    Some stage.AnyHit ∷
+    Some stage.ClosestHit ∷
+    []
+
+-- whether depths are tested early, if that is said
+abbrev pub early_depth_tests : List (Option EarlyDepthTest)
+early_depth_tests =
+    None ∷
+    Some Force ∷
+    Some (Allow GreaterEqual) ∷
+    Some (Allow LessEqual) ∷
+    Some (Allow Unchanged) ∷
+    []
+
+-- what the primitives of meshes are
+abbrev pub topologies : List MeshOutputTopology
+topologies = topology.Points ∷ topology.Lines ∷ topology.Triangles ∷ []
+
+-- for which invocations a subgroup makes one value of many
+abbrev pub collective_operations : List CollectiveOperation
+collective_operations = collective.Reduce ∷ collective.InclusiveScan ∷ collective.ExclusiveScan ∷ []
+
+-- the memory of the workgroup alone
+abbrev pub work_group : Barrier
+work_group = record { storage = false; work_group = true; sub_group = false; texture = false }
+
+-- the memory that barriers are for: of four bits the first says that it is that of storage buffers, the second of the
+-- workgroup, the third of the subgroup, the fourth of storage images
+abbrev pub barriers : List Barrier
+barriers =
+    record { storage = false; work_group = false; sub_group = false; texture = false } ∷
+    record { storage = true; work_group = false; sub_group = false; texture = false } ∷
+    record { storage = false; work_group = true; sub_group = false; texture = false } ∷
+    record { storage = true; work_group = true; sub_group = false; texture = false } ∷
+    record { storage = false; work_group = false; sub_group = true; texture = false } ∷
+    record { storage = true; work_group = false; sub_group = true; texture = false } ∷
+    record { storage = false; work_group = true; sub_group = true; texture = false } ∷
+    record { storage = true; work_group = true; sub_group = true; texture = false } ∷
+    record { storage = false; work_group = false; sub_group = false; texture = true } ∷
+    record { storage = true; work_group = false; sub_group = false; texture = true } ∷
+    record { storage = false; work_group = true; sub_group = false; texture = true } ∷
+    record { storage = true; work_group = true; sub_group = false; texture = true } ∷
+    record { storage = false; work_group = false; sub_group = true; texture = true } ∷
+    record { storage = true; work_group = false; sub_group = true; texture = true } ∷
+    record { storage = false; work_group = true; sub_group = true; texture = true } ∷
+    record { storage = true; work_group = true; sub_group = true; texture = true } ∷
     []

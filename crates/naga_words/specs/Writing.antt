@@ -1,10 +1,12 @@
 -- Items as words: the opcode of each, and its operands.
 use Rattle.std.specs.Int.{Width, w16, w32, w64, cast_unsigned, from_le_bytes}
 use Rattle.std.specs.List.{AllByRecursion, position_or_len}
-use Rattle.std.specs.Prelude.{◌≢◌, ◌+◌, ◌*◌, ◌/◌, ◌%◌, ◌^◌, ℕ, ℤ, ◌<◌, ◌≤◌, Bool, FitsSigned, List, [], ◌∷◌, ◌++◌, Option, Some, None, length, map, ⊤}
+use Rattle.std.specs.Option.{option_eq}
+use Rattle.std.specs.Prelude.{◌≢◌, false, true, zero, ◌+◌, ◌*◌, ◌/◌, ◌%◌, ◌^◌, ℕ, ℤ, ◌<◌, ◌≤◌, Bool, FitsSigned, List, [], ◌∷◌, ◌++◌, Option, Some, None, length, map, ⊤}
 use Rattle.std.specs.Int.NonZero.{non_zero_u32_get}
 use Rattle.std.specs.Str.{IsUtf8}
 use Rattle.naga_arena.specs.Numbers.{largest_u8}
+use Rattle.naga_ir.specs.BuiltIns.{number as built_in_number}
 use Rattle.naga_ir.specs.Sizes.{components as component_count, cooperative_components}
 use Rattle.std.specs.contracts.prelude.BoolPartialEq.TheImpl as of_bool
 use Rattle.naga_ir.specs.contracts.expression.BinaryOperatorPartialEq.TheImpl as of_binary
@@ -12,11 +14,21 @@ use Rattle.naga_ir.specs.contracts.expression.MathFunctionPartialEq.TheImpl as o
 use Rattle.naga_ir.specs.contracts.expression.RelationalFunctionPartialEq.TheImpl as of_relational
 use Rattle.naga_ir.specs.contracts.expression.SwizzleComponentPartialEq.TheImpl as of_component
 use Rattle.naga_ir.specs.contracts.expression.UnaryOperatorPartialEq.TheImpl as of_unary
+use Rattle.naga_ir.specs.contracts.ir.EarlyDepthTestPartialEq.TheImpl as of_early
+use Rattle.naga_ir.specs.contracts.ir.MemoryDecorationsPartialEq.TheImpl as of_decorations
+use Rattle.naga_ir.specs.contracts.ir.MeshOutputTopologyPartialEq.TheImpl as of_topology
+use Rattle.naga_ir.specs.contracts.ir.ShaderStagePartialEq.TheImpl as of_stage
+use Rattle.naga_ir.specs.contracts.statement.BarrierPartialEq.TheImpl as of_barrier
+use Rattle.naga_ir.specs.contracts.statement.CollectiveOperationPartialEq.TheImpl as of_collective
 use Rattle.naga_ir.specs.contracts.statement.SubgroupOperationPartialEq.TheImpl as of_subgroup
+use Rattle.naga_ir.specs.contracts.storage_format.StorageFormatPartialEq.TheImpl as of_format
+use Rattle.naga_ir.specs.contracts.types.InterpolationPartialEq.TheImpl as of_interpolation
+use Rattle.naga_ir.specs.contracts.types.SamplingPartialEq.TheImpl as of_sampling
 use Rattle.naga_ir.specs.contracts.types.CooperativeRolePartialEq.TheImpl as of_role
 use Rattle.naga_ir.specs.contracts.types.ImageDimensionPartialEq.TheImpl as of_dimension
 use Rattle.naga_ir.specs.contracts.types.ScalarKindPartialEq.TheImpl as of_kind
 use Rattle.naga_ir.specs.contracts.types.StorageAccessPartialEq.TheImpl as of_access
+use Rattle.naga_ir.specs.declared.expression.CooperativeShape.{CooperativeShape}
 use Rattle.naga_ir.specs.declared.expression.Expression.{Expression}
 use Rattle.naga_ir.specs.declared.expression.Expression.TheVariants as expression
 use Rattle.naga_ir.specs.declared.expression.ImageQuery.{ImageQuery}
@@ -26,8 +38,15 @@ use Rattle.naga_ir.specs.declared.expression.Literal.TheVariants as literal
 use Rattle.naga_ir.specs.declared.expression.SwizzleComponent.{SwizzleComponent}
 use Rattle.naga_ir.specs.declared.expression.SampleLevel.{SampleLevel}
 use Rattle.naga_ir.specs.declared.expression.SampleLevel.TheVariants as level
+use Rattle.naga_ir.specs.declared.ir.GlobalVariable.{GlobalVariable}
+use Rattle.naga_ir.specs.declared.ir.MeshOutputTopology.{MeshOutputTopology}
+use Rattle.naga_ir.specs.declared.ir.MeshOutputTopology.TheVariants as topology
+use Rattle.naga_ir.specs.declared.ir.ResourceBinding.{ResourceBinding}
 use Rattle.naga_ir.specs.declared.statement.AtomicFunction.{AtomicFunction}
 use Rattle.naga_ir.specs.declared.statement.AtomicFunction.TheVariants as atomic
+use Rattle.naga_ir.specs.declared.statement.Barrier.{Barrier}
+use Rattle.naga_ir.specs.declared.statement.CollectiveOperation.{CollectiveOperation}
+use Rattle.naga_ir.specs.declared.statement.CollectiveOperation.TheVariants as collective
 use Rattle.naga_ir.specs.declared.statement.GatherMode.{GatherMode}
 use Rattle.naga_ir.specs.declared.statement.GatherMode.TheVariants as gather
 use Rattle.naga_ir.specs.declared.statement.RayPipelineFunction.TheVariants.{TraceRay}
@@ -35,6 +54,8 @@ use Rattle.naga_ir.specs.declared.statement.RayQueryFunction.{RayQueryFunction}
 use Rattle.naga_ir.specs.declared.statement.RayQueryFunction.TheVariants as step
 use Rattle.naga_ir.specs.declared.statement.Statement.{Statement}
 use Rattle.naga_ir.specs.declared.statement.Statement.TheVariants as statement
+use Rattle.naga_ir.specs.declared.statement.SwitchValue.{SwitchValue}
+use Rattle.naga_ir.specs.declared.statement.SwitchValue.TheVariants as value
 use Rattle.naga_ir.specs.declared.types.AddressSpace.{AddressSpace}
 use Rattle.naga_ir.specs.declared.types.AddressSpace.TheVariants as space
 use Rattle.naga_ir.specs.declared.types.ArraySize.{ArraySize}
@@ -43,6 +64,8 @@ use Rattle.naga_ir.specs.declared.types.Binding.{Binding}
 use Rattle.naga_ir.specs.declared.types.Binding.TheVariants.{BuiltIn, Location}
 use Rattle.naga_ir.specs.declared.types.ImageClass.{ImageClass}
 use Rattle.naga_ir.specs.declared.types.ImageClass.TheVariants as class
+use Rattle.naga_ir.specs.declared.types.Interpolation.{Interpolation}
+use Rattle.naga_ir.specs.declared.types.Sampling.{Sampling}
 use Rattle.naga_ir.specs.declared.types.Scalar.{Scalar}
 use Rattle.naga_ir.specs.declared.types.StorageAccess.{StorageAccess}
 use Rattle.naga_ir.specs.declared.types.StructMember.{StructMember}
@@ -60,7 +83,7 @@ use Rattle.naga_draft.specs.declared.item.Part.TheVariants as part
 use Rattle.naga_flags.specs.Bits.{all_capabilities, all_validation_flags}
 use Rattle.naga_words.specs.Numbers.{largest_u16}
 use Rattle.naga_words.specs.Operands.{none}
-use Rattle.naga_words.specs.Tables.{accesses, binary_operators, bools, components, dimensions, kinds, math_functions, relational_functions, roles, subgroup_operations, unary_operators}
+use Rattle.naga_words.specs.Tables.{accesses, barriers, binary_operators, bools, collective_operations, components, dimensions, early_depth_tests, interpolations, kinds, math_functions, memory_decorations, relational_functions, roles, samplings, stages, storage_formats, subgroup_operations, topologies, unary_operators, work_group}
 use Rattle.naga_words.specs.declared.opcodes.TheConstants as code
 
 -- a word of an item, and what has to hold so that what was written is read of it
@@ -133,18 +156,38 @@ array_size_operands (sized.Constant n) more = number 0 ∷ number (non_zero_u32_
 array_size_operands (sized.Pending o) more = number 1 ∷ index o ∷ more
 array_size_operands sized.Dynamic more = number 2 ∷ number 0 ∷ more
 
+-- the place of a value in a table that begins with none
+abbrev pub place_or_none : {A : Type 0} → (A → A → Bool) → List (Option A) → Option A → ℕ
+place_or_none eq table a = position_or_len (option_eq eq a) table
+
+-- the form of a location in the lowest byte of a word, how and where its value is made in the next two, and whether it
+-- is that of a primitive in the last
+abbrev pub location_form : ℕ → Option Interpolation → Option Sampling → Bool → Operand
+location_form form interpolation sampling per_primitive = number (
+    form + 256 * place_or_none of_interpolation.ghosts.eq interpolations interpolation
+    + 65536 * place_or_none of_sampling.ghosts.eq samplings sampling
+    + 16777216 * position_or_len (of_bool.ghosts.eq per_primitive) bools
+    )
+
 -- a binding, or none, before `more`
 abbrev pub binding_operands : Option Binding → Operands → Operands
 binding_operands None more = number 0 ∷ number 0 ∷ number 0 ∷ more
-binding_operands (Some (BuiltIn value)) more = number 1 ∷ number value ∷ number 0 ∷ more
-binding_operands (Some (Location location None)) more = number 2 ∷ number location ∷ number 0 ∷ more
-binding_operands (Some (Location location (Some blend_src))) more = number 3 ∷ number location ∷ number blend_src ∷ more
+binding_operands (Some (BuiltIn value)) more = number 1 ∷ number (built_in_number value) ∷ number 0 ∷ more
+binding_operands (Some (Location location interpolation sampling None per_primitive)) more =
+    location_form 2 interpolation sampling per_primitive ∷ number location ∷ number 0 ∷ more
+binding_operands (Some (Location location interpolation sampling (Some blend_src) per_primitive)) more =
+    location_form 3 interpolation sampling per_primitive ∷ number location ∷ number blend_src ∷ more
+
+-- the binding of a resource, or none, before `more`
+abbrev pub resource_operands : Option ResourceBinding → Operands → Operands
+resource_operands None more = number 0 ∷ number 0 ∷ number 0 ∷ more
+resource_operands (Some b) more = number 1 ∷ number b.group ∷ number b.binding ∷ more
 
 -- the class of an image, before `more`
 abbrev pub class_operands : ImageClass → Operands → Operands
 class_operands (class.Sampled kind multi) more = number 0 ∷ place of_kind.ghosts.eq kinds kind ∷ bool multi ∷ more
 class_operands (class.Depth multi) more = number 1 ∷ bool multi ∷ number 0 ∷ more
-class_operands (class.Storage format a) more = number 2 ∷ number format.0 ∷ access a ∷ more
+class_operands (class.Storage format a) more = number 2 ∷ place of_format.ghosts.eq storage_formats format ∷ access a ∷ more
 class_operands class.External more = number 3 ∷ number 0 ∷ number 0 ∷ more
 
 -- the level of a sample, before `more`
@@ -252,6 +295,13 @@ written_inner (inner.BindingArray base size) = (code.OP_BINDING_ARRAY, index bas
 abbrev pub never : Written
 never = (0, record { word = 0; can = ⊥ } ∷ [])
 
+-- the shape of a cooperative matrix, if it is said
+abbrev pub shape_operands : Option CooperativeShape → Operands
+shape_operands None = []
+shape_operands (Some shape) =
+    number (cooperative_components shape.columns) ∷ number (cooperative_components shape.rows) ∷
+    place of_role.ghosts.eq roles shape.role ∷ []
+
 -- an expression: the number of its form, and its operands. A swizzle's pattern has four components
 abbrev pub written_expression : Expression → Written
 written_expression (expression.Literal value) = (code.FORM_LITERAL, literal_operands value)
@@ -311,8 +361,8 @@ written_expression (expression.RayQueryVertexPositions query committed) =
     (code.FORM_RAY_QUERY_VERTEX_POSITIONS, index query ∷ bool committed ∷ [])
 written_expression expression.SubgroupBallotResult = (code.FORM_SUBGROUP_BALLOT_RESULT, [])
 written_expression (expression.SubgroupOperationResult ty) = (code.FORM_SUBGROUP_OPERATION_RESULT, index ty ∷ [])
-written_expression (expression.CooperativeLoad pointer stride) =
-    (code.FORM_COOPERATIVE_LOAD, index pointer ∷ index stride ∷ [])
+written_expression (expression.CooperativeLoad shape pointer stride) =
+    (code.FORM_COOPERATIVE_LOAD, index pointer ∷ index stride ∷ shape_operands shape)
 written_expression (expression.CooperativeMultiplyAdd a b c) =
     (code.FORM_COOPERATIVE_MULTIPLY_ADD, index a ∷ index b ∷ index c ∷ [])
 
@@ -346,6 +396,20 @@ gather_operands (gather.ShuffleXor invocation) more = number 5 ∷ index invocat
 gather_operands (gather.QuadBroadcast invocation) more = number 6 ∷ index invocation ∷ more
 gather_operands gather.QuadSwap more = number 7 ∷ number 0 ∷ more
 
+-- the memory of a barrier, unless it is that of the workgroup alone
+abbrev pub memory_operands : (is_work_group : Bool) → Barrier → Operands
+memory_operands true b = []
+memory_operands false b = place of_barrier.ghosts.eq barriers b ∷ []
+
+-- the memory of a barrier, which the workgroup's needs not say
+abbrev pub barrier_operands : Barrier → Operands
+barrier_operands b = memory_operands (of_barrier.ghosts.eq b work_group) b
+
+-- for which invocations a subgroup makes one value of many, unless it is for all
+abbrev pub collective_operands : CollectiveOperation → Operands
+collective_operands collective.Reduce = []
+collective_operands op = place of_collective.ghosts.eq collective_operations op ∷ []
+
 -- a statement without blocks
 abbrev pub written_statement : Statement → Written
 written_statement (statement.Emit range) = (code.STATEMENT_EMIT, number range.start ∷ number range.end ∷ [])
@@ -353,8 +417,8 @@ written_statement statement.Break = (code.STATEMENT_BREAK, [])
 written_statement statement.Continue = (code.STATEMENT_CONTINUE, [])
 written_statement (statement.Return value) = (code.STATEMENT_RETURN, optional index value ∷ [])
 written_statement statement.Kill = (code.STATEMENT_KILL, [])
-written_statement statement.ControlBarrier = (code.STATEMENT_CONTROL_BARRIER, [])
-written_statement statement.MemoryBarrier = (code.STATEMENT_MEMORY_BARRIER, [])
+written_statement (statement.ControlBarrier barrier) = (code.STATEMENT_CONTROL_BARRIER, barrier_operands barrier)
+written_statement (statement.MemoryBarrier barrier) = (code.STATEMENT_MEMORY_BARRIER, barrier_operands barrier)
 written_statement (statement.Store pointer value) = (code.STATEMENT_STORE, index pointer ∷ index value ∷ [])
 written_statement (statement.ImageStore image coordinate array_index value) =
     (code.STATEMENT_IMAGE_STORE, index image ∷ index coordinate ∷ optional index array_index ∷ index value ∷ [])
@@ -376,14 +440,22 @@ written_statement (statement.SubgroupBallot result predicate) =
     (code.STATEMENT_SUBGROUP_BALLOT, index result ∷ optional index predicate ∷ [])
 written_statement (statement.SubgroupGather mode argument result) =
     (code.STATEMENT_SUBGROUP_GATHER, gather_operands mode (index argument ∷ index result ∷ []))
-written_statement (statement.SubgroupCollectiveOperation op argument result) = (
+written_statement (statement.SubgroupCollectiveOperation op collective_op argument result) = (
   code.STATEMENT_SUBGROUP_OPERATION,
   place of_subgroup.ghosts.eq subgroup_operations op ∷ index argument ∷
-      index result ∷ [],
+      index result ∷ collective_operands collective_op,
 )
 written_statement (statement.CooperativeStore target pointer stride) =
     (code.STATEMENT_COOPERATIVE_STORE, index target ∷ index pointer ∷ index stride ∷ [])
 written_statement _ = never
+
+-- when a case is executed, if that is said
+abbrev pub value_operands : Option SwitchValue → Operands
+value_operands None = []
+value_operands (Some value.Default) = number 0 ∷ number 0 ∷ []
+value_operands (Some (value.I32 z)) =
+    number 1 ∷ record { word = cast_unsigned w32 z; can = FitsSigned w32 z } ∷ []
+value_operands (Some (value.U32 n)) = number 2 ∷ number n ∷ []
 
 -- an item of a body
 abbrev pub written_mark : Mark → Written
@@ -392,11 +464,17 @@ written_mark mark.Block = (code.STATEMENT_BLOCK, [])
 written_mark (mark.If condition) = (code.STATEMENT_IF, index condition ∷ [])
 written_mark mark.Else = (code.STATEMENT_ELSE, [])
 written_mark (mark.Switch selector) = (code.STATEMENT_SWITCH, index selector ∷ [])
-written_mark (mark.Case fall_through) = (code.STATEMENT_CASE, bool fall_through ∷ [])
+written_mark (mark.Case head) = (code.STATEMENT_CASE, bool head.fall_through ∷ value_operands head.value)
 written_mark mark.Loop = (code.STATEMENT_LOOP, [])
 written_mark mark.Continuing = (code.STATEMENT_CONTINUING, [])
 written_mark mark.End = (code.STATEMENT_END, [])
 written_mark (mark.EndOfLoop condition) = (code.STATEMENT_END_LOOP, optional index condition ∷ [])
+
+-- of what a mesh is made, and of how much at most, unless nothing of it is said
+abbrev pub mesh_operands : MeshOutputTopology → ℕ → ℕ → Operands
+mesh_operands topology.Points zero zero = []
+mesh_operands t vertices primitives =
+    place of_topology.ghosts.eq topologies t ∷ number vertices ∷ number primitives ∷ []
 
 -- what an item says of a function or entry point. A workgroup has three sizes
 abbrev pub written_part : Part → Written
@@ -414,8 +492,16 @@ written_part (part.TaskPayload variable) = (code.OP_TASK_PAYLOAD, index variable
 written_part (part.MeshOutput m) = (
   code.OP_MESH_OUTPUT,
   index m.output_variable ∷ index m.vertex_output_type ∷ index m.primitive_output_type ∷
-      optional index m.max_vertices_override ∷ optional index m.max_primitives_override ∷ [],
+      optional index m.max_vertices_override ∷ optional index m.max_primitives_override ∷
+      mesh_operands m.topology m.max_vertices m.max_primitives,
 )
+written_part (part.Stage s) = (
+  code.OP_STAGE,
+  number (place_or_none of_stage.ghosts.eq stages s.stage) ∷
+      number (place_or_none of_early.ghosts.eq early_depth_tests s.early_depth_test) ∷ [],
+)
+written_part (part.WorkgroupSize (x ∷ y ∷ z ∷ [])) = (code.OP_WORKGROUP_SIZE, number x ∷ number y ∷ number z ∷ [])
+written_part (part.WorkgroupSize _) = never
 written_part (part.Expression x) = (code.OP_EXPRESSION + (written_expression x).0, (written_expression x).1)
 written_part (part.Mark m) = written_mark m
 
@@ -427,6 +513,23 @@ written_comment (on.Function function) = (code.OP_COMMENT_ON_FUNCTION, index fun
 written_comment (on.EntryPoint i) = (code.OP_COMMENT_ON_ENTRY_POINT, index i ∷ [])
 written_comment (on.Constant constant) = (code.OP_COMMENT_ON_CONSTANT, index constant ∷ [])
 written_comment (on.GlobalVariable variable) = (code.OP_COMMENT_ON_GLOBAL_VARIABLE, index variable ∷ [])
+
+-- a global variable has a binding or memory decorations
+abbrev pub is_bound : Option ResourceBinding → (coherent is_volatile : Bool) → Bool
+is_bound None false false = false
+is_bound _ _ _ = true
+
+-- a global variable, by whether it has a binding or memory decorations
+abbrev pub written_variable : GlobalVariable → Bool → Written
+written_variable v false =
+    (code.OP_GLOBAL_VARIABLE, name_operands v.name (space_operands v.space (index v.ty ∷ optional index v.init ∷ [])))
+written_variable v true = (
+  code.OP_RESOURCE,
+  name_operands v.name (space_operands v.space (
+      index v.ty ∷ optional index v.init ∷
+      resource_operands v.binding (place of_decorations.ghosts.eq memory_decorations v.memory_decorations ∷ [])
+      )),
+)
 
 -- an item
 abbrev pub written_item : Item → Written
@@ -448,7 +551,7 @@ written_item (item.Override o) = (
       []),
 )
 written_item (item.GlobalVariable v) =
-    (code.OP_GLOBAL_VARIABLE, name_operands v.name (space_operands v.space (index v.ty ∷ optional index v.init ∷ [])))
+    written_variable v (is_bound v.binding v.memory_decorations.coherent v.memory_decorations.is_volatile)
 written_item (item.Expression x) = (code.OP_GLOBAL_EXPRESSION + (written_expression x).0, (written_expression x).1)
 written_item (item.Function bytes) = (code.OP_FUNCTION, name_operands bytes [])
 written_item (item.EntryPoint bytes) = (code.OP_ENTRY_POINT, text_operands bytes [])

@@ -1,6 +1,6 @@
 //! The expressions that words describe, one function a form.
 
-ghost use Rattle.naga_words.specs.Expressions.{compose_of, early_forms, expression_of, image_query_of, image_sample_of, late_forms, swizzle_of};
+ghost use Rattle.naga_words.specs.Expressions.{compose_of, cooperative_load_of, early_forms, expression_of, image_query_of, image_sample_of, late_forms, swizzle_of};
 ghost use Rattle.naga_words.specs.Operands.{converted_width_of, handle_of, level_of, literal_of, query_of, size_of};
 ghost use Rattle.naga_words.specs.Reading.{read_by, reads_five, reads_none, reads_one, reads_three, reads_triple, reads_two};
 ghost use Rattle.naga_words.specs.Tables.{binary_operators, bools, kinds, math_functions, relational_functions, unary_operators};
@@ -12,7 +12,7 @@ use crate::literals::literal;
 use crate::opcodes as code;
 use crate::operands::{
     NONE, binary_operator, boolean, component, expressions, handle, kind, math_function,
-    optional_component, relational_function, size, unary_operator, width, zero,
+    optional_component, relational_function, shape, size, unary_operator, width, zero,
 };
 use naga_draft::unread::{Unread, known};
 use naga_ir::expression::{Expression, ImageQuery, SampleLevel};
@@ -405,15 +405,21 @@ fn subgroup_result(operands: &[u32]) -> Option<Expression>
 }
 
 fn cooperative_load(operands: &[u32]) -> Option<Expression>
-    ensures { result ≡ reads_two handle_of handle_of x.CooperativeLoad operands.now }
+    ensures { result ≡ cooperative_load_of operands.now }
 {
-    let [pointer, stride] = operands else {
-        return None
-    };
-    Some(Expression::CooperativeLoad {
-        pointer: handle(*pointer)?,
-        stride: handle(*stride)?,
-    })
+    match operands {
+        [pointer, stride] => Some(Expression::CooperativeLoad {
+            pointer: handle(*pointer)?,
+            stride: handle(*stride)?,
+            shape: None,
+        }),
+        [pointer, stride, columns, rows, role] => Some(Expression::CooperativeLoad {
+            pointer: handle(*pointer)?,
+            stride: handle(*stride)?,
+            shape: Some(shape(*columns, *rows, *role)?),
+        }),
+        _ => None,
+    }
 }
 
 fn cooperative_multiply_add(operands: &[u32]) -> Option<Expression>

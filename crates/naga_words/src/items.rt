@@ -1,6 +1,6 @@
 //! The items of a module.
 
-ghost use Rattle.naga_words.specs.Items.{after_name, after_text, capabilities_of, commented_of, constant_of, entry_point_of, filter_of, flags_of, global_variable_of, id_of, item_of, member_comment_of, named_item_of, optional_id_of, override_of, plain_item_of, special_types_of};
+ghost use Rattle.naga_words.specs.Items.{after_name, after_text, capabilities_of, commented_of, constant_of, entry_point_of, filter_of, flags_of, global_variable_of, id_of, item_of, member_comment_of, named_item_of, optional_id_of, override_of, plain_item_of, resource_of, special_types_of};
 ghost use Rattle.naga_draft.specs.declared.unread.Unread.TheVariants as unread;
 ghost use Rattle.std.specs.Prelude.{◌≡◌, IfErr, IfOk, None, Some};
 
@@ -9,14 +9,15 @@ use crate::expressions::expression;
 use crate::literals::wide;
 use crate::names::{name, text};
 use crate::opcodes as code;
-use crate::operands::{NONE, handle, index, nothing, only, only_handle, space};
+use crate::operands::{NONE, handle, index, nothing, only, only_handle, resource_binding, space};
 use crate::parts::part;
+use crate::tables::memory_decorations;
 use crate::types::type_of;
 use bitflags::Flags;
 use naga_draft::item::{Commented, Item};
 use naga_draft::unread::{Unread, known};
 use naga_flags::flags::{Capabilities, ValidationFlags};
-use naga_ir::ir::{Constant, DiagnosticFilterNode, GlobalVariable, Override};
+use naga_ir::ir::{Constant, DiagnosticFilterNode, GlobalVariable, MemoryDecorations, Override};
 use naga_ir::text::Text;
 use std::alloc::Global;
 
@@ -166,8 +167,28 @@ fn global_variable(name: Option<Text>, operands: &[u32]) -> Option<GlobalVariabl
     Some(GlobalVariable {
         name,
         space: space(*number, *access)?,
+        binding: None,
         ty: handle(*ty)?,
         init: handle(*init),
+        memory_decorations: MemoryDecorations::NONE,
+    })
+}
+
+/// A global variable of this name that a pipeline binds, or that has memory decorations: besides its space, its type
+/// and its initialiser its binding and these.
+fn resource(name: Option<Text>, operands: &[u32]) -> Option<GlobalVariable>
+    ensures { result ≡ resource_of name operands.now }
+{
+    let [number, access, ty, init, form, group, binding, decorations] = operands else {
+        return None;
+    };
+    Some(GlobalVariable {
+        name,
+        space: space(*number, *access)?,
+        ty: handle(*ty)?,
+        binding: resource_binding(*form, *group, *binding)?,
+        init: handle(*init),
+        memory_decorations: memory_decorations(*decorations)?,
     })
 }
 
@@ -183,6 +204,7 @@ fn item_of_name(opcode: u8, name: Option<Text>, operands: &[u32]) -> Option<Item
             nothing(operands)?;
             Some(Item::Function(name))
         }
+        code::OP_RESOURCE => Some(Item::GlobalVariable(resource(name, operands)?)),
         _ => None,
     }
 }
@@ -227,6 +249,8 @@ pub(crate) fn item(alloc: Global, opcode: u8, operands: &[u32]) -> Result<Item, 
         named_item(alloc, opcode, operands)
     } else if opcode == code::OP_ENTRY_POINT {
         entry_point(alloc, operands)
+    } else if opcode == code::OP_RESOURCE {
+        named_item(alloc, opcode, operands)
     } else if opcode < code::OP_GLOBAL_EXPRESSION {
         Ok(Item::Part(part(alloc, opcode, operands)?))
     } else if opcode < code::OP_EXPRESSION {

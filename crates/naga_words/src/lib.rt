@@ -13,6 +13,7 @@ mod operands;
 mod parts;
 mod reader;
 mod statements;
+mod tables;
 mod types;
 
 pub use bits::{all_capabilities, all_flags};

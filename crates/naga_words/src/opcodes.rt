@@ -1,4 +1,4 @@
-//! The opcodes of items, and the numbers of the forms of expressions, as `bindings/c/naga_check.h` names them.
+//! The opcodes of items, and the numbers of the forms of expressions, as `bindings/c/naga_check_words.h` names them.
 
 // Items.
 pub(crate) const OP_FLAGS: u8 = 1;
@@ -82,6 +82,12 @@ pub(crate) const OP_WORKGROUP_SIZES: u8 = 45;
 pub(crate) const OP_TASK_PAYLOAD: u8 = 46;
 
 pub(crate) const OP_MESH_OUTPUT: u8 = 47;
+
+pub(crate) const OP_STAGE: u8 = 48;
+
+pub(crate) const OP_WORKGROUP_SIZE: u8 = 49;
+
+pub(crate) const OP_RESOURCE: u8 = 50;
 
 pub(crate) const OP_GLOBAL_EXPRESSION: u8 = 64;
 

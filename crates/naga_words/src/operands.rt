@@ -1,22 +1,26 @@
 //! What one operand says, or a few that belong together.
 
 ghost use Rattle.naga_words.specs.Tables.{accesses, binary_operators, bools, components, dimensions, kinds, math_functions, relational_functions, roles, subgroup_operations, unary_operators};
-ghost use Rattle.naga_words.specs.Operands.{array_size_of, binding_of, class_of, cooperative_size_of, count_of, handle_of, nothing_of, only_handle_of, only_of, optional_component_of, pointed_size_of, scalar_of, size_of, space_of, width_of, zero_of};
+ghost use Rattle.naga_words.specs.Operands.{array_size_of, binding_of, class_of, cooperative_size_of, count_of, handle_of, location_of, nothing_of, only_handle_of, only_of, optional_component_of, pointed_size_of, resource_binding_of, scalar_of, shape_of, size_of, source_of, space_of, width_of, zero_of};
 ghost use Rattle.naga_words.specs.Reading.{read_each};
 ghost use Rattle.naga_draft.specs.declared.unread.Unread.TheVariants as unread;
 ghost use Rattle.std.specs.Prelude.{◌≡◌, IfErr, IfOk, None, Some, slice_get};
 
+use crate::tables::{MATH_FUNCTIONS, interpolation, sampling, storage_format};
 use naga_draft::unread::Unread;
+use naga_ir::built_in::BuiltIn;
 use naga_ir::expression::{
-    BinaryOperator, MathFunction, RelationalFunction, SwizzleComponent, UnaryOperator,
+    BinaryOperator, CooperativeShape, MathFunction, RelationalFunction, SwizzleComponent,
+    UnaryOperator,
 };
 use naga_ir::handle::Handle;
+use naga_ir::ir::ResourceBinding;
 use naga_ir::list::List;
 use naga_ir::statement::SubgroupOperation;
 use naga_ir::tags::ExpressionTag;
 use naga_ir::types::{
     AddressSpace, ArraySize, Binding, CooperativeRole, CooperativeSize, ImageClass, ImageDimension,
-    Scalar, ScalarKind, StorageAccess, StorageFormat, VectorSize,
+    Scalar, ScalarKind, StorageAccess, VectorSize,
 };
 use std::alloc::Global;
 use std::num::NonZeroU32;
@@ -70,7 +74,7 @@ pub(crate) fn index(word: u32) -> Option<usize>
 }
 
 /// The value at the place of a word in a table, if there is one.
-fn chosen<T: Copy>(table: &[T], word: u32) -> Option<T>
+pub(crate) fn chosen<T: Copy>(table: &[T], word: u32) -> Option<T>
     ensures { result ≡ slice_get table.now word }
 {
     match table.get(word as usize) {
@@ -245,29 +249,80 @@ pub(crate) fn array_size(form: u32, number: u32) -> Option<ArraySize>
     }
 }
 
+/// The source of blending of a form of a location, which one form has.
+fn source(form: u32, number: u32) -> Option<Option<u32>>
+    ensures { result ≡ source_of form number }
+{
+    match form {
+        2 => {
+            zero(number)?;
+            Some(None)
+        }
+        3 => Some(Some(number)),
+        _ => None,
+    }
+}
+
+/// A location: four bytes that say its form, how and where its value is made and whether it is that of a primitive, its
+/// number, and the source of blending.
+fn location(form: u32, number: u32, of_source: u32) -> Option<Binding>
+    ensures { result ≡ location_of form number of_source }
+{
+    Some(Binding::Location {
+        location: number,
+        blend_src: source(form % 256, of_source)?,
+        interpolation: interpolation(form / 256 % 256)?,
+        sampling: sampling(form / 65536 % 256)?,
+        per_primitive: boolean(form / 16777216)?,
+    })
+}
+
 /// Where a value comes from or goes to.
 pub(crate) fn binding(form: u32, number: u32, source: u32) -> Option<Option<Binding>>
     ensures { result ≡ binding_of form number source }
 {
-    if form == 3 {
-        return Some(Some(Binding::Location {
-            location: number,
-            blend_src: Some(source),
-        }));
-    }
-    zero(source)?;
     match form {
         0 => {
             zero(number)?;
+            zero(source)?;
             Some(None)
         }
-        1 => Some(Some(Binding::BuiltIn(number))),
-        2 => Some(Some(Binding::Location {
-            location: number,
-            blend_src: None,
-        })),
+        1 => {
+            zero(source)?;
+            Some(Some(Binding::BuiltIn(BuiltIn::from_number(number)?)))
+        }
+        _ => Some(Some(location(form, number, source)?)),
+    }
+}
+
+/// Where a pipeline binds a resource.
+pub(crate) fn resource_binding(
+    form: u32,
+    group: u32,
+    binding: u32,
+) -> Option<Option<ResourceBinding>>
+    ensures { result ≡ resource_binding_of form group binding }
+{
+    match form {
+        0 => {
+            zero(group)?;
+            zero(binding)?;
+            Some(None)
+        }
+        1 => Some(Some(ResourceBinding { group, binding })),
         _ => None,
     }
+}
+
+/// The shape of a cooperative matrix.
+pub(crate) fn shape(columns: u32, rows: u32, of_role: u32) -> Option<CooperativeShape>
+    ensures { result ≡ shape_of columns rows of_role }
+{
+    Some(CooperativeShape {
+        columns: cooperative_size(columns)?,
+        rows: cooperative_size(rows)?,
+        role: role(of_role)?,
+    })
 }
 
 /// The dimension of an image.
@@ -301,7 +356,7 @@ pub(crate) fn class(form: u32, first: u32, second: u32) -> Option<ImageClass>
             })
         }
         2 => Some(ImageClass::Storage {
-            format: StorageFormat(first),
+            format: storage_format(first)?,
             access: access(second)?,
         }),
         3 => {
@@ -440,65 +495,3 @@ pub(crate) fn expressions(
     }
     Ok(expressions)
 }
-
-/// The mathematical functions, in the order of their numbers.
-const MATH_FUNCTIONS: [MathFunction; 58] = [
-    MathFunction::Abs,
-    MathFunction::Min,
-    MathFunction::Max,
-    MathFunction::Clamp,
-    MathFunction::Saturate,
-    MathFunction::Cos,
-    MathFunction::Cosh,
-    MathFunction::Sin,
-    MathFunction::Sinh,
-    MathFunction::Tan,
-    MathFunction::Tanh,
-    MathFunction::Acos,
-    MathFunction::Asin,
-    MathFunction::Atan,
-    MathFunction::Atan2,
-    MathFunction::Asinh,
-    MathFunction::Acosh,
-    MathFunction::Atanh,
-    MathFunction::Radians,
-    MathFunction::Degrees,
-    MathFunction::Ceil,
-    MathFunction::Floor,
-    MathFunction::Round,
-    MathFunction::Fract,
-    MathFunction::Trunc,
-    MathFunction::Exp,
-    MathFunction::Exp2,
-    MathFunction::Log,
-    MathFunction::Log2,
-    MathFunction::Pow,
-    MathFunction::Dot,
-    MathFunction::Cross,
-    MathFunction::Distance,
-    MathFunction::Length,
-    MathFunction::Normalize,
-    MathFunction::FaceForward,
-    MathFunction::Reflect,
-    MathFunction::Refract,
-    MathFunction::Sign,
-    MathFunction::Fma,
-    MathFunction::Mix,
-    MathFunction::Step,
-    MathFunction::SmoothStep,
-    MathFunction::Sqrt,
-    MathFunction::InverseSqrt,
-    MathFunction::Transpose,
-    MathFunction::Determinant,
-    MathFunction::QuantizeToF16,
-    MathFunction::CountTrailingZeros,
-    MathFunction::CountLeadingZeros,
-    MathFunction::CountOneBits,
-    MathFunction::ReverseBits,
-    MathFunction::ExtractBits,
-    MathFunction::InsertBits,
-    MathFunction::FirstTrailingBit,
-    MathFunction::FirstLeadingBit,
-    MathFunction::Pack2x16float,
-    MathFunction::Unpack2x16float,
-];

@@ -1,6 +1,6 @@
 //! The items that say something of a function or entry point.
 
-ghost use Rattle.naga_words.specs.Items.{after_name, after_text, argument_of, function_result_of, local_variable_of, mesh_output_of, named_expression_of, named_part_of, part_of, plain_part_of, workgroup_sizes_of};
+ghost use Rattle.naga_words.specs.Items.{after_name, after_text, argument_of, entry_stage_of, function_result_of, local_variable_of, mesh_numbers_of, mesh_output_of, named_expression_of, named_part_of, part_of, plain_part_of, workgroup_size_of, workgroup_sizes_of};
 ghost use Rattle.naga_draft.specs.declared.unread.Unread.TheVariants as unread;
 ghost use Rattle.std.specs.Prelude.{◌≡◌, IfErr, IfOk, None, Some};
 
@@ -9,10 +9,13 @@ use crate::marks::mark;
 use crate::names::{name, text};
 use crate::opcodes as code;
 use crate::operands::{binding, handle, only_handle};
-use naga_draft::item::Part;
+use crate::tables::{early_depth_test, stage, topology};
+use naga_draft::item::{EntryStage, Part};
 use naga_draft::unread::{Unread, known};
 use naga_ir::handle::Handle;
-use naga_ir::ir::{FunctionArgument, FunctionResult, LocalVariable, MeshStageInfo};
+use naga_ir::ir::{
+    FunctionArgument, FunctionResult, LocalVariable, MeshOutputTopology, MeshStageInfo,
+};
 use naga_ir::tags::ExpressionTag;
 use naga_ir::text::Text;
 use std::alloc::Global;
@@ -100,20 +103,64 @@ fn workgroup_sizes(operands: &[u32]) -> Option<[Option<Handle<ExpressionTag>>; 3
     Some([handle(*x), handle(*y), handle(*z)])
 }
 
+/// What the primitives of a mesh shader are, and how many vertices and primitives it has at most.
+fn mesh_numbers(operands: &[u32]) -> Option<(MeshOutputTopology, u32, u32)>
+    ensures { result ≡ mesh_numbers_of operands.now }
+{
+    match operands {
+        [] => Some((MeshOutputTopology::Points, 0, 0)),
+        [form, vertices, primitives] => Some((topology(*form)?, *vertices, *primitives)),
+        _ => None,
+    }
+}
+
 /// The output of a mesh shader.
 fn mesh_output(operands: &[u32]) -> Option<MeshStageInfo>
     ensures { result ≡ mesh_output_of operands.now }
 {
-    let [variable, vertex, primitive, vertices, primitives] = operands else {
+    let [
+        variable,
+        vertex,
+        primitive,
+        vertices,
+        primitives,
+        numbers @ ..,
+    ] = operands
+    else {
         return None;
     };
+    let (topology, max_vertices, max_primitives) = mesh_numbers(numbers)?;
     Some(MeshStageInfo {
+        topology,
+        max_vertices,
+        max_primitives,
         output_variable: handle(*variable)?,
         vertex_output_type: handle(*vertex)?,
         primitive_output_type: handle(*primitive)?,
         max_vertices_override: handle(*vertices),
         max_primitives_override: handle(*primitives),
     })
+}
+
+/// The stage of an entry point, and whether depths are tested early.
+fn entry_stage(operands: &[u32]) -> Option<EntryStage>
+    ensures { result ≡ entry_stage_of operands.now }
+{
+    let [of_stage, early] = operands else {
+        return None
+    };
+    Some(EntryStage {
+        stage: stage(*of_stage)?,
+        early_depth_test: early_depth_test(*early)?,
+    })
+}
+
+/// The sizes of a workgroup.
+fn workgroup_size(operands: &[u32]) -> Option<[u32; 3]>
+    ensures { result ≡ workgroup_size_of operands.now }
+{
+    let [x, y, z] = operands else { return None };
+    Some([*x, *y, *z])
 }
 
 /// What an item says that has neither a name nor a text and is no expression or mark.
@@ -126,6 +173,8 @@ fn plain_part(opcode: u8, operands: &[u32]) -> Option<Part>
         code::OP_WORKGROUP_SIZES => Some(Part::WorkgroupSizes(workgroup_sizes(operands)?)),
         code::OP_TASK_PAYLOAD => Some(Part::TaskPayload(only_handle(operands)?)),
         code::OP_MESH_OUTPUT => Some(Part::MeshOutput(mesh_output(operands)?)),
+        code::OP_STAGE => Some(Part::Stage(entry_stage(operands)?)),
+        code::OP_WORKGROUP_SIZE => Some(Part::WorkgroupSize(workgroup_size(operands)?)),
         _ => None,
     }
 }

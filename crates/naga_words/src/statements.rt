@@ -2,18 +2,18 @@
 
 ghost use Rattle.naga_words.specs.Operands.{handle_of, optional_of};
 ghost use Rattle.naga_words.specs.Reading.{read_by, reads_four, reads_none, reads_one, reads_three, reads_two};
-ghost use Rattle.naga_words.specs.Tables.{subgroup_operations};
 ghost use Rattle.naga_ir.specs.declared.statement.Statement.TheVariants as s;
-ghost use Rattle.naga_words.specs.Statements.{atomic_function_of, atomic_of, call_of, emit_of, fixed_statements, gather_mode_of, gather_of, image_atomic_of, ray_query_of, statement_of, step_of, trace_ray_of};
+ghost use Rattle.naga_words.specs.Statements.{atomic_function_of, atomic_of, barrier_of, call_of, collective_of, emit_of, fixed_statements, gather_mode_of, gather_of, image_atomic_of, ray_query_of, statement_of, step_of, trace_ray_of};
 ghost use Rattle.naga_draft.specs.declared.unread.Unread.TheVariants as unread;
-ghost use Rattle.std.specs.Prelude.{◌≡◌, IfErr, IfOk, None, Some, slice_get};
+ghost use Rattle.std.specs.Prelude.{◌≡◌, IfErr, IfOk, None, Some, option_map};
 
 use crate::opcodes as code;
 use crate::operands::{expressions, handle, subgroup_operation, zero};
+use crate::tables::{collective_operation, memory_of_barrier};
 use naga_draft::unread::{Unread, known};
 use naga_ir::range::Range;
 use naga_ir::statement::{
-    AtomicFunction, GatherMode, RayPipelineFunction, RayQueryFunction, Statement,
+    AtomicFunction, Barrier, GatherMode, RayPipelineFunction, RayQueryFunction, Statement,
 };
 use std::alloc::Global;
 
@@ -54,18 +54,27 @@ fn kill(operands: &[u32]) -> Option<Statement>
     Some(Statement::Kill)
 }
 
-fn control_barrier(operands: &[u32]) -> Option<Statement>
-    ensures { result ≡ reads_none s.ControlBarrier operands.now }
+/// The memory of a barrier.
+fn barrier(operands: &[u32]) -> Option<Barrier>
+    ensures { result ≡ barrier_of operands.now }
 {
-    let [] = operands else { return None };
-    Some(Statement::ControlBarrier)
+    match operands {
+        [] => Some(Barrier::WORK_GROUP),
+        [memory] => memory_of_barrier(*memory),
+        _ => None,
+    }
+}
+
+fn control_barrier(operands: &[u32]) -> Option<Statement>
+    ensures { result ≡ option_map s.ControlBarrier (barrier_of operands.now) }
+{
+    Some(Statement::ControlBarrier(barrier(operands)?))
 }
 
 fn memory_barrier(operands: &[u32]) -> Option<Statement>
-    ensures { result ≡ reads_none s.MemoryBarrier operands.now }
+    ensures { result ≡ option_map s.MemoryBarrier (barrier_of operands.now) }
 {
-    let [] = operands else { return None };
-    Some(Statement::MemoryBarrier)
+    Some(Statement::MemoryBarrier(barrier(operands)?))
 }
 
 fn store(operands: &[u32]) -> Option<Statement>
@@ -261,16 +270,18 @@ fn gather(operands: &[u32]) -> Option<Statement>
 }
 
 fn collective(operands: &[u32]) -> Option<Statement>
-    ensures { result ≡ reads_three (slice_get subgroup_operations) handle_of handle_of
-        s.SubgroupCollectiveOperation operands.now }
+    ensures { result ≡ collective_of operands.now }
 {
-    let [op, argument, made] = operands else {
-        return None
+    let (of_op, argument, made, of_collective) = match operands {
+        [op, argument, made] => (*op, *argument, *made, 0),
+        [op, argument, made, collective] => (*op, *argument, *made, *collective),
+        _ => return None,
     };
     Some(Statement::SubgroupCollectiveOperation {
-        op: subgroup_operation(*op)?,
-        argument: handle(*argument)?,
-        result: handle(*made)?,
+        op: subgroup_operation(of_op)?,
+        argument: handle(argument)?,
+        result: handle(made)?,
+        collective_op: collective_operation(of_collective)?,
     })
 }
 

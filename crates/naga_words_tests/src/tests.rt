@@ -190,7 +190,7 @@ const EXAMPLE: [u32; 25] = [
 ];
 
 /// Each item once at least: the 21 types, a function and an entry point with statements of every kind.
-const ALL: [u32; 426] = [
+const ALL: [u32; 443] = [
     0x101,
     0x3f,
     0x202,
@@ -402,6 +402,16 @@ const ALL: [u32; 426] = [
     0x0,
     0x0,
     0x2,
+    0x932,
+    u32::MAX,
+    0x4,
+    0x3,
+    0x12,
+    u32::MAX,
+    0x1,
+    0x2,
+    0x3,
+    0x1,
     0x304,
     u32::MAX,
     u32::MAX,
@@ -546,6 +556,13 @@ const ALL: [u32; 426] = [
     0x224,
     0x4,
     0x6e69616d,
+    0x230,
+    0x5,
+    0x0,
+    0x331,
+    0x8,
+    0x8,
+    0x1,
     0x32d,
     u32::MAX,
     0x0,

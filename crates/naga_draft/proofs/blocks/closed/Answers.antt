@@ -30,4 +30,4 @@ returns-in-Case-clause-closed c =
     let cases = c.in_ok-with_case-in-Case.field-0 in
     let s = statement.Switch c.in-Case.selector cases in
     let is : out-Statement s ≡ one.Switch c.in-Case.selector cases = search (rules, the_lemmas) in
-    subst (λ p. Closes (mark.End ∷ []) p c.args.block s) (sym c.in-Case.is) (closes-switch c.in-Case.selector c.in-Case.cases cases c.in-Case.fall_through c.args.block s is c.in_ok-with_case-in-Case.ensures.added)
+    subst (λ p. Closes (mark.End ∷ []) p c.args.block s) (sym c.in-Case.is) (closes-switch c.in-Case.selector c.in-Case.cases cases c.in-Case.head c.args.block s is c.in_ok-with_case-in-Case.ensures.added)

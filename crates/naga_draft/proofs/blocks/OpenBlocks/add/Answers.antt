@@ -30,7 +30,7 @@ pub returns-in-Switch-clause-refused : goal.returns-in-Switch-clause-refused
 returns-in-Switch-clause-refused c = begin-refused (mark.Switch c.in-Switch.selector) c.args.mark in_switch c.args.self.now c.begin-in-Switch.result c.in-Switch.is refl c.begin-in-Switch.ensures.refused
 
 pub returns-in-Case-clause-refused : goal.returns-in-Case-clause-refused
-returns-in-Case-clause-refused c = mark-refused (mark.Case c.in-Case.fall_through) c.args.mark c.args.self.now c.open_case.result c.in-Case.is c.open_case.ensures.refused
+returns-in-Case-clause-refused c = mark-refused (mark.Case c.in-Case.head) c.args.mark c.args.self.now c.open_case.result c.in-Case.is c.open_case.ensures.refused
 
 pub returns-in-Loop-clause-added : goal.returns-in-Loop-clause-added
 returns-in-Loop-clause-added c = λ marks read _. begin-added mark.Loop c.args.mark opener.Body c.args.self.now c.begin-in-Loop.new.self c.begin-in-Loop.result c.in-Loop.is refl refl c.begin-in-Loop.ensures.opened c.begin-in-Loop.ensures.room marks read

@@ -1,7 +1,7 @@
 use Rattle.std.proofs.Common.{subst}
 use Rattle.std.proofs.lemmas.Result.{IfErr-weaker, IfOk-weaker}
 use Rattle.naga_draft.specs.OpenFunctions.{SaysNoBlocks}
-use Rattle.naga_draft.proofs.FunctionLaws.{argument_added, as_part, expression_added, expression_refused, filter_added, filter_refused, mark_added, mark_refused, mesh_added, mesh_misplaced, mesh_refused, name_added, not_part, payload_added, payload_misplaced, payload_refused, result_added, result_refused, sizes_added, sizes_misplaced, sizes_refused, variable_added, variable_refused}
+use Rattle.naga_draft.proofs.FunctionLaws.{argument_added, as_part, expression_added, expression_refused, filter_added, filter_refused, mark_added, mark_refused, mesh_added, mesh_misplaced, mesh_refused, name_added, not_part, payload_added, payload_misplaced, payload_refused, result_added, result_refused, size_added, size_misplaced, size_refused, sizes_added, sizes_misplaced, sizes_refused, stage_added, stage_misplaced, stage_refused, variable_added, variable_refused}
 use Rattle.naga_draft.proofs.SaidLaws.{both_ok}
 use Rattle.naga_draft.proofs.functions.OpenFunction.add.Goals as goal
 
@@ -51,27 +51,51 @@ returns-in-None-clause-refused c = λ head parts h item later.
 
 pub returns-in-Some-entry-clause-added : goal.returns-in-Some-entry-clause-added
 returns-in-Some-entry-clause-added c = λ head parts h plain.
-    both_ok c.set_once-in-Some-entry.result _ _ _ (λ _ none set. as_part head parts _ _ _ c.in-TaskPayload.is (payload_added head parts c.args.self.now h c.in-Some-entry.entry c.in-TaskPayload.payload c.set_once-in-Some-entry.new.slot c.in-Some-entry.is none set)) c.set_once-in-Some-entry.ensures.first c.set_once-in-Some-entry.ensures.set
+    both_ok c.set_once-in-Some-entry.result _ _ _ (λ _ none set. as_part head parts _ _ _ c.in-Stage.is (stage_added head parts c.args.self.now h c.in-Some-entry.entry c.in-Stage.stage c.set_once-in-Some-entry.new.slot c.in-Some-entry.is none set)) c.set_once-in-Some-entry.ensures.first c.set_once-in-Some-entry.ensures.set
 
 pub returns-in-Some-entry-clause-refused : goal.returns-in-Some-entry-clause-refused
 returns-in-Some-entry-clause-refused c = λ head parts h.
-    IfErr-weaker c.set_once-in-Some-entry.result _ _ (λ e again item later. not_part head parts _ _ later c.in-TaskPayload.is (payload_refused head parts c.args.self.now h c.in-Some-entry.entry c.in-TaskPayload.payload c.in-Some-entry.is again later)) c.set_once-in-Some-entry.ensures.again
+    IfErr-weaker c.set_once-in-Some-entry.result _ _ (λ e again item later. not_part head parts _ _ later c.in-Stage.is (stage_refused head parts c.args.self.now h c.in-Some-entry.entry c.in-Stage.stage c.in-Some-entry.is again later)) c.set_once-in-Some-entry.ensures.again
 
 pub returns-in-None-entry-clause-refused : goal.returns-in-None-entry-clause-refused
 returns-in-None-entry-clause-refused c = λ head parts h item later.
-    not_part head parts _ _ later c.in-TaskPayload.is (payload_misplaced head parts c.args.self.now h c.in-TaskPayload.payload c.in-None-entry.is later)
+    not_part head parts _ _ later c.in-Stage.is (stage_misplaced head parts c.args.self.now h c.in-Stage.stage c.in-None-entry.is later)
 
 pub returns-in-Some-entry-2-clause-added : goal.returns-in-Some-entry-2-clause-added
 returns-in-Some-entry-2-clause-added c = λ head parts h plain.
-    both_ok c.set_once-in-Some-entry-2.result _ _ _ (λ _ none set. as_part head parts _ _ _ c.in-MeshOutput.is (mesh_added head parts c.args.self.now h c.in-Some-entry-2.entry c.in-MeshOutput.mesh c.set_once-in-Some-entry-2.new.slot c.in-Some-entry-2.is none set)) c.set_once-in-Some-entry-2.ensures.first c.set_once-in-Some-entry-2.ensures.set
+    both_ok c.set_once-in-Some-entry-2.result _ _ _ (λ _ none set. as_part head parts _ _ _ c.in-WorkgroupSize.is (size_added head parts c.args.self.now h c.in-Some-entry-2.entry c.in-WorkgroupSize.size c.set_once-in-Some-entry-2.new.slot c.in-Some-entry-2.is none set)) c.set_once-in-Some-entry-2.ensures.first c.set_once-in-Some-entry-2.ensures.set
 
 pub returns-in-Some-entry-2-clause-refused : goal.returns-in-Some-entry-2-clause-refused
 returns-in-Some-entry-2-clause-refused c = λ head parts h.
-    IfErr-weaker c.set_once-in-Some-entry-2.result _ _ (λ e again item later. not_part head parts _ _ later c.in-MeshOutput.is (mesh_refused head parts c.args.self.now h c.in-Some-entry-2.entry c.in-MeshOutput.mesh c.in-Some-entry-2.is again later)) c.set_once-in-Some-entry-2.ensures.again
+    IfErr-weaker c.set_once-in-Some-entry-2.result _ _ (λ e again item later. not_part head parts _ _ later c.in-WorkgroupSize.is (size_refused head parts c.args.self.now h c.in-Some-entry-2.entry c.in-WorkgroupSize.size c.in-Some-entry-2.is again later)) c.set_once-in-Some-entry-2.ensures.again
 
 pub returns-in-None-entry-2-clause-refused : goal.returns-in-None-entry-2-clause-refused
 returns-in-None-entry-2-clause-refused c = λ head parts h item later.
-    not_part head parts _ _ later c.in-MeshOutput.is (mesh_misplaced head parts c.args.self.now h c.in-MeshOutput.mesh c.in-None-entry-2.is later)
+    not_part head parts _ _ later c.in-WorkgroupSize.is (size_misplaced head parts c.args.self.now h c.in-WorkgroupSize.size c.in-None-entry-2.is later)
+
+pub returns-in-Some-entry-3-clause-added : goal.returns-in-Some-entry-3-clause-added
+returns-in-Some-entry-3-clause-added c = λ head parts h plain.
+    both_ok c.set_once-in-Some-entry-3.result _ _ _ (λ _ none set. as_part head parts _ _ _ c.in-TaskPayload.is (payload_added head parts c.args.self.now h c.in-Some-entry-3.entry c.in-TaskPayload.payload c.set_once-in-Some-entry-3.new.slot c.in-Some-entry-3.is none set)) c.set_once-in-Some-entry-3.ensures.first c.set_once-in-Some-entry-3.ensures.set
+
+pub returns-in-Some-entry-3-clause-refused : goal.returns-in-Some-entry-3-clause-refused
+returns-in-Some-entry-3-clause-refused c = λ head parts h.
+    IfErr-weaker c.set_once-in-Some-entry-3.result _ _ (λ e again item later. not_part head parts _ _ later c.in-TaskPayload.is (payload_refused head parts c.args.self.now h c.in-Some-entry-3.entry c.in-TaskPayload.payload c.in-Some-entry-3.is again later)) c.set_once-in-Some-entry-3.ensures.again
+
+pub returns-in-None-entry-3-clause-refused : goal.returns-in-None-entry-3-clause-refused
+returns-in-None-entry-3-clause-refused c = λ head parts h item later.
+    not_part head parts _ _ later c.in-TaskPayload.is (payload_misplaced head parts c.args.self.now h c.in-TaskPayload.payload c.in-None-entry-3.is later)
+
+pub returns-in-Some-entry-4-clause-added : goal.returns-in-Some-entry-4-clause-added
+returns-in-Some-entry-4-clause-added c = λ head parts h plain.
+    both_ok c.set_once-in-Some-entry-4.result _ _ _ (λ _ none set. as_part head parts _ _ _ c.in-MeshOutput.is (mesh_added head parts c.args.self.now h c.in-Some-entry-4.entry c.in-MeshOutput.mesh c.set_once-in-Some-entry-4.new.slot c.in-Some-entry-4.is none set)) c.set_once-in-Some-entry-4.ensures.first c.set_once-in-Some-entry-4.ensures.set
+
+pub returns-in-Some-entry-4-clause-refused : goal.returns-in-Some-entry-4-clause-refused
+returns-in-Some-entry-4-clause-refused c = λ head parts h.
+    IfErr-weaker c.set_once-in-Some-entry-4.result _ _ (λ e again item later. not_part head parts _ _ later c.in-MeshOutput.is (mesh_refused head parts c.args.self.now h c.in-Some-entry-4.entry c.in-MeshOutput.mesh c.in-Some-entry-4.is again later)) c.set_once-in-Some-entry-4.ensures.again
+
+pub returns-in-None-entry-4-clause-refused : goal.returns-in-None-entry-4-clause-refused
+returns-in-None-entry-4-clause-refused c = λ head parts h item later.
+    not_part head parts _ _ later c.in-MeshOutput.is (mesh_misplaced head parts c.args.self.now h c.in-MeshOutput.mesh c.in-None-entry-4.is later)
 
 pub returns-in-Expression-clause-added : goal.returns-in-Expression-clause-added
 returns-in-Expression-clause-added c = λ head parts h plain.
