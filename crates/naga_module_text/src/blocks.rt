@@ -1,9 +1,10 @@
 //! The blocks of a function's body while their lines are read.
 
+use crate::cases::case_head;
 use crate::items::{MOST_WORDS, only_handle};
 use crate::statements::statement;
 use naga_draft::draft::Draft;
-use naga_draft::item::{Item, Mark, Part};
+use naga_draft::item::{CaseHead, Item, Mark, Part};
 use naga_draft::unread::{Unread, known};
 use naga_ir::handle::Handle;
 use naga_ir::tags::ExpressionTag;
@@ -86,7 +87,13 @@ impl OpenBlocks {
     fn open(&mut self, draft: &mut Draft, block: OpenBlock, mark: Mark) -> Result<(), Unread> {
         if !self.takes_statements() {
             // The line that ends such a block can't be read, so that this case is in no module.
-            add_mark(draft, Mark::Case(false))?;
+            add_mark(
+                draft,
+                Mark::Case(CaseHead {
+                    value: None,
+                    fall_through: false,
+                }),
+            )?;
         }
         add_mark(draft, mark)?;
         self.open.push(block)?;
@@ -149,7 +156,10 @@ impl OpenBlocks {
                 let selector = known(only_handle(words))?;
                 self.open(draft, OpenBlock::Switch, Mark::Switch(selector))
             }
-            (BlockWord::Case, []) => self.replace(draft, OpenBlock::Case, Mark::Case(false)),
+            (BlockWord::Case, _) => {
+                let head = known(case_head(words))?;
+                self.replace(draft, OpenBlock::Case, Mark::Case(head))
+            }
             (BlockWord::Loop, []) => self.open(draft, OpenBlock::Body, Mark::Loop),
             (BlockWord::Continuing, []) => {
                 self.replace(draft, OpenBlock::Continuing, Mark::Continuing)

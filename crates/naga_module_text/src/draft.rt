@@ -1,13 +1,16 @@
 //! A module, and how it is validated, while lines are read.
 
+use crate::bindings::resource_of;
 use crate::declarations::{Callable, Declarations};
+use crate::entry_points::{EntryHead, entry_head};
 use crate::forms::expression;
 use crate::functions::{OpenFunction, PartWord, part_word_of};
 use crate::items::{MOST_WORDS, only_handle, only_word};
 use crate::settings::{Settings, capabilities_of, flags_of};
+use crate::types::{address_space, type_inner};
 use bitflags::Flags;
 use naga_draft::draft::{Contents, Draft as ItemDraft};
-use naga_draft::item::{Commented, Item};
+use naga_draft::item::{Commented, Item, Part};
 use naga_draft::unread::{Unread, known};
 use naga_flags::flags::ShaderStages;
 use naga_ir::handle::Handle;
@@ -16,11 +19,11 @@ use naga_ir::memory::OutOfMemory;
 use naga_ir::span::Span;
 use naga_ir::tags::{DiagnosticFilterNodeTag, TypeTag};
 use naga_ir::text::Text;
-use naga_ir::types::Type;
+use naga_ir::types::{Type, TypeInner};
 use naga_text::line::{FixedLine, Line, read_line_after};
 use naga_text::line_words::LineWords;
 use naga_text::number::{handle, index, number_up_to, optional_handle};
-use naga_text::words::{chosen, equals, space};
+use naga_text::words::{chosen, equals};
 use std::alloc::Global;
 
 /// What a line with a fixed number of words adds to a module, if the line text doesn't have it.
@@ -81,14 +84,19 @@ fn stages(words: &[&[u8]]) -> Option<ShaderStages> {
     Some(ShaderStages::from_bits_retain(u16::try_from(bits).ok()?))
 }
 
-/// `S T E|-`
+/// `S T E|- [G:B] [coherent] [volatile]`
 fn global_variable(words: &[&[u8]], name: Option<Text>) -> Option<GlobalVariable> {
-    let [of, ty, init] = words else { return None };
+    let [of, ty, init, rest @ ..] = words else {
+        return None;
+    };
+    let resource = resource_of(rest)?;
     Some(GlobalVariable {
         name,
-        space: space(of)?,
+        space: address_space(of)?,
+        binding: resource.binding,
         ty: handle(ty)?,
         init: optional_handle(init)?,
+        memory_decorations: resource.memory_decorations,
     })
 }
 
@@ -196,13 +204,16 @@ impl LineReader {
         }
     }
 
+    /// The item of a type.
+    fn type_of(&mut self, inner: TypeInner) -> Item {
+        let name = self.name.take();
+        Item::Type_(Type { name, inner })
+    }
+
     /// The item of a line of the line text.
     fn item_of(&mut self, line: Line) -> Item {
         match line {
-            Line::Type_(inner) => {
-                let name = self.name.take();
-                Item::Type_(Type { name, inner })
-            }
+            Line::Type_(inner) => self.type_of(inner),
             Line::Expression(expression) => Item::Expression(expression),
             Line::Fixed(line) => self.item_of_fixed(line),
         }
@@ -237,17 +248,31 @@ impl LineReader {
         Ok(())
     }
 
-    /// `entry`
-    fn open_entry_point(&mut self, words: &[&[u8]]) -> Result<(), Unread> {
-        if !words.is_empty() {
-            return Err(Unread::Item);
+    /// Adds what the line that begins an entry point says of it.
+    fn add_head(&mut self, head: EntryHead) -> Result<(), Unread> {
+        let EntryHead {
+            stage,
+            workgroup_size,
+        } = head;
+        if stage.stage.is_some() || stage.early_depth_test.is_some() {
+            self.draft.add(Item::Part(Part::Stage(stage)))?;
         }
+        match workgroup_size {
+            Some(size) => self.draft.add(Item::Part(Part::WorkgroupSize(size))),
+            None => Ok(()),
+        }
+    }
+
+    /// `entry [STAGE|- [X Y Z] [EARLY]]`
+    fn open_entry_point(&mut self, words: &[&[u8]]) -> Result<(), Unread> {
+        let head = known(entry_head(words))?;
         self.close_function()?;
         let name = match self.name.take() {
             Some(name) => name,
             None => Text::new(self.alloc),
         };
         self.draft.add(Item::EntryPoint(name))?;
+        self.add_head(head)?;
         self.open = Some(OpenFunction::new(self.alloc, true, self.has_stand_ins));
         Ok(())
     }
@@ -328,6 +353,11 @@ impl LineReader {
             _ if equals(first, b"s") => {
                 let open = known(self.open.as_mut())?;
                 open.add_statement(&mut self.draft, &mut words)
+            }
+            _ if equals(first, b"type") => {
+                let inner = type_inner(self.alloc, &mut words)?;
+                let item = self.type_of(inner);
+                self.draft.add(item)
             }
             _ if equals(first, b"g") => self.add_global_expression(&mut words),
             _ if equals(first, b"others") => self.add_other_types(&mut words),

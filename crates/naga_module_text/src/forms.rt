@@ -4,14 +4,14 @@ use crate::items::{MOST_WORDS, at_colon, only_handle, only_word};
 use crate::tables::math_function;
 use naga_draft::unread::{Unread, known};
 use naga_ir::expression::{
-    Expression, ImageQuery, RelationalFunction, SampleLevel, SwizzleComponent,
+    CooperativeShape, Expression, ImageQuery, RelationalFunction, SampleLevel, SwizzleComponent,
 };
 use naga_ir::handle::Handle;
 use naga_ir::tags::ExpressionTag;
 use naga_text::expressions::{compose, fixed_expression};
 use naga_text::line_words::LineWords;
 use naga_text::number::{handle, number, number_up_to, optional_handle};
-use naga_text::words::{boolean, chosen, equals, kind, size};
+use naga_text::words::{boolean, chosen, cooperative_size, equals, kind, role, size};
 use std::alloc::Global;
 
 /// The component of the letter `x`, `y`, `z` or `w`.
@@ -272,12 +272,26 @@ fn vertex_positions(words: &[&[u8]]) -> Option<Expression> {
     Some(Expression::RayQueryVertexPositions { query, committed })
 }
 
-/// `coopload E E`
+/// `[C R ROLE]`: what a cooperative matrix is, if that is said
+fn cooperative_shape(words: &[&[u8]]) -> Option<Option<CooperativeShape>> {
+    match words {
+        [] => Some(None),
+        [columns, rows, of] => Some(Some(CooperativeShape {
+            columns: cooperative_size(columns)?,
+            rows: cooperative_size(rows)?,
+            role: role(of)?,
+        })),
+        _ => None,
+    }
+}
+
+/// `coopload E E [C R ROLE]`
 fn cooperative_load(words: &[&[u8]]) -> Option<Expression> {
-    let [pointer, stride] = words else {
-        return None
+    let [pointer, stride, shape @ ..] = words else {
+        return None;
     };
     Some(Expression::CooperativeLoad {
+        shape: cooperative_shape(shape)?,
         pointer: handle(pointer)?,
         stride: handle(stride)?,
     })

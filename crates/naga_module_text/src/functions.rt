@@ -1,7 +1,9 @@
 //! A function or entry point while its lines are read.
 
+use crate::bindings::binding;
 use crate::blocks::OpenBlocks;
 use crate::declarations::Declared;
+use crate::entry_points::{mesh_info, workgroup_sizes};
 use crate::forms::expression;
 use crate::items::only_handle;
 use naga_draft::draft::Draft;
@@ -9,9 +11,10 @@ use naga_draft::item::{Item, Part};
 use naga_draft::unread::{Unread, known};
 use naga_ir::expression::{Expression, Literal};
 use naga_ir::handle::Handle;
-use naga_ir::ir::{FunctionArgument, FunctionResult, LocalVariable, MOST_ITEMS, MeshStageInfo};
-use naga_ir::tags::{ExpressionTag, TypeTag};
+use naga_ir::ir::{FunctionArgument, FunctionResult, LocalVariable, MOST_ITEMS};
+use naga_ir::tags::TypeTag;
 use naga_ir::text::Text;
+use naga_ir::types::Binding;
 use naga_text::line_words::LineWords;
 use naga_text::number::{handle, optional_handle};
 use naga_text::words::chosen;
@@ -45,28 +48,10 @@ pub fn part_word_of(word: &[u8]) -> Option<PartWord> {
     chosen(&parts, word)
 }
 
-/// `E|- E|- E|-`
-fn workgroup_sizes(words: &[&[u8]]) -> Option<[Option<Handle<ExpressionTag>>; 3]> {
-    let [x, y, z] = words else { return None };
-    Some([
-        optional_handle(x)?,
-        optional_handle(y)?,
-        optional_handle(z)?,
-    ])
-}
-
-/// `V T T E|- E|-`
-fn mesh_info(words: &[&[u8]]) -> Option<MeshStageInfo> {
-    let [variable, vertex, primitive, vertices, primitives] = words else {
-        return None;
-    };
-    Some(MeshStageInfo {
-        output_variable: handle(variable)?,
-        vertex_output_type: handle(vertex)?,
-        primitive_output_type: handle(primitive)?,
-        max_vertices_override: optional_handle(vertices)?,
-        max_primitives_override: optional_handle(primitives)?,
-    })
+/// `T [BINDING]`
+fn bound_type(words: &[&[u8]]) -> Option<(Handle<TypeTag>, Option<Binding>)> {
+    let (ty, rest) = words.split_first()?;
+    Some((handle(ty)?, binding(rest)?))
 }
 
 /// `local T E|-`
@@ -151,16 +136,15 @@ impl OpenFunction {
         }
     }
 
-    /// `arg T`
+    /// `arg T [BINDING]`
     fn add_argument(
         &mut self,
         draft: &mut Draft,
         words: &[&[u8]],
         name: Option<Text>,
     ) -> Result<(), Unread> {
-        let ty = known(only_handle(words))?;
+        let (ty, binding) = known(bound_type(words))?;
         self.argument_count = self.argument_count.saturating_add(1);
-        let binding = None;
         add_part(
             draft,
             Part::Argument(FunctionArgument { name, ty, binding }),
@@ -215,9 +199,8 @@ impl OpenFunction {
             PartWord::Argument => self.add_argument(draft, words, name)?,
             PartWord::Local => add_part(draft, known(local_variable(words, name))?)?,
             PartWord::Result => {
-                let ty = known(only_handle(words))?;
-                let result = FunctionResult { ty, binding: None };
-                self.last.result = Some(Part::Result(result));
+                let (ty, binding) = known(bound_type(words))?;
+                self.last.result = Some(Part::Result(FunctionResult { ty, binding }));
             }
             PartWord::Named => {
                 let named = known(only_handle(words))?;

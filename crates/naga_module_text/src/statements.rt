@@ -4,10 +4,11 @@ use crate::items::{MOST_WORDS, at_colon, expressions};
 use naga_draft::unread::{Unread, known};
 use naga_ir::range::Range;
 use naga_ir::statement::{
-    AtomicFunction, GatherMode, RayPipelineFunction, RayQueryFunction, Statement, SubgroupOperation,
+    AtomicFunction, Barrier, CollectiveOperation, GatherMode, RayPipelineFunction,
+    RayQueryFunction, Statement, SubgroupOperation,
 };
 use naga_text::line_words::LineWords;
-use naga_text::number::{handle, number, optional_handle};
+use naga_text::number::{handle, number, number_up_to, optional_handle};
 use naga_text::words::{chosen, equals};
 use std::alloc::Global;
 
@@ -24,6 +25,56 @@ fn alone(statement: Statement, words: &[&[u8]]) -> Option<Statement> {
 fn emit(words: &[&[u8]]) -> Option<Statement> {
     let [start, end] = words else { return None };
     Some(Statement::Emit(Range::new(number(start)?, number(end)?)))
+}
+
+/// A barrier for one kind of memory more, by its name.
+fn with_memory(barrier: Barrier, name: &[u8]) -> Option<Barrier> {
+    match name {
+        _ if equals(name, b"storage") => Some(Barrier {
+            storage: true,
+            ..barrier
+        }),
+        _ if equals(name, b"workgroup") => Some(Barrier {
+            work_group: true,
+            ..barrier
+        }),
+        _ if equals(name, b"subgroup") => Some(Barrier {
+            sub_group: true,
+            ..barrier
+        }),
+        _ if equals(name, b"texture") => Some(Barrier {
+            texture: true,
+            ..barrier
+        }),
+        _ => None,
+    }
+}
+
+/// The barrier of a number: the sum of 1 storage, 2 workgroup, 4 subgroup and 8 texture.
+fn numbered_barrier(bits: u64) -> Barrier {
+    Barrier {
+        storage: bits % 2 == 1,
+        work_group: bits / 2 % 2 == 1,
+        sub_group: bits / 4 % 2 == 1,
+        texture: bits / 8 % 2 == 1,
+    }
+}
+
+/// `[FLAGS]`, a number or names with commas between them; the workgroup alone without it
+fn barrier(words: &[&[u8]]) -> Option<Barrier> {
+    let word = match words {
+        [] => return Some(Barrier::WORK_GROUP),
+        [word] => word,
+        _ => return None,
+    };
+    if let Some(bits) = number_up_to(word, 15) {
+        return Some(numbered_barrier(bits));
+    }
+    let mut all = numbered_barrier(0);
+    for name in word.split(|byte| *byte == b',') {
+        all = with_memory(all, name)?;
+    }
+    Some(all)
 }
 
 /// `return E|-`
@@ -207,15 +258,30 @@ fn subgroup_operation(word: &[u8]) -> Option<SubgroupOperation> {
     chosen(&operations, word)
 }
 
-/// `collective ARGUMENT RESULT [OPERATION]`, which adds unless a word says otherwise
+/// `reduce`, `inclusive` or `exclusive`
+fn collective_operation(word: &[u8]) -> Option<CollectiveOperation> {
+    let operations = [
+        ("reduce", CollectiveOperation::Reduce),
+        ("inclusive", CollectiveOperation::InclusiveScan),
+        ("exclusive", CollectiveOperation::ExclusiveScan),
+    ];
+    chosen(&operations, word)
+}
+
+/// `collective ARGUMENT RESULT [OPERATION [HOW]]`, which adds the values of all invocations unless words say otherwise
 fn collective(words: &[&[u8]]) -> Option<Statement> {
-    let (argument, made, op) = match words {
-        [argument, made] => (argument, made, SubgroupOperation::Add),
-        [argument, made, op] => (argument, made, subgroup_operation(op)?),
+    let [argument, made, rest @ ..] = words else {
+        return None;
+    };
+    let (op, collective_op) = match rest {
+        [] => (SubgroupOperation::Add, CollectiveOperation::Reduce),
+        [op] => (subgroup_operation(op)?, CollectiveOperation::Reduce),
+        [op, how] => (subgroup_operation(op)?, collective_operation(how)?),
         _ => return None,
     };
     Some(Statement::SubgroupCollectiveOperation {
         op,
+        collective_op,
         argument: handle(argument)?,
         result: handle(made)?,
     })
@@ -309,8 +375,8 @@ fn fixed_statement(word: &[u8], words: &[&[u8]]) -> Option<Statement> {
         _ if equals(word, b"break") => alone(Statement::Break, words),
         _ if equals(word, b"continue") => alone(Statement::Continue, words),
         _ if equals(word, b"kill") => alone(Statement::Kill, words),
-        _ if equals(word, b"barrier") => alone(Statement::ControlBarrier, words),
-        _ if equals(word, b"membarrier") => alone(Statement::MemoryBarrier, words),
+        _ if equals(word, b"barrier") => Some(Statement::ControlBarrier(barrier(words)?)),
+        _ if equals(word, b"membarrier") => Some(Statement::MemoryBarrier(barrier(words)?)),
         _ if equals(word, b"return") => return_statement(words),
         _ if equals(word, b"store") => store(words),
         _ if equals(word, b"imagestore") => image_store(words),

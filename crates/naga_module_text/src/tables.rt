@@ -1,10 +1,12 @@
-//! The words of mathematical functions.
+//! The words of mathematical functions, of built-in values and of formats.
 
+use naga_ir::built_in::BuiltIn;
 use naga_ir::expression::MathFunction;
+use naga_ir::storage_format::StorageFormat;
 use naga_text::words::chosen;
 
 /// Mathematical functions, by their names in lower case.
-const MATH_FUNCTIONS: [(&str, MathFunction); 58] = [
+const MATH_FUNCTIONS: [(&str, MathFunction); 79] = [
     ("abs", MathFunction::Abs),
     ("min", MathFunction::Min),
     ("max", MathFunction::Max),
@@ -30,12 +32,18 @@ const MATH_FUNCTIONS: [(&str, MathFunction); 58] = [
     ("round", MathFunction::Round),
     ("fract", MathFunction::Fract),
     ("trunc", MathFunction::Trunc),
+    ("modf", MathFunction::Modf),
+    ("frexp", MathFunction::Frexp),
+    ("ldexp", MathFunction::Ldexp),
     ("exp", MathFunction::Exp),
     ("exp2", MathFunction::Exp2),
     ("log", MathFunction::Log),
     ("log2", MathFunction::Log2),
     ("pow", MathFunction::Pow),
     ("dot", MathFunction::Dot),
+    ("dot4i8packed", MathFunction::Dot4I8Packed),
+    ("dot4u8packed", MathFunction::Dot4U8Packed),
+    ("outer", MathFunction::Outer),
     ("cross", MathFunction::Cross),
     ("distance", MathFunction::Distance),
     ("length", MathFunction::Length),
@@ -50,6 +58,7 @@ const MATH_FUNCTIONS: [(&str, MathFunction); 58] = [
     ("smoothstep", MathFunction::SmoothStep),
     ("sqrt", MathFunction::Sqrt),
     ("inversesqrt", MathFunction::InverseSqrt),
+    ("inverse", MathFunction::Inverse),
     ("transpose", MathFunction::Transpose),
     ("determinant", MathFunction::Determinant),
     ("quantizetof16", MathFunction::QuantizeToF16),
@@ -61,11 +70,133 @@ const MATH_FUNCTIONS: [(&str, MathFunction); 58] = [
     ("insertbits", MathFunction::InsertBits),
     ("firsttrailingbit", MathFunction::FirstTrailingBit),
     ("firstleadingbit", MathFunction::FirstLeadingBit),
+    ("pack4x8snorm", MathFunction::Pack4x8snorm),
+    ("pack4x8unorm", MathFunction::Pack4x8unorm),
+    ("pack2x16snorm", MathFunction::Pack2x16snorm),
+    ("pack2x16unorm", MathFunction::Pack2x16unorm),
     ("pack2x16float", MathFunction::Pack2x16float),
+    ("pack4xi8", MathFunction::Pack4xI8),
+    ("pack4xu8", MathFunction::Pack4xU8),
+    ("pack4xi8clamp", MathFunction::Pack4xI8Clamp),
+    ("pack4xu8clamp", MathFunction::Pack4xU8Clamp),
+    ("unpack4x8snorm", MathFunction::Unpack4x8snorm),
+    ("unpack4x8unorm", MathFunction::Unpack4x8unorm),
+    ("unpack2x16snorm", MathFunction::Unpack2x16snorm),
+    ("unpack2x16unorm", MathFunction::Unpack2x16unorm),
     ("unpack2x16float", MathFunction::Unpack2x16float),
+    ("unpack4xi8", MathFunction::Unpack4xI8),
+    ("unpack4xu8", MathFunction::Unpack4xU8),
 ];
 
 /// The mathematical function of a word.
 pub fn math_function(word: &[u8]) -> Option<MathFunction> {
     chosen(&MATH_FUNCTIONS, word)
+}
+
+/// Built-in values, by their names in lower case, of those with a flag the one without it.
+const BUILT_INS: [(&str, BuiltIn); 49] = [
+    ("position", BuiltIn::Position { invariant: false }),
+    ("viewindex", BuiltIn::ViewIndex),
+    ("baseinstance", BuiltIn::BaseInstance),
+    ("basevertex", BuiltIn::BaseVertex),
+    ("clipdistances", BuiltIn::ClipDistances),
+    ("culldistance", BuiltIn::CullDistance),
+    ("instanceindex", BuiltIn::InstanceIndex),
+    ("pointsize", BuiltIn::PointSize),
+    ("vertexindex", BuiltIn::VertexIndex),
+    ("drawindex", BuiltIn::DrawIndex),
+    ("fragdepth", BuiltIn::FragDepth),
+    ("pointcoord", BuiltIn::PointCoord),
+    ("frontfacing", BuiltIn::FrontFacing),
+    ("primitiveindex", BuiltIn::PrimitiveIndex),
+    ("barycentric", BuiltIn::Barycentric { perspective: false }),
+    ("sampleindex", BuiltIn::SampleIndex),
+    ("samplemask", BuiltIn::SampleMask),
+    ("globalinvocationid", BuiltIn::GlobalInvocationId),
+    ("localinvocationid", BuiltIn::LocalInvocationId),
+    ("localinvocationindex", BuiltIn::LocalInvocationIndex),
+    ("workgroupid", BuiltIn::WorkGroupId),
+    ("workgroupsize", BuiltIn::WorkGroupSize),
+    ("numworkgroups", BuiltIn::NumWorkGroups),
+    ("numsubgroups", BuiltIn::NumSubgroups),
+    ("subgroupid", BuiltIn::SubgroupId),
+    ("subgroupsize", BuiltIn::SubgroupSize),
+    ("subgroupinvocationid", BuiltIn::SubgroupInvocationId),
+    ("meshtasksize", BuiltIn::MeshTaskSize),
+    ("cullprimitive", BuiltIn::CullPrimitive),
+    ("pointindex", BuiltIn::PointIndex),
+    ("lineindices", BuiltIn::LineIndices),
+    ("triangleindices", BuiltIn::TriangleIndices),
+    ("vertexcount", BuiltIn::VertexCount),
+    ("vertices", BuiltIn::Vertices),
+    ("primitivecount", BuiltIn::PrimitiveCount),
+    ("primitives", BuiltIn::Primitives),
+    ("rayinvocationid", BuiltIn::RayInvocationId),
+    ("numrayinvocations", BuiltIn::NumRayInvocations),
+    ("instancecustomdata", BuiltIn::InstanceCustomData),
+    ("geometryindex", BuiltIn::GeometryIndex),
+    ("worldrayorigin", BuiltIn::WorldRayOrigin),
+    ("worldraydirection", BuiltIn::WorldRayDirection),
+    ("objectrayorigin", BuiltIn::ObjectRayOrigin),
+    ("objectraydirection", BuiltIn::ObjectRayDirection),
+    ("raytmin", BuiltIn::RayTmin),
+    ("raytcurrentmax", BuiltIn::RayTCurrentMax),
+    ("objecttoworld", BuiltIn::ObjectToWorld),
+    ("worldtoobject", BuiltIn::WorldToObject),
+    ("hitkind", BuiltIn::HitKind),
+];
+
+/// The built-in value of a word, without its flag.
+pub fn built_in_named(word: &[u8]) -> Option<BuiltIn> {
+    chosen(&BUILT_INS, word)
+}
+
+/// Formats of storage images, by their names in lower case.
+const STORAGE_FORMATS: [(&str, StorageFormat); 41] = [
+    ("r8unorm", StorageFormat::R8Unorm),
+    ("r8snorm", StorageFormat::R8Snorm),
+    ("r8uint", StorageFormat::R8Uint),
+    ("r8sint", StorageFormat::R8Sint),
+    ("r16uint", StorageFormat::R16Uint),
+    ("r16sint", StorageFormat::R16Sint),
+    ("r16float", StorageFormat::R16Float),
+    ("rg8unorm", StorageFormat::Rg8Unorm),
+    ("rg8snorm", StorageFormat::Rg8Snorm),
+    ("rg8uint", StorageFormat::Rg8Uint),
+    ("rg8sint", StorageFormat::Rg8Sint),
+    ("r32uint", StorageFormat::R32Uint),
+    ("r32sint", StorageFormat::R32Sint),
+    ("r32float", StorageFormat::R32Float),
+    ("rg16uint", StorageFormat::Rg16Uint),
+    ("rg16sint", StorageFormat::Rg16Sint),
+    ("rg16float", StorageFormat::Rg16Float),
+    ("rgba8unorm", StorageFormat::Rgba8Unorm),
+    ("rgba8snorm", StorageFormat::Rgba8Snorm),
+    ("rgba8uint", StorageFormat::Rgba8Uint),
+    ("rgba8sint", StorageFormat::Rgba8Sint),
+    ("bgra8unorm", StorageFormat::Bgra8Unorm),
+    ("rgb10a2uint", StorageFormat::Rgb10a2Uint),
+    ("rgb10a2unorm", StorageFormat::Rgb10a2Unorm),
+    ("rg11b10ufloat", StorageFormat::Rg11b10Ufloat),
+    ("r64uint", StorageFormat::R64Uint),
+    ("rg32uint", StorageFormat::Rg32Uint),
+    ("rg32sint", StorageFormat::Rg32Sint),
+    ("rg32float", StorageFormat::Rg32Float),
+    ("rgba16uint", StorageFormat::Rgba16Uint),
+    ("rgba16sint", StorageFormat::Rgba16Sint),
+    ("rgba16float", StorageFormat::Rgba16Float),
+    ("rgba32uint", StorageFormat::Rgba32Uint),
+    ("rgba32sint", StorageFormat::Rgba32Sint),
+    ("rgba32float", StorageFormat::Rgba32Float),
+    ("r16unorm", StorageFormat::R16Unorm),
+    ("r16snorm", StorageFormat::R16Snorm),
+    ("rg16unorm", StorageFormat::Rg16Unorm),
+    ("rg16snorm", StorageFormat::Rg16Snorm),
+    ("rgba16unorm", StorageFormat::Rgba16Unorm),
+    ("rgba16snorm", StorageFormat::Rgba16Snorm),
+];
+
+/// The format of a word.
+pub fn storage_format(word: &[u8]) -> Option<StorageFormat> {
+    chosen(&STORAGE_FORMATS, word)
 }

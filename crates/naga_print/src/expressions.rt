@@ -2,11 +2,12 @@
 
 ghost use Rattle.std.specs.Prelude.{◌<◌};
 
-use crate::operands::{component, kind};
+use crate::math::math_number;
+use crate::operands::{component, kind, role};
 use crate::printer::{NONE, PrintError, Printer};
 use naga_ir::expression::{
-    BinaryOperator, Expression, ImageQuery, Literal, RelationalFunction, SampleLevel,
-    SwizzleComponent, UnaryOperator,
+    BinaryOperator, CooperativeShape, Expression, ImageQuery, Literal, RelationalFunction,
+    SampleLevel, SwizzleComponent, UnaryOperator,
 };
 use naga_ir::handle::Handle;
 use naga_ir::tags::ExpressionTag;
@@ -351,7 +352,7 @@ impl Printer {
                 arg2,
                 arg3,
             } => {
-                self.math_function(*fun)?;
+                self.variant_choice(math_number(*fun), *fun)?;
                 self.index(*arg)?;
                 self.optional(*arg1)?;
                 self.optional(*arg2)?;
@@ -369,7 +370,15 @@ impl Printer {
         }
     }
 
-    /// Adds the operands of an expression whose operands are expressions alone.
+    /// Adds what a cooperative matrix is, if that is said.
+    fn cooperative_shape(&mut self, shape: Option<CooperativeShape>) -> Result<(), PrintError> {
+        let Some(shape) = shape else { return Ok(()) };
+        self.number(u32::from(shape.columns.components()))?;
+        self.number(u32::from(shape.rows.components()))?;
+        self.choice(role(shape.role))
+    }
+
+    /// Adds the operands of an expression whose operands are expressions alone, or a cooperative matrix in memory.
     fn of_expressions(&mut self, expression: &Expression) -> Result<(), PrintError> {
         match expression {
             Expression::Access { base, index } => self.indices(&[*base, *index]),
@@ -386,7 +395,14 @@ impl Printer {
                 self.index(*query)?;
                 self.flag(*committed)
             }
-            Expression::CooperativeLoad { pointer, stride } => self.indices(&[*pointer, *stride]),
+            Expression::CooperativeLoad {
+                shape,
+                pointer,
+                stride,
+            } => {
+                self.indices(&[*pointer, *stride])?;
+                self.cooperative_shape(*shape)
+            }
             Expression::CooperativeMultiplyAdd { a, b, c } => self.indices(&[*a, *b, *c]),
             _ => Ok(()),
         }

@@ -4,10 +4,33 @@ use crate::expressions::Place;
 use crate::printer::{PrintError, Printer};
 use naga_ir::handle::Handle;
 use naga_ir::ir::{
-    EntryPoint, Function, FunctionArgument, FunctionResult, LocalVariable, MeshStageInfo,
+    ConservativeDepth, EarlyDepthTest, EntryPoint, Function, FunctionArgument, FunctionResult,
+    LocalVariable, MeshOutputTopology, MeshStageInfo, ShaderStage,
 };
 use naga_ir::tags::ExpressionTag;
 use naga_ir::text::Text;
+
+/// Whether the sizes of an entry point's workgroup are said.
+fn is_sized(entry_point: &EntryPoint) -> bool {
+    !matches!(entry_point.workgroup_size, [0, 0, 0])
+}
+
+/// The number of a stage.
+fn stage_number(stage: ShaderStage) -> u32 {
+    stage as u32 + 1
+}
+
+/// The number and the name of an early depth test.
+fn early_choice(test: EarlyDepthTest) -> (u32, &'static str) {
+    let EarlyDepthTest::Allow { conservative } = test else {
+        return (1, "early");
+    };
+    match conservative {
+        ConservativeDepth::GreaterEqual => (2, "early:greaterequal"),
+        ConservativeDepth::LessEqual => (3, "early:lessequal"),
+        ConservativeDepth::Unchanged => (4, "early:unchanged"),
+    }
+}
 
 impl Printer {
     fn argument(&mut self, argument: &FunctionArgument) -> Result<(), PrintError> {
@@ -65,6 +88,17 @@ impl Printer {
         self.index(mesh.primitive_output_type)?;
         self.optional(mesh.max_vertices_override)?;
         self.optional(mesh.max_primitives_override)?;
+        let MeshStageInfo {
+            topology,
+            max_vertices,
+            max_primitives,
+            ..
+        } = *mesh;
+        if topology != MeshOutputTopology::Points || max_vertices != 0 || max_primitives != 0 {
+            self.variant_choice(topology as u32, topology)?;
+            self.number(max_vertices)?;
+            self.number(max_primitives)?;
+        }
         self.end()
     }
 
@@ -107,6 +141,54 @@ impl Printer {
         self.parts(function)
     }
 
+    /// Adds to the line of an entry point its stage, the sizes of its workgroup and its early depth test.
+    fn entry_head(&mut self, entry_point: &EntryPoint) -> Result<(), PrintError> {
+        let is_sized = is_sized(entry_point);
+        if entry_point.stage.is_none() && entry_point.early_depth_test.is_none() && !is_sized {
+            return Ok(());
+        }
+        self.part(" ")?;
+        match entry_point.stage {
+            Some(stage) => self.variant(stage)?,
+            None => self.part("-")?,
+        }
+        if is_sized {
+            for size in entry_point.workgroup_size {
+                self.part(" ")?;
+                self.decimal(u64::from(size))?;
+            }
+        }
+        if let Some(test) = entry_point.early_depth_test {
+            self.part(" ")?;
+            self.part(early_choice(test).1)?;
+        }
+        Ok(())
+    }
+
+    /// Prints the items of what the line of an entry point says besides.
+    fn entry_words(&mut self, entry_point: &EntryPoint) -> Result<(), PrintError> {
+        if entry_point.stage.is_some() || entry_point.early_depth_test.is_some() {
+            self.begin(48, "stage")?;
+            match entry_point.stage {
+                Some(stage) => self.variant_choice(stage_number(stage), stage)?,
+                None => self.choice((0, "-"))?,
+            }
+            match entry_point.early_depth_test {
+                Some(test) => self.choice(early_choice(test))?,
+                None => self.word(0)?,
+            }
+            self.end_words()?;
+        }
+        if is_sized(entry_point) {
+            self.begin(49, "size")?;
+            for size in entry_point.workgroup_size {
+                self.number(size)?;
+            }
+            self.end_words()?;
+        }
+        Ok(())
+    }
+
     /// Prints an entry point.
     pub(crate) fn entry_point(&mut self, entry_point: &EntryPoint) -> Result<(), PrintError> {
         self.begin(36, "entry")?;
@@ -115,7 +197,9 @@ impl Printer {
         if !name.is_empty() {
             self.name_line(name)?;
         }
+        self.entry_head(entry_point)?;
         self.end()?;
+        self.entry_words(entry_point)?;
         if let Some(sizes) = &entry_point.workgroup_size_overrides {
             self.workgroup_sizes(sizes)?;
         }

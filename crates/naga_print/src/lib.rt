@@ -3,6 +3,7 @@
 
 mod expressions;
 mod functions;
+mod math;
 mod module;
 mod operands;
 mod printer;

@@ -5,7 +5,10 @@ use crate::printer::{PrintError, Printed, Printer};
 use bitflags::Flags;
 use naga_flags::flags::{Capabilities, ValidationFlags};
 use naga_ir::handle::Handle;
-use naga_ir::ir::{Constant, DocComments, GlobalVariable, Module, Override, SpecialTypes};
+use naga_ir::ir::{
+    Constant, DocComments, GlobalVariable, MemoryDecorations, Module, Override, ResourceBinding,
+    SpecialTypes,
+};
 use std::alloc::Global;
 
 /// How a module is validated, as far as it is said.
@@ -100,12 +103,44 @@ impl Printer {
         self.end()
     }
 
+    /// Adds where a pipeline binds a variable, and what holds of each access to it.
+    fn resource(&mut self, variable: &GlobalVariable) -> Result<(), PrintError> {
+        match variable.binding {
+            Some(ResourceBinding { group, binding }) => {
+                self.word(1)?;
+                self.number(group)?;
+                self.number_at_colon(binding)?;
+            }
+            None => {
+                self.word(0)?;
+                self.word(0)?;
+                self.word(0)?;
+            }
+        }
+        let MemoryDecorations {
+            coherent,
+            is_volatile,
+        } = variable.memory_decorations;
+        if coherent {
+            self.part(" coherent")?;
+        }
+        if is_volatile {
+            self.part(" volatile")?;
+        }
+        self.word(u32::from(coherent) + 2 * u32::from(is_volatile))
+    }
+
     fn global_variable(&mut self, variable: &GlobalVariable) -> Result<(), PrintError> {
-        self.begin(34, "global")?;
+        let is_resource = variable.binding.is_some()
+            || variable.memory_decorations != MemoryDecorations::NONE;
+        self.begin(if is_resource { 50 } else { 34 }, "global")?;
         self.name(&variable.name)?;
         self.space(variable.space)?;
         self.index(variable.ty)?;
         self.optional(variable.init)?;
+        if is_resource {
+            self.resource(variable)?;
+        }
         self.end()
     }
 

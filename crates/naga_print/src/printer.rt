@@ -3,11 +3,11 @@
 ghost use Rattle.naga_print.specs.declared.printer.PrintError.TheVariants as error;
 ghost use Rattle.std.specs.Prelude.{◌≡◌};
 
-use naga_ir::expression::MathFunction;
 use naga_ir::handle::Handle;
 use naga_ir::memory::OutOfMemory;
 use naga_ir::text::Text;
 use std::alloc::{AllocError, AllocFailed, Global};
+use std::fmt::Debug;
 
 /// The word that stands for nothing.
 pub const NONE: u32 = u32::MAX;
@@ -75,6 +75,8 @@ pub struct Printer {
     line: String,
     /// The line before it, which gives it a name, if it has one.
     name: String,
+    /// The name of the variant that was printed last.
+    variant: String,
 }
 
 impl Printer {
@@ -91,6 +93,7 @@ impl Printer {
             operands: Vec::new(alloc),
             line: String::new(alloc),
             name: String::new(alloc),
+            variant: String::new(alloc),
         }
     }
 
@@ -108,8 +111,9 @@ impl Printer {
         self.part(line)
     }
 
-    /// Adds the words of the item, and the line of the listing that has them.
-    fn end_words(&mut self) -> Result<(), PrintError> {
+    /// Ends an item of which another item's line of the text says all: adds its words, and the line of the listing that
+    /// has them.
+    pub(crate) fn end_words(&mut self) -> Result<(), PrintError> {
         let count = self.operands.len();
         if count > MOST_OPERANDS || self.opcode >= OPCODES {
             return Err(PrintError::TooLarge);
@@ -227,13 +231,24 @@ impl Printer {
         self.part(choice.1)
     }
 
-    /// Adds a mathematical function: by its number in words, and by its name in lower case in the line.
-    pub(crate) fn math_function(&mut self, fun: MathFunction) -> Result<(), PrintError> {
-        self.word(fun as u32)?;
-        write!(self.line, " {fun:?}")?;
-        // What the line says before is in lower case already.
-        self.line.make_ascii_lowercase();
+    /// Adds to the line the name of a variant in lower case, of words that are added alone.
+    pub(crate) fn variant<D: Copy + Debug>(&mut self, value: D) -> Result<(), PrintError> {
+        self.variant.clear();
+        write!(self.variant, "{value:?}")?;
+        self.variant.make_ascii_lowercase();
+        self.line.push_str(self.variant.as_str())?;
         Ok(())
+    }
+
+    /// Adds a choice: by its number in words, and by the name of its variant in lower case in the line.
+    pub(crate) fn variant_choice<D: Copy + Debug>(
+        &mut self,
+        number: u32,
+        value: D,
+    ) -> Result<(), PrintError> {
+        self.word(number)?;
+        self.part(" ")?;
+        self.variant(value)
     }
 
     /// Adds two words of a number, the low one first, of which the line says nothing.
@@ -267,7 +282,7 @@ impl Printer {
 
     /// Adds the line before the item's, which gives it a name.
     pub(crate) fn name_line(&mut self, name: &str) -> Result<(), PrintError> {
-        if name.is_empty() || name.contains([' ', '\n', '\r']) {
+        if name.is_empty() || ends_word(name) {
             self.cannot_say(
                 "a name that is empty, or in which a space or the end of a line stands",
             );
@@ -276,6 +291,21 @@ impl Printer {
         }
         Ok(())
     }
+
+    /// Adds a name to the line, behind what it names in the same word.
+    pub(crate) fn name_part(&mut self, name: &str) -> Result<(), PrintError> {
+        if ends_word(name) {
+            self.cannot_say("a name of a member in which a space or the end of a line stands");
+        } else {
+            write!(self.line, ":@{name}")?;
+        }
+        Ok(())
+    }
+}
+
+/// Whether a name has what ends a word of a line.
+fn ends_word(name: &str) -> bool {
+    name.contains([' ', '\n', '\r'])
 }
 
 /// The word of four bytes at most, the first of them lowest.

@@ -2,8 +2,8 @@
 
 use crate::printer::{NONE, PrintError, Printer};
 use naga_ir::statement::{
-    AtomicFunction, Block, GatherMode, RayPipelineFunction, RayQueryFunction, Statement,
-    SubgroupOperation, SwitchCase,
+    AtomicFunction, Barrier, Block, CollectiveOperation, GatherMode, RayPipelineFunction,
+    RayQueryFunction, Statement, SubgroupOperation, SwitchCase, SwitchValue,
 };
 
 /// The opcode of a statement, and how its line begins.
@@ -18,8 +18,8 @@ fn head_of(statement: &Statement) -> (u32, &'static str) {
         Statement::Continue => (203, "s continue"),
         Statement::Return { .. } => (204, "s return"),
         Statement::Kill => (205, "s kill"),
-        Statement::ControlBarrier => (206, "s barrier"),
-        Statement::MemoryBarrier => (207, "s membarrier"),
+        Statement::ControlBarrier(_) => (206, "s barrier"),
+        Statement::MemoryBarrier(_) => (207, "s membarrier"),
         Statement::Store { .. } => (208, "s store"),
         Statement::ImageStore { .. } => (209, "s imagestore"),
         Statement::Atomic { .. } => (210, "s atomic"),
@@ -206,6 +206,7 @@ impl Printer {
             }
             Statement::SubgroupCollectiveOperation {
                 op,
+                collective_op,
                 argument,
                 result,
             } => {
@@ -213,10 +214,27 @@ impl Printer {
                 self.word(number)?;
                 self.indices(&[*argument, *result])?;
                 self.part(" ")?;
-                self.part(word)
+                self.part(word)?;
+                match collective_op {
+                    CollectiveOperation::Reduce => Ok(()),
+                    CollectiveOperation::InclusiveScan => self.choice((1, "inclusive")),
+                    CollectiveOperation::ExclusiveScan => self.choice((2, "exclusive")),
+                }
             }
             _ => Ok(()),
         }
+    }
+
+    /// Adds the memory of a barrier, unless it is for the workgroup alone.
+    fn barrier(&mut self, barrier: Barrier) -> Result<(), PrintError> {
+        if barrier == Barrier::WORK_GROUP {
+            return Ok(());
+        }
+        let storage = if barrier.storage { 1 } else { 0 };
+        let work_group = if barrier.work_group { 2 } else { 0 };
+        let sub_group = if barrier.sub_group { 4 } else { 0 };
+        let texture = if barrier.texture { 8 } else { 0 };
+        self.number(storage + work_group + sub_group + texture)
     }
 
     /// Adds the operands of a statement about the flow of control.
@@ -229,6 +247,9 @@ impl Printer {
             Statement::If { condition, .. } => self.index(*condition),
             Statement::Switch { selector, .. } => self.index(*selector),
             Statement::Return { value } => self.optional(*value),
+            Statement::ControlBarrier(barrier) | Statement::MemoryBarrier(barrier) => {
+                self.barrier(*barrier)
+            }
             Statement::Call {
                 function,
                 arguments,
@@ -256,19 +277,34 @@ impl Printer {
     }
 
     /// Prints the item that begins a case.
-    fn case_head(&mut self, falls_through: bool) -> Result<(), PrintError> {
+    fn case_head(&mut self, case: &SwitchCase) -> Result<(), PrintError> {
         self.begin(197, "s case")?;
-        if falls_through {
-            self.cannot_say("a case after which the next one is executed");
+        self.word(u32::from(case.fall_through))?;
+        match case.value {
+            Some(SwitchValue::Default) => self.choice_alone((0, "default"))?,
+            Some(SwitchValue::I32(value)) => {
+                self.word(1)?;
+                self.word(value.cast_unsigned())?;
+                self.part(" i")?;
+                self.signed_decimal(i64::from(value))?;
+            }
+            Some(SwitchValue::U32(value)) => {
+                self.word(2)?;
+                self.number(value)?;
+            }
+            None if case.fall_through => self.part(" -")?,
+            None => (),
         }
-        self.word(u32::from(falls_through))?;
+        if case.fall_through {
+            self.part(" falls")?;
+        }
         self.end()
     }
 
     #[cycle(statements)]
     fn cases(&mut self, cases: &[SwitchCase]) -> Result<(), PrintError> {
         for case in cases {
-            self.case_head(case.fall_through)?;
+            self.case_head(case)?;
             self.block(&case.body)?;
         }
         Ok(())

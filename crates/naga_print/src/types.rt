@@ -1,10 +1,11 @@
 //! Types as items.
 
-use crate::operands::{access, kind};
+use crate::operands::{access, kind, role};
 use crate::printer::{NONE, PrintError, Printer};
+use naga_ir::storage_format::StorageFormat;
 use naga_ir::types::{
-    AddressSpace, CooperativeRole, ImageClass, ImageDimension, Scalar, ScalarKind, StorageAccess,
-    StorageFormat, StructMember, Type, TypeInner, VectorSize,
+    AddressSpace, ImageClass, ImageDimension, Scalar, ScalarKind, StorageAccess, StructMember,
+    Type, TypeInner, VectorSize,
 };
 
 /// The opcode of a type, and how its line begins.
@@ -27,15 +28,6 @@ fn head_of(inner: &TypeInner) -> (u32, &'static str) {
     }
 }
 
-/// The number and the letter of a role.
-fn role(role: CooperativeRole) -> (u32, &'static str) {
-    match role {
-        CooperativeRole::A => (0, "A"),
-        CooperativeRole::B => (1, "B"),
-        CooperativeRole::C => (2, "C"),
-    }
-}
-
 /// The number and the name of a dimension.
 fn dimension(dim: ImageDimension) -> (u32, &'static str) {
     match dim {
@@ -50,15 +42,16 @@ impl Printer {
     /// Adds a member of a struct.
     fn member(&mut self, member: &StructMember) -> Result<(), PrintError> {
         match &member.name {
-            Some(name) => {
-                self.cannot_say("the name of a member");
-                self.text_words(name.as_str())?;
-            }
+            Some(name) => self.text_words(name.as_str())?,
             None => self.word(NONE)?,
         }
         self.index(member.ty)?;
         self.number_at_colon(member.offset)?;
-        self.member_binding(member.binding)
+        self.member_binding(member.binding)?;
+        match &member.name {
+            Some(name) => self.name_part(name.as_str()),
+            None => Ok(()),
+        }
     }
 
     fn members(&mut self, members: &[StructMember]) -> Result<(), PrintError> {
@@ -74,9 +67,11 @@ impl Printer {
             (ScalarKind::Float, false) => " float",
             (ScalarKind::Float, true) => " floatms",
             (ScalarKind::Sint, false) => " sint",
+            (ScalarKind::Sint, true) => " sintms",
             (ScalarKind::Uint, false) => " uint",
+            (ScalarKind::Uint, true) => " uintms",
             _ => {
-                self.cannot_say("a multisampled image of integers, or one of other scalars");
+                self.cannot_say("a sampled image of bools or of abstract numbers");
                 " float"
             }
         };
@@ -88,11 +83,17 @@ impl Printer {
 
     /// Adds the class of a storage image.
     fn storage(&mut self, format: StorageFormat, allowed: StorageAccess) -> Result<(), PrintError> {
-        if format.0 != 0 || !allowed.load || !allowed.store || !allowed.atomic {
-            self.cannot_say("a storage image of a format, or that isn't for all uses");
-        }
+        let is_for_all = allowed.load && allowed.store && allowed.atomic;
         self.choice((2, "storage"))?;
-        self.word(format.0)?;
+        if format != StorageFormat::R8Unorm || !is_for_all {
+            self.part(":")?;
+            self.variant(format)?;
+        }
+        if !is_for_all {
+            self.part(":")?;
+            self.access_letters(allowed)?;
+        }
+        self.word(format as u32)?;
         self.word(access(allowed))
     }
 

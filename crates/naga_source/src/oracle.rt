@@ -7,9 +7,14 @@ use naga_text::line::read_line;
 use naga_text::line_words::LineWords;
 use std::alloc::{AllocError, Global};
 
-/// Whether the larger text has a line like this in an entry point.
+/// Whether the larger text has a line like this in an entry point, or a case in a switch there.
 fn fits_larger(alloc: Global, line: &str) -> Result<bool, OutOfMemory> {
-    let text = format!(in alloc; "entry\n{line}\n")?;
+    let before = if line == "s case" || line.starts_with("s case ") {
+        "entry\ns switch 0"
+    } else {
+        "entry"
+    };
+    let text = format!(in alloc; "{before}\n{line}\n")?;
     let draft = Draft::of_text(alloc, text.as_str(), false)?;
     Ok(draft.unreadable.is_none())
 }

@@ -4,10 +4,11 @@ use crate::forms::{has_forms, is_form};
 use crate::oracle::{fits, fits_words, line_with};
 use crate::places::{ModuleLine, first_word};
 use crate::source::{TextKind, is_keyword};
+use naga_draft::unread::Unread;
 use naga_ir::memory::OutOfMemory;
 use naga_ir::types::TypeInner;
 use naga_module_text::labels::{Labels, labelled};
-use naga_text::line::{Line, read_line};
+use naga_module_text::types::type_inner;
 use naga_text::line_words::LineWords;
 use naga_verdict::verdict::{Reason, ReasonAt};
 use std::alloc::{AllocError, Global};
@@ -102,9 +103,14 @@ fn reason_of_labels(
 
 /// The type of a line, if it describes one.
 fn type_of(alloc: Global, line: &str) -> Result<Option<TypeInner>, OutOfMemory> {
-    match read_line(alloc, &LineWords::new(line.as_bytes()))? {
-        Some(Line::Type_(inner)) => Ok(Some(inner)),
-        _ => Ok(None),
+    let mut words = LineWords::new(line.as_bytes());
+    if words.next() != Some(b"type") {
+        return Ok(None);
+    }
+    match type_inner(alloc, &mut words) {
+        Ok(inner) => Ok(Some(inner)),
+        Err(Unread::Item) => Ok(None),
+        Err(Unread::OutOfMemory) => Err(OutOfMemory),
     }
 }
 
@@ -180,9 +186,40 @@ fn place_of_word(text: &str, index: usize) -> usize {
 }
 
 /// Words that stand in for one another: at least one of them fits where a word of a form can stand.
-const SAMPLES: [&str; 24] = [
-    "0", "1", "2", "8", "-", "uint", "function", "float", "0:0", "add", "A", "x", "u32", "zero",
-    "size", "scalar", "struct", "array", "auto", "not", "all", "abs", "emit", "first",
+const SAMPLES: [&str; 33] = [
+    "0",
+    "1",
+    "2",
+    "8",
+    "-",
+    "uint",
+    "function",
+    "float",
+    "0:0",
+    "add",
+    "A",
+    "x",
+    "u32",
+    "zero",
+    "size",
+    "scalar",
+    "struct",
+    "array",
+    "auto",
+    "not",
+    "all",
+    "abs",
+    "emit",
+    "first",
+    "volatile",
+    "builtin",
+    "position",
+    "location",
+    "perprimitive",
+    "early",
+    "points",
+    "falls",
+    "reduce",
 ];
 
 /// How many words of a line are tried. Each is tried with each sample, and then the whole line is read.

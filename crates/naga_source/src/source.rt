@@ -80,13 +80,36 @@ pub fn is_keyword(word: &str, kind: TextKind) -> bool {
     }
 }
 
+/// Whether only the larger text has a word in a line of this form of types.
+fn is_larger_word(form: &str, word: &str) -> bool {
+    match form {
+        "struct" => {
+            word.contains(":@") || word.contains(":builtin:") || word.contains(":location:")
+        }
+        "image" => matches!(word, "sintms" | "uintms") || word.starts_with("storage:"),
+        "pointer" | "valuepointer" => word.starts_with("storage:"),
+        _ => false,
+    }
+}
+
+/// Whether a line says of a type what only the larger text says.
+fn is_larger_type(line: &str) -> bool {
+    let Some(ty) = line.strip_prefix("type ") else {
+        return false;
+    };
+    let form = first_word(ty);
+    ty.split(' ').any(|word| is_larger_word(form, word))
+}
+
 /// Whether only the larger text has a line.
 fn is_larger_only(line: &str) -> bool {
     if is_blank(line) {
         return false;
     }
     let (label, _) = labelled(line);
-    label.is_some() || matches!(has_word(first_word(line)), Some(Has::Larger))
+    label.is_some()
+        || matches!(has_word(first_word(line)), Some(Has::Larger))
+        || is_larger_type(line)
 }
 
 /// A line without the carriage return before its line feed.

@@ -131,5 +131,5 @@ expression_again ws (expr.RayQueryGetIntersection query committed) h = absurd (n
 expression_again ws (expr.RayQueryVertexPositions query committed) h = absurd (none_fill ws h)
 expression_again ws expr.SubgroupBallotResult h = absurd (none_fill ws h)
 expression_again ws (expr.SubgroupOperationResult ty) h = absurd (none_fill ws h)
-expression_again ws (expr.CooperativeLoad pointer stride) h = absurd (none_fill ws h)
+expression_again ws (expr.CooperativeLoad shape pointer stride) h = absurd (none_fill ws h)
 expression_again ws (expr.CooperativeMultiplyAdd a b c) h = absurd (none_fill ws h)

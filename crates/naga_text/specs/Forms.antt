@@ -1,6 +1,6 @@
 -- The forms of lines, one equation a form.
 use Rattle.std.specs.Int.NonZero.{non_zero_u32_get}
-use Rattle.std.specs.Prelude.{◌≡◌, ℕ, ℤ, List, [], ◌∷◌, Option, Some, None, codes, map, if◌then◌else◌, ⊤}
+use Rattle.std.specs.Prelude.{◌≡◌, ℕ, ℤ, List, [], ◌∷◌, Option, Some, None, codes, false, map, if◌then◌else◌, ⊤}
 use Rattle.naga_arena.specs.Numbers.{largest_u8, largest_u32, largest_u64}
 use Rattle.naga_flags.specs.Bits.{all_capabilities, all_validation_flags}
 use Rattle.naga_ir.specs.declared.expression.Expression.{Expression as ExpressionType}
@@ -11,7 +11,7 @@ use Rattle.naga_ir.specs.Sizes.{components, cooperative_components}
 use Rattle.naga_ir.specs.declared.types.ArraySize.{ArraySize}
 use Rattle.naga_ir.specs.declared.types.ArraySize.TheVariants as array_size
 use Rattle.naga_ir.specs.declared.types.Binding.{Binding}
-use Rattle.naga_ir.specs.declared.types.Binding.TheVariants.{BuiltIn, Location}
+use Rattle.naga_ir.specs.declared.types.Binding.TheVariants.{Location}
 use Rattle.naga_ir.specs.declared.types.StructMember.{StructMember}
 use Rattle.naga_ir.specs.declared.types.TypeInner.{TypeInner}
 use Rattle.naga_ir.specs.declared.types.TypeInner.TheVariants.{Scalar, Vector, Matrix, CooperativeMatrix, Atomic, Pointer, ValuePointer, Array, Struct, Image, Sampler, AccelerationStructure, RayQuery, BindingArray}
@@ -83,12 +83,13 @@ abbrev pub pointed_components : Option VectorSize → ℕ
 pointed_components None = 0
 pointed_components (Some size) = components size
 
--- the pieces of a member's binding; a built-in value can't be written
+-- the pieces of a member's binding; a built-in value can't be written, nor how a location's value is interpolated or
+-- that it is one of each primitive
 abbrev pub binding_parts : Option Binding → List Part
 binding_parts None = []
-binding_parts (Some (Location location None)) = u32_word location ∷ []
-binding_parts (Some (Location location (Some blend_src))) = u32_word location ∷ u32_word blend_src ∷ []
-binding_parts (Some (BuiltIn value)) = never ∷ []
+binding_parts (Some (Location location None None None false)) = u32_word location ∷ []
+binding_parts (Some (Location location None None (Some blend_src) false)) = u32_word location ∷ u32_word blend_src ∷ []
+binding_parts _ = never ∷ []
 
 -- the part of a member of a struct: its type, its offset and its binding, which colons part; a name can't be written
 abbrev pub member_part : StructMember → Part
@@ -163,7 +164,7 @@ expression_form (expr.RayQueryGetIntersection query committed) = never ∷ []
 expression_form (expr.RayQueryVertexPositions query committed) = never ∷ []
 expression_form expr.SubgroupBallotResult = never ∷ []
 expression_form (expr.SubgroupOperationResult ty) = never ∷ []
-expression_form (expr.CooperativeLoad pointer stride) = never ∷ []
+expression_form (expr.CooperativeLoad shape pointer stride) = never ∷ []
 expression_form (expr.CooperativeMultiplyAdd a b c) = never ∷ []
 
 -- the parts of a line of a fixed number of words

@@ -4,6 +4,7 @@ use Rattle.naga_ir.specs.declared.expression.BinaryOperator.{BinaryOperator}
 use Rattle.naga_ir.specs.declared.expression.BinaryOperator.TheVariants as binary
 use Rattle.naga_ir.specs.declared.expression.UnaryOperator.{UnaryOperator}
 use Rattle.naga_ir.specs.declared.expression.UnaryOperator.TheVariants as unary
+use Rattle.naga_ir.specs.declared.storage_format.StorageFormat.TheVariants.{R8Unorm}
 use Rattle.naga_ir.specs.declared.types.AddressSpace.{AddressSpace}
 use Rattle.naga_ir.specs.declared.types.AddressSpace.TheVariants as space
 use Rattle.naga_ir.specs.declared.types.CooperativeRole.{CooperativeRole}
@@ -52,7 +53,7 @@ spaces =
 abbrev pub dimensions : List (List ℕ × ImageDimension)
 dimensions = (codes "1", D1) ∷ (codes "2", D2) ∷ (codes "3", D3) ∷ (codes "cube", Cube) ∷ []
 
--- the classes of images; a storage image has format 0 and all accesses
+-- the classes of images; a storage image has the format `R8Unorm` and all accesses
 abbrev pub classes : List (List ℕ × ImageClass)
 classes =
     (codes "float", class.Sampled Float false) ∷
@@ -61,7 +62,7 @@ classes =
     (codes "uint", class.Sampled Uint false) ∷
     (codes "depth", class.Depth false) ∷
     (codes "depthms", class.Depth true) ∷
-    (codes "storage", class.Storage (record { 0 = 0 }) (record { load = true; store = true; atomic = true })) ∷
+    (codes "storage", class.Storage R8Unorm (record { load = true; store = true; atomic = true })) ∷
     (codes "external", class.External) ∷ []
 
 -- the operators on one value

@@ -1,5 +1,5 @@
 -- What the readers of one word return.
-use Rattle.std.specs.Prelude.{ℕ, zero, suc, List, [], ◌∷◌, Option, Some, None, codes, bytes_eq, if◌then◌else◌, option_and_then, ◌==◌}
+use Rattle.std.specs.Prelude.{ℕ, zero, suc, List, [], ◌∷◌, Option, Some, None, codes, false, bytes_eq, if◌then◌else◌, option_and_then, ◌==◌}
 use Rattle.std.proofs.Math.Nat.{zero-lt-suc}
 use Rattle.std.specs.declared.num.NonZeroU32.{NonZeroU32}
 use Rattle.naga_ir.specs.declared.types.ArraySize.{ArraySize}
@@ -81,11 +81,11 @@ abbrev pub binding_of : List (List ℕ) → Option (Option Binding)
 binding_of [] = Some None
 binding_of (l ∷ []) = do
   location ← number_of l
-  Some (Some (Location location None))
+  Some (Some (Location location None None None false))
 binding_of (l ∷ b ∷ []) = do
   location ← number_of l
   blend_src ← number_of b
-  Some (Some (Location location (Some blend_src)))
+  Some (Some (Location location None None (Some blend_src) false))
 binding_of _ = None
 
 -- the member of the pieces of a word

@@ -28,7 +28,10 @@ fn binding(pieces: &[u8]) -> Option<Binding>
     };
     Some(Binding::Location {
         location,
+        interpolation: None,
+        sampling: None,
         blend_src,
+        per_primitive: false,
     })
 }
 

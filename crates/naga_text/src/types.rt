@@ -213,7 +213,7 @@ fn memberless_type(form: &[u8], words: &[&[u8]]) -> Option<TypeInner>
 
 /// The type of a form other than `struct`, and of the words after it, of which only so many are read as such a form
 /// has.
-pub(crate) fn short_type(form: &[u8], words: &mut LineWords) -> Option<TypeInner>
+pub fn short_type(form: &[u8], words: &mut LineWords) -> Option<TypeInner>
     ensures read { result ≡ read_by memberless_readers form.now (words_left words.old) }
     ensures lines { lines_after words.new ≡ lines_after words.old }
 {

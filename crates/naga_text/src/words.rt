@@ -6,9 +6,10 @@ ghost use Rattle.std.specs.Prelude.{◌≡◌, bytes_eq, map};
 
 use crate::number::{handle, number, number_up_to};
 use naga_ir::expression::{BinaryOperator, UnaryOperator};
+use naga_ir::storage_format::StorageFormat;
 use naga_ir::types::{
     AddressSpace, ArraySize, CooperativeRole, CooperativeSize, ImageClass, ImageDimension,
-    ScalarKind, StorageAccess, StorageFormat, VectorSize,
+    ScalarKind, StorageAccess, VectorSize,
 };
 use std::num::NonZeroU32;
 
@@ -158,11 +159,11 @@ fn sampled(kind: ScalarKind, multi: bool) -> ImageClass
     ImageClass::Sampled { kind, multi }
 }
 
-/// The class of an image. A storage image has format 0 and all accesses.
+/// The class of an image. A storage image has the format `R8Unorm` and all accesses.
 pub fn class(word: &[u8]) -> Option<ImageClass>
     ensures { result ≡ chosen classes word.now }
 {
-    let format = StorageFormat(0);
+    let format = StorageFormat::R8Unorm;
     let access = StorageAccess {
         load: true,
         store: true,
