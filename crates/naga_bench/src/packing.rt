@@ -10,8 +10,8 @@ use crate::shaders::new_validator;
 use crate::totals::Totals;
 use crate::types::{Laid, Shape, Types, add_array, add_struct, add_types, any_of};
 use naga_valid::{
-    AddressSpace, FullTyping, GlobalVariable, Handle, ImmediateSlots, Leaf, Module, OutOfMemory,
-    TypeTag, Validator, leaf_at, leaves_of, to_ctx,
+    AddressSpace, FullTyping, GlobalVariable, Handle, ImmediateSlots, Leaf, MemoryDecorations,
+    Module, OutOfMemory, TypeTag, Validator, leaf_at, leaves_of, to_ctx,
 };
 use std::alloc::{AllocError, Global};
 
@@ -141,8 +141,10 @@ fn fill(alloc: Global, module: &mut Module, random: &mut Random) -> Result<(), O
     let variable = GlobalVariable {
         name: None,
         space: AddressSpace::Immediate,
+        binding: None,
         ty: leaf.ty,
         init: None,
+        memory_decorations: MemoryDecorations::NONE,
     };
     append(&mut module.global_variables, variable)?;
     add_instances(alloc, module, &types, &first, random)

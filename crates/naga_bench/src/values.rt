@@ -5,7 +5,8 @@ use crate::random::Random;
 use crate::types::Types;
 use naga_valid::{
     AddressSpace, Constant, Expression, ExpressionTag, GlobalVariable, GlobalVariableTag, Handle,
-    List, Literal, Module, OutOfMemory, Override, StorageAccess, TypeTag, VectorSize,
+    List, Literal, MemoryDecorations, Module, OutOfMemory, Override, StorageAccess, TypeTag,
+    VectorSize,
 };
 use std::alloc::Global;
 
@@ -131,8 +132,10 @@ fn add_variable(
     let variable = GlobalVariable {
         name: None,
         space,
+        binding: None,
         ty,
         init: None,
+        memory_decorations: MemoryDecorations::NONE,
     };
     append(&mut module.global_variables, variable)
 }

@@ -7,9 +7,9 @@ use naga_info::const_expression_error::{ConstExpressionError, LiteralError};
 use naga_info::expression_error::ExpressionError;
 use naga_ir::expression::{BinaryOperator, MathFunction, SwizzleComponent, UnaryOperator};
 use naga_ir::handle::Handle;
+use naga_ir::storage_format::StorageFormat;
 use naga_ir::types::{
-    ImageClass, ImageDimension, Scalar, ScalarKind, StorageAccess, StorageFormat, TypeInner,
-    VectorSize,
+    ImageClass, ImageDimension, Scalar, ScalarKind, StorageAccess, TypeInner, VectorSize,
 };
 use naga_types::error::ComposeError;
 use naga_typing::index::IndexableLengthError;
@@ -167,7 +167,7 @@ Needs to be an binding array instead of [4]
 Needs to be an image instead of [4]
 Needs to be an image instead of [4]
 Unable to operate on image class External
-Image atomics are not supported for storage format StorageFormat(5)
+Image atomics are not supported for storage format R16Sint
 Image atomics require atomic storage access, \
 StorageAccess { load: true, store: false, atomic: false } is insufficient
 Image array index parameter is misplaced
@@ -197,7 +197,7 @@ fn texts_of_errors_of_images(rt: HostRuntime) {
             ExpressionError::ExpectedImageType(Handle::new(4)),
             ExpressionError::ExpectedSamplerType(Handle::new(4)),
             ExpressionError::InvalidImageClass(ImageClass::External),
-            ExpressionError::InvalidImageFormat(StorageFormat(5)),
+            ExpressionError::InvalidImageFormat(StorageFormat::R16Sint),
             ExpressionError::InvalidImageStorageAccess(access),
             ExpressionError::InvalidImageArrayIndex,
             ExpressionError::InvalidImageArrayIndexType(Handle::new(3)),

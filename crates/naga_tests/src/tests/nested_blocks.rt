@@ -33,6 +33,7 @@ fn around(alloc: Global, level: u32, block: Block) -> Result<Statement, OutOfMem
         3 => {
             let mut cases = Vec::new(alloc);
             cases.push(SwitchCase {
+                value: None,
                 body: block,
                 fall_through: false,
             })?;

@@ -3,6 +3,7 @@
 use super::{add_type, assert_same, result_of_last, with_module};
 use bitflags::Flags;
 use naga_flags::flags::Capabilities;
+use naga_ir::built_in::BuiltIn;
 use naga_ir::handle::Handle;
 use naga_ir::ir::Module;
 use naga_ir::list::List;
@@ -30,7 +31,10 @@ pub(super) fn member(ty: Handle<TypeTag>, offset: u32, binding: Option<Binding>)
 fn source(blend_src: u32) -> Option<Binding> {
     Some(Binding::Location {
         location: 0,
+        interpolation: None,
+        sampling: None,
         blend_src: Some(blend_src),
+        per_primitive: false,
     })
 }
 
@@ -89,7 +93,7 @@ fn structs_that_no_text_describes_are_validated(rt: HostRuntime) -> Result<(), F
         let mut members = List::new(rt.alloc());
         members.push(member(word, 0, source(0)))?;
         members.push(member(word, 4, source(1)))?;
-        members.push(member(word, 8, Some(Binding::BuiltIn(0))))?;
+        members.push(member(word, 8, Some(Binding::BuiltIn(BuiltIn::FragDepth))))?;
         add_type(&rt, module, TypeInner::Struct { members, span: 12 })?;
         result_of_last(&rt, rt.alloc(), Capabilities::DUAL_SOURCE_BLENDING, module)
     })?;

@@ -78,7 +78,7 @@ const ROWS: &[(&str, &str)] = &[
     ),
     (
         "type image 2 0 storage",
-        "Type { name: None, inner: Image { dim: D2, arrayed: false, class: Storage { format: StorageFormat(0), \
+        "Type { name: None, inner: Image { dim: D2, arrayed: false, class: Storage { format: R8Unorm, \
         access: StorageAccess { load: true, store: true, atomic: true } } } }\n",
     ),
     (
@@ -97,8 +97,9 @@ const ROWS: &[(&str, &str)] = &[
         "type struct 48 0:0 1:16:3 2:32:4:1",
         "Type { name: None, inner: Struct { members: [StructMember { name: None, ty: [0], binding: \
         None, offset: 0 }, StructMember { name: None, ty: [1], binding: Some(Location { location: 3, \
-        blend_src: None }), offset: 16 }, StructMember { name: None, ty: [2], binding: Some(Location { \
-        location: 4, blend_src: Some(1) }), offset: 32 }], span: 48 } }\n",
+        interpolation: None, sampling: None, blend_src: None, per_primitive: false }), offset: 16 }, StructMember { name: None, ty: [2], binding: Some(Location { \
+        location: 4, interpolation: None, sampling: None, blend_src: Some(1), per_primitive: false }), \
+        offset: 32 }], span: 48 } }\n",
     ),
     (
         "type struct 0",
