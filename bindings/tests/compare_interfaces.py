@@ -25,20 +25,27 @@ ERRORS = {"InvalidHandleError": "HANDLE_ERROR", "LayoutErrorInner": "LAYOUT_ERRO
           "IndexableLengthError": "INDEXABLE_LENGTH_ERROR", "Disalignment": "DISALIGNMENT"}
 TABLES = {"ScalarKind": "KIND", "CooperativeRole": "ROLE", "ImageDimension": "DIMENSION",
           "SwizzleComponent": "COMPONENT", "UnaryOperator": "UNARY", "BinaryOperator": "BINARY",
-          "RelationalFunction": "RELATIONAL", "MathFunction": "MATH", "SubgroupOperation": "SUBGROUP"}
+          "RelationalFunction": "RELATIONAL", "MathFunction": "MATH", "SubgroupOperation": "SUBGROUP",
+          "CollectiveOperation": "COLLECTIVE", "Interpolation": "INTERPOLATION", "Sampling": "SAMPLING",
+          "StorageFormat": "STORAGE_FORMAT", "ShaderStage": "ENTRY_STAGE", "EarlyDepthTest": "EARLY_DEPTH_TEST",
+          "ConservativeDepth": "EARLY_DEPTH_TEST", "MeshOutputTopology": "TOPOLOGY"}
+# How the header calls the bits of sums, by the function of the reader that makes a set of bools.
+SUMS = {"storage": "ACCESS", "decorations": "MEMORY_DECORATION", "memory": "BARRIER"}
+# The enums of which docs/WORDS.md has a table, by how the header calls them.
+PAGES = {"BINARY": "BinaryOperator", "MATH": "MathFunction", "BUILT_IN": "BuiltIn", "STORAGE_FORMAT": "StorageFormat"}
 # How the header calls the enums of the crate of texts, and what its tables name.
 TEXTS = {**{name: prefix for name, prefix in ERRORS.items() if prefix not in ("HANDLE_ERROR", "LAYOUT_ERROR")},
          "HandleError": "HANDLE_ERROR", "LayoutError": "LAYOUT_ERROR", "ModuleError": "MODULE_ERROR", "Stage": "STAGE"}
 del TEXTS["Disalignment"]
 NAMES = {"ItemKinds": "ITEM_KIND", "ScalarKinds": "KIND", "Components": "COMPONENT", "Dimensions": "DIMENSION",
          "Spaces": "SPACE", "UnaryOperators": "UNARY", "BinaryOperators": "BINARY", "MathFunctions": "MATH",
-         "Capabilities": "CAPABILITY"}
+         "StorageFormats": "STORAGE_FORMAT", "Capabilities": "CAPABILITY"}
 # How the header calls the sets of flags.
 FLAGS = {"ValidationFlags": "VALIDATE", "Capabilities": "CAPABILITY", "TypeFlags": "TYPE",
          "ShaderStages": "SHADER_STAGE"}
 # The sets of which a module in words may have all bits and no others.
 SETTINGS = ("VALIDATE", "CAPABILITY")
-RENAMED = {"D1": "1D", "D2": "2D", "D3": "3D"}
+RENAMED = {"D1": "1D", "D2": "2D", "D3": "3D", "is_volatile": "volatile"}
 # What no value of the crate stands for.
 UNUSED = {"NAGA_CHECK_STAGE_NONE", "NAGA_CHECK_NOT_OPEN"}
 
@@ -152,7 +159,7 @@ def compare_words(constants, text):
     named = {value for name, value in constants.items() if re.match(r"NAGA_CHECK_(OP|STATEMENT)_", name)}
     same("opcode", named - {64, 128}, opcodes)
     same("form", {value for name, value in constants.items() if name.startswith("NAGA_CHECK_FORM_")}, forms)
-    for enum in ("BINARY", "MATH"):
+    for enum in PAGES:
         same(f"{enum} of the page", numbers_of_prefix(constants, enum), numbers_of_page(text, enum))
     header = re.search(r"`(\d+), (0x\w+), (\d+)`", text)
     ours = [2 << 8 | constants["NAGA_CHECK_OP_HEADER"]]
@@ -173,9 +180,15 @@ def numbers_of_prefix(constants, prefix):
 
 def numbers_of_page(text, enum):
     """The pairs of a number and a name in the table of an enum, a heading of its own."""
-    heading = {"BINARY": "### `BinaryOperator`", "MATH": "### `MathFunction`"}[enum]
+    heading = f"### `{PAGES[enum]}`"
     table = re.split(r"^##", text[text.index(heading) + len(heading):], flags=re.MULTILINE)[0]
-    return {name.upper(): int(number) for number, name in re.findall(r"\| (\d+) \| `(\w+)` (?=\|)", table)}
+    rows = re.findall(r"\| (\d+) \| `(\w+)(?: \{ (\w+: \w+) \})?` (?=\|)", table)
+    return {with_bool(name, field): int(number) for number, name, field in rows}
+
+
+def with_bool(variant, field):
+    """The name of a variant, with that of its bool if it is true."""
+    return (variant + field.removesuffix(": true") if field.endswith(": true") else variant).upper()
 
 
 def compare_flags(constants, crate, source):
@@ -222,12 +235,34 @@ def numbers_of_errors(text):
 
 
 def numbers_of_tables(text):
-    """The places of variants in lists of them."""
+    """The places of variants in lists of them, which may begin with none and have them within calls."""
     numbers = {}
-    for listed in re.findall(r"\[\s*((?:\w+::\w+,?\s*)+)\]", text):
-        variants = re.findall(r"(\w+)::(\w+)", listed)
+    for listed in re.findall(r"\[\s*((?:(?:None|(?:\w+\()?\w+::\w+\)?),?\s*)+)\]", text):
+        variants = re.findall(r"(\w+)::(\w+)|None", listed)
+        name = next(name for name, _ in variants if name)
+        variants = [variant if variant[0] else (name, "None") for variant in variants]
         numbers |= {variant: at for at, variant in enumerate(variants) if variant[0] in TABLES}
     return numbers
+
+
+def compare_sums(constants, text):
+    """Compares the bits of the header with the lists of sets of bools, each of which is at the place of its word."""
+    for function, prefix in SUMS.items():
+        parameters = "".join(re.findall(rf"fn {function}\(((?:\w+: bool(?:, )?)+)\)", text))
+        names = [RENAMED.get(name, name).upper() for name in re.findall(r"(\w+): bool", parameters)]
+        sets = re.findall(rf"\b{function}\(((?:true|false)(?:, (?:true|false))*)\)", text)
+        sums = [sum(constants.get(f"NAGA_CHECK_{prefix}_{name}", 0) for name, is_there in zip(names, given.split(", "))
+                    if is_there == "true") for given in sets]
+        same(f"sum of {prefix}", dict(enumerate(sums)), {at: at for at in range(1 << len(names))})
+
+
+def compare_built_ins(constants, crate, source):
+    """Compares the numbers of built-in values with those in Rattle, and with the constants of the crate's variants."""
+    arm = r"BuiltIn::(\w+)(?: \{ (\w+: \w+) \})? => \{?\s*"
+    named = {with_bool(*variant): int(number) for *variant, number in re.findall(arm + r"(\d+)", source)}
+    same("built-in value", numbers_of_prefix(constants, "BUILT_IN"), named)
+    named = {with_bool(*variant): constants.get(name) for *variant, name in re.findall(arm + r"sys::(\w+)", crate)}
+    same("built-in value of the crate", numbers_of_prefix(constants, "BUILT_IN"), named)
 
 
 def compare_numbers(constants, names, numbers):
@@ -321,6 +356,8 @@ def compare_crates(constants, functions, structs, crates):
         compare_words_of_texts(sources_of(crates, "naga_error_text"), others)
     if reader:
         compare_numbers(constants, TABLES, numbers_of_tables(reader))
+        compare_sums(constants, reader)
+        compare_built_ins(constants, read(os.path.dirname(sys.argv[2]) + "/built_in.rs"), sources_of(crates, "naga_ir"))
         compare_opcodes(constants, read(f"{crates}/naga_words/src/opcodes.rt"))
         named = re.findall(r"pub const (MAGIC|VERSION): u32 = (\w+);", reader)
         same("word of the header", {"MAGIC": constants["NAGA_CHECK_MAGIC"],
@@ -332,7 +369,7 @@ def compare_crates(constants, functions, structs, crates):
 
 def main():
     header_path, sys_path, words_path, crates = sys.argv[1:]
-    parts = [header_path.removesuffix(".h") + part for part in (".h", "_errors.h", "_flags.h")]
+    parts = [header_path.removesuffix(".h") + part for part in (".h", "_errors.h", "_flags.h", "_words.h")]
     header = without_comments("".join(read(part) for part in parts))
     sys_paths = [sys_path, *sorted(glob.glob(sys_path.removesuffix(".rs") + "/*.rs"))]
     rust = without_comments("".join(map(read, sys_paths)))

@@ -14,23 +14,24 @@ PARTS = {"ScalarKind": "KIND", "CooperativeRole": "ROLE", "AddressSpace": "SPACE
          "Binding": "BINDING", "ImageDimension": "DIMENSION", "ImageClass": "CLASS", "Literal": "LITERAL",
          "SwizzleComponent": "COMPONENT", "SampleLevel": "LEVEL", "ImageQuery": "QUERY", "UnaryOperator": "UNARY",
          "RelationalFunction": "RELATIONAL", "AtomicFunction": "ATOMIC", "RayQueryFunction": "RAY_STEP",
-         "GatherMode": "GATHER", "SubgroupOperation": "SUBGROUP"}
+         "GatherMode": "GATHER", "SubgroupOperation": "SUBGROUP", "CollectiveOperation": "COLLECTIVE",
+         "Interpolation": "INTERPOLATION", "Sampling": "SAMPLING", "ShaderStage": "ENTRY_STAGE",
+         "ConservativeDepth": "EARLY_DEPTH_TEST", "MeshOutputTopology": "TOPOLOGY", "SwitchValue": "SWITCH_VALUE"}
 # Enums whose numbers are sizes, or stand in docs/WORDS.md, or that are in another row.
-UNNUMBERED = {"VectorSize", "CooperativeSize", "BinaryOperator", "MathFunction", "RayPipelineFunction"}
+UNNUMBERED = {"VectorSize", "CooperativeSize", "BinaryOperator", "MathFunction", "RayPipelineFunction", "BuiltIn",
+              "StorageFormat", "EarlyDepthTest"}
 RENAMED = {"D1": "1D", "D2": "2D", "D3": "3D", "Pending": "OVERRIDE", "Dynamic": "RUNTIME",
            "SubgroupCollectiveOperation": "SUBGROUP_OPERATION", "RayPipelineFunction": "TRACE_RAY"}
 # What naga_ir calls otherwise, or has in place of naga's fields.
 FIELDS = {"others": "predeclared_types"}
-REPLACED = {"CooperativeLoad": {"data"}, "CooperativeStore": {"target", "data"}}
-LEFT_OUT = {"Derivative": {"axis", "ctrl"}, "CooperativeLoad": {"columns", "rows", "role"},
-            "SubgroupCollectiveOperation": {"collective_op"},
-            "Location": {"interpolation", "sampling", "per_primitive"}}
-LEFT_OUT_OF_STRUCTS = {"GlobalVariable": {"binding", "memory_decorations"}, "DiagnosticFilterNode": {"inner"},
-                       "MeshStageInfo": {"topology", "max_vertices", "max_primitives"}, "SwitchCase": {"value"}}
+REPLACED = {"CooperativeLoad": {"columns", "rows", "role", "data"}, "CooperativeStore": {"target", "data"}}
+LEFT_OUT = {"Derivative": {"axis", "ctrl"}}
+LEFT_OUT_OF_STRUCTS = {"DiagnosticFilterNode": {"inner"}}
 ROWS = ("Module", "Function", "EntryPoint")
-OTHER_ROWS = {"stage", "early_depth_test", "workgroup_size"}
-# What is no item of a module, or whose row names flags in place of fields.
-NO_ITEMS = {"Type", "Block", "StorageFormat", "StorageAccess"}
+# Sums of bits, whose rows name flags in place of fields, with how the header calls these.
+SUMS = {"StorageAccess": "ACCESS", "MemoryDecorations": "MEMORY_DECORATION", "Barrier": "BARRIER"}
+# What is no item of a module, or no struct of naga's.
+NO_ITEMS = {"Type", "Block", "CooperativeShape", *SUMS}
 
 wrong = []
 
@@ -50,7 +51,8 @@ def fields_of(body):
 
 def sources(folder):
     """The variants of each public enum with their fields, and the fields of each public struct."""
-    text = "\n".join(read(f"{folder}/{name}.rt") for name in ("types", "expression", "statement", "ir"))
+    names = "types built_in storage_format expression statement ir".split()
+    text = "\n".join(read(f"{folder}/{name}.rt") for name in names)
     text = re.sub(r"//.*", "", text)
     enums, structs = {}, {}
     for kind, name, body in re.findall(r"^pub (enum|struct) (\w+) \{\n(.*?)^\}", text, re.MULTILINE | re.DOTALL):
@@ -63,7 +65,8 @@ def sources(folder):
 
 
 def constants_of(header):
-    named = re.findall(r"\bNAGA_CHECK_(\w+) = (\d+)", read(header))
+    text = "".join(read(header.removesuffix(".h") + part) for part in (".h", "_words.h"))
+    named = re.findall(r"\bNAGA_CHECK_(\w+) = (\d+)", text)
     return {name.replace("_", ""): int(value) for name, value in named}
 
 
@@ -132,9 +135,6 @@ def check_structs(section, structs):
         elif struct not in NO_ITEMS:
             given, row = patterns.get(struct, ("", ""))
             check_fields(struct, given, fields, LEFT_OUT_OF_STRUCTS.get(struct, set()), row)
-    for field in OTHER_ROWS:
-        row = next((second for _, first, second in section.rows if re.search(rf"[`:]{field}`", first)), "")
-        expect(row.startswith("no words"), f"{field} is not said to have no words")
 
 
 def main():
@@ -143,8 +143,12 @@ def main():
     section, constants = Section(hosts), constants_of(header)
     check_enums(section, enums, constants)
     check_structs(section, structs)
-    for name, value in re.findall(r"`(\w+)` (\d+)", section.part("StorageAccess")):
-        expect(constants.get("ACCESS" + name) == int(value), f"StorageAccess::{name} is {value}")
+    for struct, prefix in SUMS.items():
+        bits = {f"{prefix}_{name}".replace("_", ""): int(value)
+                for name, value in re.findall(r"`(\w+)` (\d+)", section.part(struct))}
+        expect(len(bits) == len(structs[struct]), f"the row of {struct} has {len(bits)} flags")
+        for name, value in bits.items():
+            expect(constants.get(name) == value, f"{name} is {value}")
     for name in PARTS.keys() | UNNUMBERED | TABLES.keys():
         expect(name in enums, f"naga_ir has no enum {name}")
     for line in wrong:

@@ -9,7 +9,7 @@ CAUSES = {"InvalidBlendSrc": "VARYING_ERROR", "WidthError": "WIDTH_ERROR", "Lite
 # What an outcome has no room for.
 LEFT_OUT = {"lhs_type", "rhs_type", "accept", "reject", "actual"}
 # The enums of which an error holds a variant without fields, and how the header calls a variant otherwise.
-ENUMS = "KIND DIMENSION COMPONENT UNARY BINARY MATH".split()
+ENUMS = "KIND DIMENSION COMPONENT UNARY BINARY MATH STORAGE_FORMAT".split()
 RENAMED = {"D1": "1D", "D2": "2D", "D3": "3D"}
 SIZES = {"Bi": 2, "Tri": 3, "Quad": 4}
 # The kind of scalars and their width, by the names that errors show.
@@ -88,7 +88,8 @@ def class_numbers(header, form):
     if form.name == "Depth":
         return [number, int(form.fields["multi"]), 0]
     if form.name == "Storage":
-        return [number, form.fields["format"].fields[0], access_bits(form.fields["access"])]
+        of_format = header.number("STORAGE_FORMAT", form.fields["format"].name)
+        return [number, of_format, access_bits(form.fields["access"])]
     return [number, 0, 0]
 
 
@@ -102,8 +103,6 @@ def numbers_of(header, name, value):
         return [sum(header.flags["CAPABILITY_" + flag] for flag in value.fields[0])]
     if value.name == "StorageAccess":
         return [access_bits(value)]
-    if value.name == "StorageFormat":
-        return [value.fields[0]]
     if name == "space":
         access = value.fields.get("access")
         return [header.number("SPACE", value.name), access_bits(access) if access else 0]

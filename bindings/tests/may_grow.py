@@ -9,7 +9,7 @@ which nothing can be added are named in the documentation of the crate.
 import re
 import sys
 
-FILES = "expressions module operators statements types".split()
+FILES = "bindings built_in expressions module operators stages statements storage_format types".split()
 CLOSED = {"Scalar", "VectorSize", "SwizzleComponent", "CooperativeRole"}
 
 

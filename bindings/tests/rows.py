@@ -41,7 +41,8 @@ class Header:
     """The structs and numbers of the header."""
 
     def __init__(self, path):
-        parts = (open(path.removesuffix(".h") + part, encoding="utf-8").read() for part in (".h", "_errors.h"))
+        parts = [path.removesuffix(".h") + part for part in (".h", "_errors.h", "_words.h")]
+        parts = (open(part, encoding="utf-8").read() for part in parts)
         text = re.sub(r"/\*.*?\*/", "", "".join(parts), flags=re.DOTALL)
         found = re.findall(r"typedef struct naga_check_(\w+) \{(.*?)\}", text, re.DOTALL)
         structs = {name: struct(name, re.findall(r"(\w+) (\w+)(?:\[(\d+)\])?;", body)) for name, body in found}
@@ -352,7 +353,13 @@ def answer(library, module, query, result):
 def is_line_text(lines):
     """Whether all lines have content that the text of naga_check may have."""
     keywords = {"flags", "caps", "resolved", "type", "expr", "const", "override", "doc"}
-    return all(not line or line.startswith("#") or line.split(" ")[0] in keywords for line in lines)
+    return all(not line or line.startswith("#") or line.split(" ")[0] in keywords for line in lines) and not any(
+        map(is_larger_type, lines))
+
+
+def is_larger_type(line):
+    """Whether a line has words of a type that only the larger text has."""
+    return re.match(r"type (struct .*:[@a-z]|image .* (sintms|uintms|storage:)|(value)?pointer .* storage:)", line)
 
 
 def plain(structure):

@@ -1,15 +1,16 @@
 #!/usr/bin/env python3
-"""Succeeds if two lists of words are the same module: the same items of each kind in the same order, though items of
-different kinds may stand otherwise. Then it also requires that every item of the header is there.
+"""Succeeds if each two lists of words are the same module: the same items of each kind in the same order, though items
+of different kinds may stand otherwise. Then it also requires that every item of the header is in one of the modules.
 
-    same_module.py FILE FILE HEADER
+    same_module.py HEADER FILE FILE [FILE FILE]..
 """
 
 import re
 import sys
 
 TYPES, FORMS = range(16, 30), 34
-PARTS = range(40, 48)
+PARTS = range(40, 50)
+GLOBAL_VARIABLES = 34, 50
 
 
 def items_of(words):
@@ -31,6 +32,8 @@ def items_of(words):
 def kind_of(opcode):
     if opcode in TYPES:
         return "type"
+    if opcode in GLOBAL_VARIABLES:
+        return "global variable"
     if 64 <= opcode < 128:
         return "global expression"
     if 128 <= opcode < 192:
@@ -47,15 +50,17 @@ def opcodes_of(header):
 
 
 def main():
-    first, second = ([int(line) for line in open(path, encoding="utf-8")] for path in sys.argv[1:3])
-    these, those = items_of(first), items_of(second)
-    differing = [key for key in these.keys() | those.keys() if these.get(key) != those.get(key)]
-    if differing:
-        key = differing[0]
-        sys.exit(f"same_module: {key} is {these.get(key)} and {those.get(key)}")
-    there = {item[0] & 0xFF for items in these.values() for item in items}
-    missing = opcodes_of(sys.argv[3]) - there
-    # Without flags, and with overrides that still lack values, the module has all else.
+    header, *paths = sys.argv[1:]
+    there = set()
+    for pair in zip(paths[::2], paths[1::2]):
+        these, those = (items_of([int(line) for line in open(path, encoding="utf-8")]) for path in pair)
+        differing = [key for key in these.keys() | those.keys() if these.get(key) != those.get(key)]
+        if differing:
+            key = differing[0]
+            sys.exit(f"same_module: {key} is {these.get(key)} and {those.get(key)}")
+        there |= {item[0] & 0xFF for items in these.values() for item in items}
+    missing = opcodes_of(header) - there
+    # Without flags, and with overrides that still lack values, the modules have all else.
     if missing - {1, 3}:
         sys.exit(f"same_module: no item has the opcodes {sorted(missing)}")
 

@@ -20,10 +20,31 @@ UNARY = "negate not bitnot".split()
 BINARY = "add sub mul div mod eq ne lt le gt ge and xor or land lor shl shr".split()
 RELATIONAL = "all any isnan isinf".split()
 MATH = """abs min max clamp saturate cos cosh sin sinh tan tanh acos asin atan atan2 asinh acosh atanh radians degrees
-ceil floor round fract trunc exp exp2 log log2 pow dot cross distance length normalize faceforward reflect refract sign
-fma mix step smoothstep sqrt inversesqrt transpose determinant quantizetof16 counttrailingzeros countleadingzeros
-countonebits reversebits extractbits insertbits firsttrailingbit firstleadingbit pack2x16float
-unpack2x16float""".split()
+ceil floor round fract trunc exp exp2 log log2 pow dot cross distance length normalize faceforward reflect refract
+sign fma mix step smoothstep sqrt inversesqrt transpose determinant quantizetof16 counttrailingzeros countleadingzeros
+countonebits reversebits extractbits insertbits firsttrailingbit firstleadingbit pack2x16float unpack2x16float modf
+frexp ldexp dot4i8packed dot4u8packed outer inverse pack4x8snorm pack4x8unorm pack2x16snorm pack2x16unorm pack4xi8
+pack4xu8 pack4xi8clamp pack4xu8clamp unpack4x8snorm unpack4x8unorm unpack2x16snorm unpack2x16unorm unpack4xi8
+unpack4xu8""".split()
+BUILT_INS = """position position:invariant viewindex baseinstance basevertex clipdistances culldistance instanceindex
+pointsize vertexindex drawindex fragdepth pointcoord frontfacing primitiveindex barycentric barycentric:perspective
+sampleindex samplemask globalinvocationid localinvocationid localinvocationindex workgroupid workgroupsize
+numworkgroups numsubgroups subgroupid subgroupsize subgroupinvocationid meshtasksize cullprimitive pointindex
+lineindices triangleindices vertexcount vertices primitivecount primitives rayinvocationid numrayinvocations
+instancecustomdata geometryindex worldrayorigin worldraydirection objectrayorigin objectraydirection raytmin
+raytcurrentmax objecttoworld worldtoobject hitkind""".split()
+FORMATS = """r8unorm r8snorm r8uint r8sint r16uint r16sint r16float rg8unorm rg8snorm rg8uint rg8sint r32uint r32sint
+r32float rg16uint rg16sint rg16float rgba8unorm rgba8snorm rgba8uint rgba8sint bgra8unorm rgb10a2uint rgb10a2unorm
+rg11b10ufloat r64uint rg32uint rg32sint rg32float rgba16uint rgba16sint rgba16float rgba32uint rgba32sint rgba32float
+r16unorm r16snorm rg16unorm rg16snorm rgba16unorm rgba16snorm""".split()
+INTERPOLATIONS = "perspective linear flat pervertex".split()
+SAMPLINGS = "center centroid sample first either".split()
+STAGES = "- vertex task mesh fragment compute raygeneration miss anyhit closesthit".split()
+EARLY = "early early:greaterequal early:lessequal early:unchanged".split()
+TOPOLOGIES = "points lines triangles".split()
+COLLECTIVES = "reduce inclusive exclusive".split()
+BARRIERS = "storage workgroup subgroup texture".split()
+WORKGROUP = 2
 ATOMICS = "add sub and xor or min max".split()
 SUBGROUP = "all any add mul min max and or xor".split()
 GATHERS = "first broadcast shuffle shuffledown shuffleup shufflexor quadbroadcast quadswap".split()
@@ -33,7 +54,7 @@ STATEMENT = {"emit": 192, "block": 193, "if": 194, "else": 195, "switch": 196, "
              "call": 213, "rayquery": 214, "trace": 215, "ballot": 216, "gather": 217, "collective": 218,
              "coopstore": 219}
 END_LOOP = 201
-FALSE = 0
+FALSE, TRUE = 0, 1
 
 
 class Unreadable(ValueError):
@@ -81,9 +102,19 @@ def size(word):
     return value
 
 
+def access(letters):
+    """The bits of the letters `lsa`, each once at most and in this order, or of `-`."""
+    if not re.fullmatch("l?s?a?", letters if letters != "-" else "") or not letters:
+        raise Unreadable(letters)
+    return sum(bit for letter, bit in zip("lsa", (LOAD, STORE, ATOMIC)) if letter in letters)
+
+
 def space(word):
-    place = chosen(SPACES, word)
-    return [place, LOAD | STORE if word == "storage" else 0]
+    name, found, letters = word.partition(":")
+    place = chosen(SPACES, name)
+    if found and name != "storage":
+        raise Unreadable(word)
+    return [place, access(letters if found else "ls") if name == "storage" else 0]
 
 
 def length(word):
@@ -96,26 +127,65 @@ def length(word):
     return [0, number(word)]
 
 
+def location(at, *words):
+    """The three words of a location: `N [interpolation] [sampling] [blend N] [perprimitive]`."""
+    left = list(words)
+    interpolation = 1 + INTERPOLATIONS.index(left.pop(0)) if left and left[0] in INTERPOLATIONS else 0
+    sampling = 1 + SAMPLINGS.index(left.pop(0)) if left and left[0] in SAMPLINGS else 0
+    form, source = 2, 0
+    if left and left[0] == "blend":
+        form, source, left = 3, number(left[1]), left[2:]
+    per_primitive = left == ["perprimitive"]
+    if left and not per_primitive:
+        raise Unreadable(str(words))
+    return [form | interpolation << 8 | sampling << 16 | per_primitive << 24, number(at), source]
+
+
+def binding(*words):
+    """The three words of a binding: no words, `builtin NAME` or `location ..`."""
+    if not words:
+        return [0, 0, 0]
+    form, *rest = words
+    if form == "builtin":
+        return [1, chosen(BUILT_INS, ":".join(rest)), 0]
+    if form == "location":
+        return call(location, rest)
+    raise Unreadable(form)
+
+
 def member(word):
-    ty, offset, *binding = word.split(":")
-    if len(binding) > 2:
-        raise Unreadable(word)
-    where = [0, 0, 0] if not binding else [1 + len(binding), *map(number, binding), 0][:3]
-    return [NONE, index(ty), number(offset), *where]
+    place, named, name = word.partition(":@")
+    ty, offset, *pieces = place.split(":")
+    if pieces and re.fullmatch("[0-9]+", pieces[0]):
+        if len(pieces) > 2:
+            raise Unreadable(word)
+        where = [1 + len(pieces), *map(number, pieces), 0][:3]
+    else:
+        where = binding(*pieces)
+    return [*(text(name) if named else [NONE]), index(ty), number(offset), *where]
 
 
 def image(dimension, arrayed, kind):
-    classes = {"float": [0, 2, 0], "floatms": [0, 2, 1], "sint": [0, 0, 0], "uint": [0, 1, 0], "depth": [1, 0, 0],
-               "depthms": [1, 1, 0], "storage": [2, 0, LOAD | STORE | ATOMIC], "external": [3, 0, 0]}
+    classes = {"float": [0, 2, 0], "floatms": [0, 2, 1], "sint": [0, 0, 0], "sintms": [0, 0, 1], "uint": [0, 1, 0],
+               "uintms": [0, 1, 1], "depth": [1, 0, 0], "depthms": [1, 1, 0], "storage": [2, 0, LOAD | STORE | ATOMIC],
+               "external": [3, 0, 0]}
+    form, found, of = kind.partition(":")
+    if form == "storage" and found:
+        texels, found, letters = of.partition(":")
+        classes[kind] = [2, chosen(FORMATS, texels), access(letters if found else "lsa")]
     if kind not in classes:
         raise Unreadable(kind)
     return [chosen(["1", "2", "3", "cube"], dimension), flag(arrayed), *classes[kind]]
 
 
+def matrix_size(word):
+    if word not in ("8", "16"):
+        raise Unreadable(word)
+    return int(word)
+
+
 def cooperative(columns, rows, kind, width, role):
-    if columns not in ("8", "16") or rows not in ("8", "16"):
-        raise Unreadable(columns)
-    return [int(columns), int(rows), *scalar(kind, width), chosen("A B C".split(), role)]
+    return [matrix_size(columns), matrix_size(rows), *scalar(kind, width), chosen("A B C".split(), role)]
 
 
 TYPES = {
@@ -177,6 +247,16 @@ def query(picture, word):
     return [index(picture), 0, index(operands[0]) if operands else NONE]
 
 
+def cooperative_load(pointer, stride, *shape):
+    operands = [index(pointer), index(stride)]
+    if not shape:
+        return operands
+    if len(shape) != 3:
+        raise Unreadable(" ".join(shape))
+    columns, rows, role = shape
+    return operands + [matrix_size(columns), matrix_size(rows), chosen("A B C".split(), role)]
+
+
 FORMS = {
     "lit": (0, literal),
     "const": (1, lambda c: [index(c)]),
@@ -210,7 +290,7 @@ FORMS = {
     "vertexpositions": (29, lambda e, b="0": [index(e), flag(b)]),
     "ballotresult": (30, lambda: []),
     "subgroupresult": (31, lambda t: [index(t)]),
-    "coopload": (32, lambda e, s: [index(e), index(s)]),
+    "coopload": (32, cooperative_load),
     "coopmuladd": (33, lambda a, b, c: [index(a), index(b), index(c)]),
 }
 
@@ -239,7 +319,41 @@ def gather(mode, value, result):
     return [at, *map(index, operands), 0][:2] + [index(value), index(result)]
 
 
+def barrier(flags="2"):
+    """The operands of a barrier: none for the workgroup alone."""
+    if re.fullmatch("[0-9]+", flags):
+        bits = number(flags, 15)
+    else:
+        bits = 0
+        for name in flags.split(","):
+            bits |= 1 << chosen(BARRIERS, name)
+    return [] if bits == WORKGROUP else [bits]
+
+
+def collective(value, result, op="add", how="reduce"):
+    at = chosen(COLLECTIVES, how)
+    return [chosen(SUBGROUP, op), index(value), index(result), *([at] if at else [])]
+
+
+def case(value="-", falls=None):
+    """The operands of a case: whether the next is executed after it, and its value, if it has one."""
+    if falls not in (None, "falls"):
+        raise Unreadable(falls)
+    operands = [FALSE if falls is None else TRUE]
+    if value == "-":
+        return operands
+    if value == "default":
+        return operands + [0, 0]
+    if not value.startswith("i"):
+        return operands + [2, number(value)]
+    if not re.fullmatch(r"i-?[0-9]{1,20}", value) or not -(1 << 31) <= int(value[1:]) < 1 << 31:
+        raise Unreadable(value)
+    return operands + [1, int(value[1:]) & NONE]
+
+
 OPERANDS = {
+    "barrier": barrier,
+    "membarrier": barrier,
     "emit": lambda first, past: [number(first), number(past)],
     "return": lambda e: [optional(e)],
     "store": lambda p, v: [index(p), index(v)],
@@ -252,7 +366,7 @@ OPERANDS = {
     "trace": lambda a, d, p: [index(a), index(d), index(p)],
     "ballot": lambda r, p: [index(r), optional(p)],
     "gather": gather,
-    "collective": lambda e, r, op="add": [chosen(SUBGROUP, op), index(e), index(r)],
+    "collective": collective,
     "coopstore": lambda t, p, s: [index(t), index(p), index(s)],
 }
 
@@ -346,7 +460,7 @@ class Writer:
             self.item(STATEMENT[keyword], *call(lambda *e: [index(*e)] if e else [], words))
             self.open.append(keyword)
         elif keyword in ("else", "case", "continuing"):
-            self.item(STATEMENT[keyword], *([FALSE] if keyword == "case" else []))
+            self.item(STATEMENT[keyword], *call(case if keyword == "case" else lambda: [], words))
             self.open[-1] = keyword
         elif keyword == "end":
             self.close(*words)
@@ -380,9 +494,18 @@ class Writer:
     def line_fn(self, _stages):
         return self.begin("function", 35, self.take_name())
 
-    def line_entry(self):
+    def line_entry(self, stage="-", *words):
+        sizes, early = (words[:3], words[3:]) if len(words) > 2 else ([], words)
         name = self.take_name()
-        return self.begin("entry point", 36, [0] if name == [NONE] else name)
+        at = self.begin("entry point", 36, [0] if name == [NONE] else name)
+        operands = [chosen(STAGES, stage), *(1 + chosen(EARLY, word) for word in early), 0][:2]
+        if len(early) > 1:
+            raise Unreadable(str(early))
+        if any(operands):
+            self.item(48, *operands)
+        if any(map(number, sizes)):
+            self.item(49, *map(number, sizes))
+        return at
 
     def line_name(self, word):
         self.name = word
@@ -438,13 +561,22 @@ class Writer:
         self.item(33, *self.take_name(), index(ty), optional(init), by)
         return self.count("override")
 
-    def line_global(self, where, ty, init):
-        self.item(34, *self.take_name(), *space(where), index(ty), optional(init))
+    def line_global(self, where, ty, init, *words):
+        operands = [*self.take_name(), *space(where), index(ty), optional(init)]
+        left = list(words)
+        bound = [TRUE, *map(number, left.pop(0).split(":"))] if left and ":" in left[0] else [FALSE, 0, 0]
+        if len(bound) != 3 or left not in ([], ["coherent"], ["volatile"], ["coherent", "volatile"]):
+            raise Unreadable(str(words))
+        decorations = ("coherent" in left) | ("volatile" in left) << 1
+        if bound[0] or decorations:
+            self.item(50, *operands, *bound, decorations)
+        else:
+            self.item(34, *operands)
         return self.count("global variable")
 
-    def line_arg(self, ty):
+    def line_arg(self, ty, *words):
         self.part()
-        self.item(40, *self.take_name(), index(ty), 0, 0, 0)
+        self.item(40, *self.take_name(), index(ty), *binding(*words))
         return self.count("argument")
 
     def line_local(self, ty, init):
@@ -452,9 +584,9 @@ class Writer:
         self.item(41, *self.take_name(), index(ty), optional(init))
         return self.count("local")
 
-    def line_result(self, ty):
+    def line_result(self, ty, *words):
         self.part()
-        self.item(42, index(ty), 0, 0, 0)
+        self.item(42, index(ty), *binding(*words))
 
     def line_named(self, at):
         self.part()
@@ -472,9 +604,13 @@ class Writer:
         self.part()
         self.item(46, index(variable))
 
-    def line_mesh(self, variable, vertices, primitives, *most):
+    def line_mesh(self, variable, vertices, primitives, most, most_primitives, *words):
         self.part()
-        self.item(47, index(variable), index(vertices), index(primitives), *map(optional, most))
+        operands = [index(variable), index(vertices), index(primitives), optional(most), optional(most_primitives)]
+        said = [chosen(TOPOLOGIES, words[0]), *map(number, words[1:])] if words else [0, 0, 0]
+        if len(said) != 3:
+            raise Unreadable(str(words))
+        self.item(47, *operands, *(said if any(said) else []))
 
 
 def words_of(lines):

@@ -84,13 +84,14 @@ fn add_numbers(words: &mut Words, scalar: Scalar) {
 
 fn add_images(words: &mut Words) -> [Handle<Type>; 5] {
     let kind = ScalarKind::Float;
+    let format = StorageFormat::R8Unorm;
     let access = LOADED | StorageAccess::ATOMIC;
     [
         (false, ImageClass::Sampled { kind, multi: false }),
         (true, ImageClass::Sampled { kind, multi: false }),
         (false, ImageClass::Depth { multi: false }),
         (false, ImageClass::Sampled { kind, multi: true }),
-        (true, ImageClass::Storage { format: 0, access }),
+        (true, ImageClass::Storage { format, access }),
     ]
     .map(|(arrayed, class)| {
         words.add_type(TypeInner::Image {
@@ -595,6 +596,7 @@ fn subgroups() -> Vec<Statement> {
     }));
     subgroups.push(Statement::SubgroupCollectiveOperation {
         op: SubgroupOperation::Add,
+        collective_op: CollectiveOperation::Reduce,
         argument,
         result,
     });
@@ -605,8 +607,8 @@ fn statements(callee: Handle<Function>) -> Vec<Statement> {
     let mut statements = vec![
         Statement::Emit(NUMBER.index()..PRODUCT.index()),
         blocks(),
-        Statement::ControlBarrier,
-        Statement::MemoryBarrier,
+        Statement::ControlBarrier(Barrier::WORK_GROUP),
+        Statement::MemoryBarrier(Barrier::WORK_GROUP),
     ];
     statements.extend(writes());
     statements.push(Statement::Call {
@@ -658,7 +660,11 @@ fn loader(f32: Handle<Type>) -> Function {
     let into = loader.add_local_variable(LocalVariable::new(f32));
     let pointer = loader.add_expression(Expression::LocalVariable(into));
     let stride = loader.add_expression(Expression::Literal(Literal::U32(8)));
-    loader.add_expression(Expression::CooperativeLoad { pointer, stride });
+    loader.add_expression(Expression::CooperativeLoad {
+        shape: None,
+        pointer,
+        stride,
+    });
     loader
 }
 

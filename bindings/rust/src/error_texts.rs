@@ -7,7 +7,7 @@ use std::collections::BTreeSet;
 use std::error::Error;
 
 /// What errors hold: small numbers, most of which stand for something, bits of capabilities, and others.
-const VALUES: [u64; 12] = [
+const VALUES: [u64; 13] = [
     0,
     0,
     1,
@@ -16,7 +16,8 @@ const VALUES: [u64; 12] = [
     3,
     4,
     8,
-    57,
+    40,
+    78,
     0x1_0000,
     0x0400_0000,
     0xFFFF_FFFE,
@@ -108,9 +109,9 @@ fn each_error_has_the_text_of_the_crate() {
 #[test]
 fn each_name_is_that_of_the_crate() {
     let mut compared = 0;
-    for numbers in 0..64 * 64 {
-        let (error, value) = (numbers / 64, u64::from(numbers % 64));
-        for (kind, first) in [(1, value), (2, 1 << value), (3, value)] {
+    for numbers in 0..64 * 80 {
+        let (error, value) = (numbers / 80, u64::from(numbers % 80));
+        for (kind, first) in [(1, value), (2, 1 << (value % 64)), (3, value)] {
             let outcome = NagaCheckOutcome {
                 values: [first, value % 8, value / 4 % 8, value % 2, value / 2 % 2],
                 stage: sys::NAGA_CHECK_STAGE_FUNCTION,

@@ -5,6 +5,7 @@ use crate::expressions::{Expression, SwizzleComponent};
 use crate::flags::Capabilities;
 use crate::operands::Handle;
 use crate::operators::{BinaryOperator, MathFunction, UnaryOperator};
+use crate::storage_format::StorageFormat;
 use crate::sys;
 use crate::told::errors;
 use crate::types::{ImageClass, ImageDimension, ScalarKind, StorageAccess, Type, VectorSize};
@@ -103,8 +104,8 @@ errors! {
         InvalidImageClass(class: ImageClass) = sys::NAGA_CHECK_EXPRESSION_ERROR_INVALID_IMAGE_CLASS
             => "Unable to operate on image class {class:?}",
         /// Never returned: image atomics are not checked here.
-        InvalidImageFormat(format: u32) = sys::NAGA_CHECK_EXPRESSION_ERROR_INVALID_IMAGE_FORMAT
-            => "Image atomics are not supported for storage format {format}",
+        InvalidImageFormat(format: StorageFormat) = sys::NAGA_CHECK_EXPRESSION_ERROR_INVALID_IMAGE_FORMAT
+            => "Image atomics are not supported for storage format {format:?}",
         /// Never returned: image atomics are not checked here.
         InvalidImageStorageAccess(access: StorageAccess) = sys::NAGA_CHECK_EXPRESSION_ERROR_INVALID_IMAGE_STORAGE_ACCESS
             => "Image atomics require atomic storage access, {access:?} is insufficient",

@@ -4,7 +4,7 @@ use crate::module::{Constant, Function, GlobalVariable, LocalVariable, Override}
 use crate::operands::{items, words_of_values, Handle, Operand};
 use crate::operators::{BinaryOperator, MathFunction, RelationalFunction, UnaryOperator};
 use crate::sys;
-use crate::types::{ScalarKind, Type, VectorSize};
+use crate::types::{CooperativeRole, CooperativeSize, ScalarKind, Type, VectorSize};
 
 /// A literal. Floating-point numbers are given as their bits, as by `f32::to_bits`.
 #[derive(Clone, Copy, Debug, PartialEq, Eq, Hash)]
@@ -151,6 +151,44 @@ impl Operand for ImageQuery {
             ImageQuery::NumLayers => words.extend([sys::NAGA_CHECK_QUERY_LAYERS, 0]),
             ImageQuery::NumSamples => words.extend([sys::NAGA_CHECK_QUERY_SAMPLES, 0]),
         }
+    }
+}
+
+/// The columns, the rows and the role of a cooperative matrix.
+#[derive(Clone, Copy, Debug, PartialEq, Eq, Hash)]
+#[non_exhaustive]
+pub struct CooperativeShape {
+    /// The number of columns.
+    pub columns: CooperativeSize,
+    /// The number of rows.
+    pub rows: CooperativeSize,
+    /// Which operand of a multiplication it may be.
+    pub role: CooperativeRole,
+}
+
+impl CooperativeShape {
+    /// The shape of so many columns and rows, in this role.
+    #[must_use]
+    pub const fn new(
+        columns: CooperativeSize,
+        rows: CooperativeSize,
+        role: CooperativeRole,
+    ) -> CooperativeShape {
+        CooperativeShape {
+            columns,
+            rows,
+            role,
+        }
+    }
+}
+
+/// The three words of the shape of a cooperative matrix; if it isn't said there are none.
+struct OptionalShape(Option<CooperativeShape>);
+
+impl Operand for OptionalShape {
+    fn write(&self, words: &mut Vec<u32>) {
+        let Some(shape) = self.0 else { return };
+        words.extend([shape.columns as u32, shape.rows as u32, shape.role as u32]);
     }
 }
 
@@ -357,11 +395,13 @@ items! {
         } = sys::NAGA_CHECK_FORM_SUBGROUP_OPERATION_RESULT [ty],
         /// A cooperative matrix from memory.
         CooperativeLoad {
+            /// What the matrix is, if that is said: its type is not known without.
+            shape: Option<CooperativeShape>,
             /// A pointer to its first component.
             pointer: Handle<Expression>,
             /// From the start of a column or row to the start of the next, in elements.
             stride: Handle<Expression>,
-        } = sys::NAGA_CHECK_FORM_COOPERATIVE_LOAD [pointer, stride],
+        } = sys::NAGA_CHECK_FORM_COOPERATIVE_LOAD [pointer, stride, OptionalShape(*shape)],
         /// `a * b + c` of cooperative matrices.
         CooperativeMultiplyAdd {
             /// The left factor.

@@ -3,8 +3,8 @@
 //! [`Words`] builds a module from types, expressions and functions that are named as in naga, and the calls read its
 //! words: [`check_words`] and [`check_functions`] validate it, [`leaves`] tells at which bytes of a buffer its values
 //! are, and [`slots`] which immediate data they use. [`check_text`] validates a module in the text that the program
-//! `naga_check` reads. [`Module`] reads and validates words once, for many questions. [`Options`] say how a module is validated and how much a call may take: what comes in the words
-//! or the text of a stranger can't loosen them.
+//! `naga_check` reads. [`Module`] reads and validates words once, for many questions. [`Options`] say how a module is
+//! validated and how much a call may take: what comes in the words or the text of a stranger can't loosen them.
 //!
 //! `Ok` means that every rule of the module's handles, types, global expressions, constants and overrides holds, and
 //! after [`check_functions`] every rule of the expressions of functions and entry points. It says nothing of statements,
@@ -45,6 +45,8 @@
 #![forbid(unsafe_op_in_unsafe_fn)]
 #![deny(unsafe_code)]
 
+mod bindings;
+mod built_in;
 mod calls;
 #[cfg(test)]
 mod error_texts;
@@ -59,7 +61,9 @@ mod operators;
 mod options;
 #[allow(unsafe_code)]
 mod raw;
+mod stages;
 mod statements;
+mod storage_format;
 #[allow(unsafe_code)]
 pub mod sys;
 mod told;
@@ -67,6 +71,8 @@ mod types;
 mod version;
 mod words;
 
+pub use bindings::{Binding, Interpolation, MemoryDecorations, ResourceBinding, Sampling};
+pub use built_in::BuiltIn;
 pub use calls::{
     check_functions, check_text, check_words, leaves, leaves_up_to, report, slots, FunctionStages,
     FunctionsError, Leaf, LeafIter, Leaves, Report, TypeInfo, Verdict,
@@ -77,7 +83,9 @@ pub use errors::{
     ResolveError, TypeError, VaryingError, WidthError,
 };
 pub use expression_error::ExpressionError;
-pub use expressions::{Expression, ImageQuery, Literal, SampleLevel, SwizzleComponent};
+pub use expressions::{
+    CooperativeShape, Expression, ImageQuery, Literal, SampleLevel, SwizzleComponent,
+};
 pub use flags::{Capabilities, ShaderStages, TypeFlags, ValidationFlags};
 pub use module::{
     Constant, DiagnosticFilterNode, Documented, EntryPoint, Function, FunctionArgument,
@@ -87,12 +95,15 @@ pub use opened::Module;
 pub use operands::Handle;
 pub use operators::{BinaryOperator, MathFunction, RelationalFunction, UnaryOperator};
 pub use options::{Options, Settings};
+pub use stages::{ConservativeDepth, EarlyDepthTest, MeshOutputTopology, ShaderStage};
 pub use statements::{
-    AtomicFunction, Block, GatherMode, RayQueryFunction, Statement, SubgroupOperation, SwitchCase,
+    AtomicFunction, Barrier, Block, CollectiveOperation, GatherMode, RayQueryFunction, Statement,
+    SubgroupOperation, SwitchCase, SwitchValue,
 };
+pub use storage_format::StorageFormat;
 pub use told::ItemKind;
 pub use types::{
-    AddressSpace, ArraySize, Binding, CooperativeRole, CooperativeSize, ImageClass, ImageDimension,
-    Scalar, ScalarKind, StorageAccess, StructMember, Type, TypeInner, VectorSize,
+    AddressSpace, ArraySize, CooperativeRole, CooperativeSize, ImageClass, ImageDimension, Scalar,
+    ScalarKind, StorageAccess, StructMember, Type, TypeInner, VectorSize,
 };
 pub use words::{BuildError, Words};

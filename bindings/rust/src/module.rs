@@ -1,9 +1,11 @@
 //! What a module holds besides types, expressions and statements, as in naga.
 
+use crate::bindings::{Binding, MemoryDecorations, ResourceBinding};
 use crate::expressions::Expression;
-use crate::operands::{builders, Handle};
+use crate::operands::{builders, setters, Handle};
+use crate::stages::{EarlyDepthTest, MeshOutputTopology, ShaderStage};
 use crate::statements::Block;
-use crate::types::{AddressSpace, Binding, Type};
+use crate::types::{AddressSpace, Type};
 
 /// A value with a name, known when the shader is compiled.
 #[derive(Clone, Debug, PartialEq, Eq)]
@@ -82,22 +84,35 @@ pub struct GlobalVariable {
     pub name: Option<String>,
     /// Where the variable is kept.
     pub space: AddressSpace,
+    /// Where a pipeline binds it, of a resource.
+    pub binding: Option<ResourceBinding>,
     /// The type.
     pub ty: Handle<Type>,
     /// The first value: a global expression.
     pub init: Option<Handle<Expression>>,
+    /// What holds of each access to it.
+    pub memory_decorations: MemoryDecorations,
 }
 
 impl GlobalVariable {
-    /// A variable without a name and a first value.
+    /// A variable without a name, a binding, a first value and decorations.
     #[must_use]
     pub const fn new(space: AddressSpace, ty: Handle<Type>) -> GlobalVariable {
         GlobalVariable {
             name: None,
             space,
+            binding: None,
             ty,
             init: None,
+            memory_decorations: MemoryDecorations::NONE,
         }
+    }
+}
+
+setters! {
+    GlobalVariable {
+        /// Sets what holds of each access to it.
+        with_memory_decorations(memory_decorations: MemoryDecorations),
     }
 }
 
@@ -105,6 +120,8 @@ builders! {
     GlobalVariable {
         /// Sets the name.
         named(name: impl Into<String>),
+        /// Sets where a pipeline binds it, of a resource.
+        with_binding(binding: ResourceBinding),
         /// Sets the first value: a global expression.
         with_init(init: Handle<Expression>),
     }
@@ -267,6 +284,12 @@ fn append<T>(items: &mut Vec<T>, item: T) -> Handle<T> {
 #[derive(Clone, Copy, Debug, PartialEq, Eq)]
 #[non_exhaustive]
 pub struct MeshStageInfo {
+    /// What its primitives are.
+    pub topology: MeshOutputTopology,
+    /// The greatest number of vertices, unless overrides decide it.
+    pub max_vertices: u32,
+    /// The greatest number of primitives, unless overrides decide it.
+    pub max_primitives: u32,
     /// The variable that it writes its output to.
     pub output_variable: Handle<GlobalVariable>,
     /// The type of a vertex.
@@ -280,7 +303,7 @@ pub struct MeshStageInfo {
 }
 
 impl MeshStageInfo {
-    /// An output whose numbers of vertices and primitives no override decides.
+    /// An output of points whose greatest numbers are 0 and decided by no override.
     #[must_use]
     pub const fn new(
         output_variable: Handle<GlobalVariable>,
@@ -288,6 +311,9 @@ impl MeshStageInfo {
         primitive_output_type: Handle<Type>,
     ) -> MeshStageInfo {
         MeshStageInfo {
+            topology: MeshOutputTopology::Points,
+            max_vertices: 0,
+            max_primitives: 0,
             output_variable,
             vertex_output_type,
             primitive_output_type,
@@ -297,11 +323,22 @@ impl MeshStageInfo {
     }
 }
 
+setters! {
+    MeshStageInfo {
+        /// Sets what its primitives are.
+        with_topology(topology: MeshOutputTopology),
+        /// Sets the greatest number of vertices.
+        with_max_vertices(max_vertices: u32),
+        /// Sets the greatest number of primitives.
+        with_max_primitives(max_primitives: u32),
+    }
+}
+
 builders! {
     MeshStageInfo {
-        /// Sets the greatest number of vertices: a global expression.
+        /// Sets the override of the greatest number of vertices: a global expression.
         with_max_vertices_override(max_vertices_override: Handle<Expression>),
-        /// Sets the greatest number of primitives: a global expression.
+        /// Sets the override of the greatest number of primitives: a global expression.
         with_max_primitives_override(max_primitives_override: Handle<Expression>),
     }
 }
@@ -312,6 +349,12 @@ builders! {
 pub struct EntryPoint {
     /// The name by which a pipeline calls it.
     pub name: String,
+    /// The stage, if it is said.
+    pub stage: Option<ShaderStage>,
+    /// Of a fragment shader, whether depths are tested before it runs.
+    pub early_depth_test: Option<EarlyDepthTest>,
+    /// The sizes of a workgroup in three dimensions, of a shader that has workgroups; else three times 0.
+    pub workgroup_size: [u32; 3],
     /// The sizes of a workgroup in three dimensions, if overrides decide them: global expressions.
     pub workgroup_size_overrides: Option<[Option<Handle<Expression>>; 3]>,
     /// The function, whose own name has no words.
@@ -323,7 +366,7 @@ pub struct EntryPoint {
 }
 
 impl EntryPoint {
-    /// An entry point of a name and a function.
+    /// An entry point of a name and a function, of which nothing else is said.
     #[must_use]
     pub fn new(name: impl Into<String>, function: Function) -> EntryPoint {
         EntryPoint {
@@ -334,8 +377,19 @@ impl EntryPoint {
     }
 }
 
+setters! {
+    EntryPoint {
+        /// Sets the sizes of a workgroup.
+        with_workgroup_size(workgroup_size: [u32; 3]),
+    }
+}
+
 builders! {
     EntryPoint {
+        /// Sets the stage.
+        with_stage(stage: ShaderStage),
+        /// Sets whether depths are tested before it runs, of a fragment shader.
+        with_early_depth_test(early_depth_test: EarlyDepthTest),
         /// Sets the sizes of a workgroup that overrides decide: global expressions.
         with_workgroup_size_overrides(workgroup_size_overrides: [Option<Handle<Expression>>; 3]),
         /// Sets the variable that a task shader hands to its mesh shaders.

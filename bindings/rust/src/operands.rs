@@ -153,6 +153,38 @@ macro_rules! words_of_values {
     };
 }
 
+/// Makes a struct of bools a set, whose word is the sum of the bits of those that are true.
+macro_rules! sums_of_bits {
+    ($name:ident { $( $field:ident = $bit:path, )+ }) => {
+        impl $name {
+            /// What one or the other has, as `|` in constants.
+            #[must_use]
+            pub const fn union(self, other: $name) -> $name {
+                $name { $( $field: self.$field | other.$field, )+ }
+            }
+
+            /// The sum of the bits.
+            pub(crate) fn word(self) -> u32 {
+                0 $( + u32::from(self.$field) * $bit )+
+            }
+        }
+
+        impl std::ops::BitOr for $name {
+            type Output = $name;
+
+            fn bitor(self, other: $name) -> $name {
+                self.union(other)
+            }
+        }
+
+        impl std::ops::BitOrAssign for $name {
+            fn bitor_assign(&mut self, other: $name) {
+                *self = *self | other;
+            }
+        }
+    };
+}
+
 /// Declares an enum of items. After `=` are the number of a variant and its operands in the order of the words.
 macro_rules! items {
     (
@@ -218,4 +250,20 @@ macro_rules! builders {
     };
 }
 
-pub(crate) use {builders, items, words_of_values};
+/// Declares methods that each set a field that is always there, and return the item.
+macro_rules! setters {
+    ($name:ident { $( $(#[$doc:meta])* $setter:ident($field:ident: $field_type:ty), )+ }) => {
+        impl $name {
+            $(
+                $(#[$doc])*
+                #[must_use]
+                pub fn $setter(mut self, $field: $field_type) -> $name {
+                    self.$field = $field;
+                    self
+                }
+            )+
+        }
+    };
+}
+
+pub(crate) use {builders, items, setters, sums_of_bits, words_of_values};

@@ -74,7 +74,7 @@ pub enum RelationalFunction {
     IsInf = sys::NAGA_CHECK_RELATIONAL_IS_INF,
 }
 
-/// A mathematical function, with its name in WGSL.
+/// A mathematical function, with its name in WGSL where that has it.
 #[derive(Clone, Copy, Debug, PartialEq, Eq, Hash)]
 #[non_exhaustive]
 #[repr(u32)]
@@ -195,6 +195,48 @@ pub enum MathFunction {
     Pack2x16float = sys::NAGA_CHECK_MATH_PACK2X16FLOAT,
     /// `unpack2x16float`.
     Unpack2x16float = sys::NAGA_CHECK_MATH_UNPACK2X16FLOAT,
+    /// `modf`.
+    Modf = sys::NAGA_CHECK_MATH_MODF,
+    /// `frexp`.
+    Frexp = sys::NAGA_CHECK_MATH_FREXP,
+    /// `ldexp`.
+    Ldexp = sys::NAGA_CHECK_MATH_LDEXP,
+    /// `dot4I8Packed`.
+    Dot4I8Packed = sys::NAGA_CHECK_MATH_DOT4I8_PACKED,
+    /// `dot4U8Packed`.
+    Dot4U8Packed = sys::NAGA_CHECK_MATH_DOT4U8_PACKED,
+    /// `outerProduct` of GLSL.
+    Outer = sys::NAGA_CHECK_MATH_OUTER,
+    /// `inverse` of GLSL.
+    Inverse = sys::NAGA_CHECK_MATH_INVERSE,
+    /// `pack4x8snorm`.
+    Pack4x8snorm = sys::NAGA_CHECK_MATH_PACK4X8SNORM,
+    /// `pack4x8unorm`.
+    Pack4x8unorm = sys::NAGA_CHECK_MATH_PACK4X8UNORM,
+    /// `pack2x16snorm`.
+    Pack2x16snorm = sys::NAGA_CHECK_MATH_PACK2X16SNORM,
+    /// `pack2x16unorm`.
+    Pack2x16unorm = sys::NAGA_CHECK_MATH_PACK2X16UNORM,
+    /// `pack4xI8`.
+    Pack4xI8 = sys::NAGA_CHECK_MATH_PACK4XI8,
+    /// `pack4xU8`.
+    Pack4xU8 = sys::NAGA_CHECK_MATH_PACK4XU8,
+    /// `pack4xI8Clamp`.
+    Pack4xI8Clamp = sys::NAGA_CHECK_MATH_PACK4XI8_CLAMP,
+    /// `pack4xU8Clamp`.
+    Pack4xU8Clamp = sys::NAGA_CHECK_MATH_PACK4XU8_CLAMP,
+    /// `unpack4x8snorm`.
+    Unpack4x8snorm = sys::NAGA_CHECK_MATH_UNPACK4X8SNORM,
+    /// `unpack4x8unorm`.
+    Unpack4x8unorm = sys::NAGA_CHECK_MATH_UNPACK4X8UNORM,
+    /// `unpack2x16snorm`.
+    Unpack2x16snorm = sys::NAGA_CHECK_MATH_UNPACK2X16SNORM,
+    /// `unpack2x16unorm`.
+    Unpack2x16unorm = sys::NAGA_CHECK_MATH_UNPACK2X16UNORM,
+    /// `unpack4xI8`.
+    Unpack4xI8 = sys::NAGA_CHECK_MATH_UNPACK4XI8,
+    /// `unpack4xU8`.
+    Unpack4xU8 = sys::NAGA_CHECK_MATH_UNPACK4XU8,
 }
 
 words_of_values!(

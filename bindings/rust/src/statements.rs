@@ -2,17 +2,45 @@
 
 use crate::expressions::Expression;
 use crate::module::Function;
-use crate::operands::{items, words_of_values, Handle, Operand};
+use crate::operands::{builders, items, sums_of_bits, words_of_values, Handle, Operand};
 use crate::sys;
 use std::ops::Range;
 
 /// Statements that are executed in order.
 pub type Block = Vec<Statement>;
 
+/// The value of a selector at which a case of a `switch` is executed.
+#[derive(Clone, Copy, Debug, PartialEq, Eq, Hash)]
+#[non_exhaustive]
+pub enum SwitchValue {
+    /// An `i32`.
+    I32(i32),
+    /// A `u32`.
+    U32(u32),
+    /// Each value that no other case has.
+    Default,
+}
+
+/// The two words of a value of a case; if it isn't said there are none.
+pub(crate) struct OptionalSwitchValue(pub(crate) Option<SwitchValue>);
+
+impl Operand for OptionalSwitchValue {
+    fn write(&self, words: &mut Vec<u32>) {
+        let Some(value) = self.0 else { return };
+        words.extend(match value {
+            SwitchValue::Default => [sys::NAGA_CHECK_SWITCH_VALUE_DEFAULT, 0],
+            SwitchValue::I32(value) => [sys::NAGA_CHECK_SWITCH_VALUE_I32, value.cast_unsigned()],
+            SwitchValue::U32(value) => [sys::NAGA_CHECK_SWITCH_VALUE_U32, value],
+        });
+    }
+}
+
 /// A case of a `switch`.
 #[derive(Clone, Debug, Default, PartialEq, Eq)]
 #[non_exhaustive]
 pub struct SwitchCase {
+    /// When it is executed, if that is said.
+    pub value: Option<SwitchValue>,
     /// What is executed.
     pub body: Block,
     /// Whether the next case is executed after this one.
@@ -20,10 +48,11 @@ pub struct SwitchCase {
 }
 
 impl SwitchCase {
-    /// A case after which the next one is not executed.
+    /// A case without a value, after which the next one is not executed.
     #[must_use]
     pub const fn new(body: Block) -> SwitchCase {
         SwitchCase {
+            value: None,
             body,
             fall_through: false,
         }
@@ -34,6 +63,13 @@ impl SwitchCase {
     pub fn falling_through(mut self) -> SwitchCase {
         self.fall_through = true;
         self
+    }
+}
+
+builders! {
+    SwitchCase {
+        /// Sets when it is executed.
+        with_value(value: SwitchValue),
     }
 }
 
@@ -200,6 +236,98 @@ pub enum SubgroupOperation {
 
 words_of_values!(SubgroupOperation);
 
+/// For which invocations a subgroup makes one value of many.
+#[derive(Clone, Copy, Debug, PartialEq, Eq, Hash)]
+#[non_exhaustive]
+#[repr(u32)]
+pub enum CollectiveOperation {
+    /// Of all invocations, for each of them.
+    Reduce = sys::NAGA_CHECK_COLLECTIVE_REDUCE,
+    /// For each invocation, of those up to it and of its own.
+    InclusiveScan = sys::NAGA_CHECK_COLLECTIVE_INCLUSIVE_SCAN,
+    /// For each invocation, of those before it.
+    ExclusiveScan = sys::NAGA_CHECK_COLLECTIVE_EXCLUSIVE_SCAN,
+}
+
+/// One word, and none for a reduction.
+impl Operand for CollectiveOperation {
+    fn write(&self, words: &mut Vec<u32>) {
+        if *self != CollectiveOperation::Reduce {
+            words.push(*self as u32);
+        }
+    }
+}
+
+/// The memory whose accesses a barrier orders: naga's `Barrier`. By default it is none.
+///
+/// ```
+/// use naga_check::{Barrier, Statement};
+///
+/// let both = Barrier::STORAGE | Barrier::WORK_GROUP;
+/// assert!(both.storage && both.work_group && !both.texture);
+/// assert_ne!(Statement::ControlBarrier(both), Statement::ControlBarrier(Barrier::WORK_GROUP));
+/// ```
+#[derive(Clone, Copy, Debug, Default, PartialEq, Eq, Hash)]
+#[non_exhaustive]
+pub struct Barrier {
+    /// Buffers.
+    pub storage: bool,
+    /// Variables of the workgroup.
+    pub work_group: bool,
+    /// What the invocations of a subgroup share.
+    pub sub_group: bool,
+    /// Storage images.
+    pub texture: bool,
+}
+
+impl Barrier {
+    /// No memory.
+    const EMPTY: Barrier = Barrier {
+        storage: false,
+        work_group: false,
+        sub_group: false,
+        texture: false,
+    };
+    /// Buffers.
+    pub const STORAGE: Barrier = Barrier {
+        storage: true,
+        ..Barrier::EMPTY
+    };
+    /// Variables of the workgroup.
+    pub const WORK_GROUP: Barrier = Barrier {
+        work_group: true,
+        ..Barrier::EMPTY
+    };
+    /// What the invocations of a subgroup share.
+    pub const SUB_GROUP: Barrier = Barrier {
+        sub_group: true,
+        ..Barrier::EMPTY
+    };
+    /// Storage images.
+    pub const TEXTURE: Barrier = Barrier {
+        texture: true,
+        ..Barrier::EMPTY
+    };
+}
+
+sums_of_bits! {
+    Barrier {
+        storage = sys::NAGA_CHECK_BARRIER_STORAGE,
+        work_group = sys::NAGA_CHECK_BARRIER_WORK_GROUP,
+        sub_group = sys::NAGA_CHECK_BARRIER_SUB_GROUP,
+        texture = sys::NAGA_CHECK_BARRIER_TEXTURE,
+    }
+}
+
+/// One word, and none for the variables of the workgroup alone.
+impl Operand for Barrier {
+    fn write(&self, words: &mut Vec<u32>) {
+        if *self != Barrier::WORK_GROUP {
+            words.push(self.word());
+        }
+    }
+}
+
 impl Operand for Range<u32> {
     fn write(&self, words: &mut Vec<u32>) {
         words.extend([self.start, self.end]);
@@ -224,7 +352,7 @@ items! {
             /// What is executed if it is false.
             reject: Block,
         } = sys::NAGA_CHECK_STATEMENT_IF [condition],
-        /// One of several blocks, by a number. The values of cases have no words: no rule depends on them.
+        /// One of several blocks, by a number.
         Switch {
             /// The number.
             selector: Handle<Expression>,
@@ -251,10 +379,10 @@ items! {
         } = sys::NAGA_CHECK_STATEMENT_RETURN [value],
         /// Ends the invocation of a fragment.
         Kill = sys::NAGA_CHECK_STATEMENT_KILL [],
-        /// Waits for the other invocations.
-        ControlBarrier = sys::NAGA_CHECK_STATEMENT_CONTROL_BARRIER [],
+        /// Waits for the other invocations, and orders accesses to memory.
+        ControlBarrier(barrier: Barrier) = sys::NAGA_CHECK_STATEMENT_CONTROL_BARRIER [barrier],
         /// Orders accesses to memory.
-        MemoryBarrier = sys::NAGA_CHECK_STATEMENT_MEMORY_BARRIER [],
+        MemoryBarrier(barrier: Barrier) = sys::NAGA_CHECK_STATEMENT_MEMORY_BARRIER [barrier],
         /// Writes a value to what a pointer points to.
         Store {
             /// The pointer.
@@ -349,11 +477,13 @@ items! {
         SubgroupCollectiveOperation {
             /// What is made of them.
             op: SubgroupOperation,
+            /// For which invocations.
+            collective_op: CollectiveOperation,
             /// The value that an invocation gives.
             argument: Handle<Expression>,
             /// The value that is made.
             result: Handle<Expression>,
-        } = sys::NAGA_CHECK_STATEMENT_SUBGROUP_OPERATION [op, argument, result],
+        } = sys::NAGA_CHECK_STATEMENT_SUBGROUP_OPERATION [op, argument, result, collective_op],
         /// Writes a cooperative matrix to memory.
         CooperativeStore {
             /// The matrix.

@@ -4,6 +4,7 @@ use crate::expressions::SwizzleComponent;
 use crate::flags::Capabilities;
 use crate::operands::Handle;
 use crate::operators::{BinaryOperator, MathFunction, UnaryOperator};
+use crate::storage_format::StorageFormat;
 use crate::sys::{self, NagaCheckOutcome};
 use crate::types::{
     AddressSpace, ImageClass, ImageDimension, Scalar, ScalarKind, StorageAccess, VectorSize,
@@ -137,7 +138,7 @@ impl Tell for ImageClass {
                 multi: bool::tell(told)?,
             },
             sys::NAGA_CHECK_CLASS_STORAGE => ImageClass::Storage {
-                format: u32::tell(told)?,
+                format: StorageFormat::tell(told)?,
                 access: StorageAccess::tell(told)?,
             },
             sys::NAGA_CHECK_CLASS_EXTERNAL => ImageClass::External,
@@ -205,7 +206,15 @@ tell_by_number! {
         Ceil Floor Round Fract Trunc Exp Exp2 Log Log2 Pow Dot Cross Distance Length Normalize FaceForward Reflect
         Refract Sign Fma Mix Step SmoothStep Sqrt InverseSqrt Transpose Determinant QuantizeToF16 CountTrailingZeros
         CountLeadingZeros CountOneBits ReverseBits ExtractBits InsertBits FirstTrailingBit FirstLeadingBit
-        Pack2x16float Unpack2x16float
+        Pack2x16float Unpack2x16float Modf Frexp Ldexp Dot4I8Packed Dot4U8Packed Outer Inverse Pack4x8snorm
+        Pack4x8unorm Pack2x16snorm Pack2x16unorm Pack4xI8 Pack4xU8 Pack4xI8Clamp Pack4xU8Clamp Unpack4x8snorm
+        Unpack4x8unorm Unpack2x16snorm Unpack2x16unorm Unpack4xI8 Unpack4xU8
+    }
+    StorageFormat {
+        R8Unorm R8Snorm R8Uint R8Sint R16Uint R16Sint R16Float Rg8Unorm Rg8Snorm Rg8Uint Rg8Sint R32Uint R32Sint
+        R32Float Rg16Uint Rg16Sint Rg16Float Rgba8Unorm Rgba8Snorm Rgba8Uint Rgba8Sint Bgra8Unorm Rgb10a2Uint
+        Rgb10a2Unorm Rg11b10Ufloat R64Uint Rg32Uint Rg32Sint Rg32Float Rgba16Uint Rgba16Sint Rgba16Float Rgba32Uint
+        Rgba32Sint Rgba32Float R16Unorm R16Snorm Rg16Unorm Rg16Snorm Rgba16Unorm Rgba16Snorm
     }
 }
 

@@ -1,10 +1,11 @@
 //! Types of a module, as in naga.
 
+use crate::bindings::{Binding, OptionalBinding};
 use crate::module::Override;
-use crate::operands::{builders, items, words_of_values, Handle, Operand};
+use crate::operands::{builders, items, sums_of_bits, words_of_values, Handle, Operand};
+use crate::storage_format::StorageFormat;
 use crate::sys;
 use std::num::NonZeroU32;
-use std::ops::{BitOr, BitOrAssign};
 
 /// What the bits of a scalar mean.
 #[derive(Clone, Copy, Debug, PartialEq, Eq, Hash)]
@@ -140,41 +141,6 @@ impl Operand for ArraySize {
     }
 }
 
-/// Where a value comes from or goes to outside of the shader.
-#[derive(Clone, Copy, Debug, PartialEq, Eq, Hash)]
-#[non_exhaustive]
-pub enum Binding {
-    /// A value that the pipeline itself gives or takes, by number.
-    BuiltIn(u32),
-    /// A value that the stage before or after gives or takes.
-    Location {
-        /// The number of the location.
-        location: u32,
-        /// Which of two sources of blending an output is, if there are two: 0 or 1.
-        blend_src: Option<u32>,
-    },
-}
-
-/// The three words of where a value comes from or goes to.
-pub(crate) struct OptionalBinding(pub(crate) Option<Binding>);
-
-impl Operand for OptionalBinding {
-    fn write(&self, words: &mut Vec<u32>) {
-        words.extend(match self.0 {
-            None => [sys::NAGA_CHECK_BINDING_NONE, 0, 0],
-            Some(Binding::BuiltIn(number)) => [sys::NAGA_CHECK_BINDING_BUILT_IN, number, 0],
-            Some(Binding::Location {
-                location,
-                blend_src: None,
-            }) => [sys::NAGA_CHECK_BINDING_LOCATION, location, 0],
-            Some(Binding::Location {
-                location,
-                blend_src: Some(source),
-            }) => [sys::NAGA_CHECK_BINDING_BLEND_SOURCE, location, source],
-        });
-    }
-}
-
 /// A member of a struct.
 #[derive(Clone, Debug, PartialEq, Eq, Hash)]
 #[non_exhaustive]
@@ -284,37 +250,13 @@ impl StorageAccess {
         atomic: true,
         ..StorageAccess::EMPTY
     };
-
-    /// What one or the other may be used for, as `|` in constants.
-    #[must_use]
-    pub const fn union(self, other: StorageAccess) -> StorageAccess {
-        StorageAccess {
-            load: self.load | other.load,
-            store: self.store | other.store,
-            atomic: self.atomic | other.atomic,
-        }
-    }
-
-    /// The sum of the accesses.
-    pub(crate) fn word(self) -> u32 {
-        let load = u32::from(self.load) * sys::NAGA_CHECK_ACCESS_LOAD;
-        let store = u32::from(self.store) * sys::NAGA_CHECK_ACCESS_STORE;
-        let atomic = u32::from(self.atomic) * sys::NAGA_CHECK_ACCESS_ATOMIC;
-        load + store + atomic
-    }
 }
 
-impl BitOr for StorageAccess {
-    type Output = StorageAccess;
-
-    fn bitor(self, other: StorageAccess) -> StorageAccess {
-        self.union(other)
-    }
-}
-
-impl BitOrAssign for StorageAccess {
-    fn bitor_assign(&mut self, other: StorageAccess) {
-        *self = *self | other;
+sums_of_bits! {
+    StorageAccess {
+        load = sys::NAGA_CHECK_ACCESS_LOAD,
+        store = sys::NAGA_CHECK_ACCESS_STORE,
+        atomic = sys::NAGA_CHECK_ACCESS_ATOMIC,
     }
 }
 
@@ -336,8 +278,8 @@ pub enum ImageClass {
     },
     /// Values that the shader reads and writes.
     Storage {
-        /// The format, by a number that the host chooses: no rule depends on it.
-        format: u32,
+        /// The format.
+        format: StorageFormat,
         /// What the image may be used for.
         access: StorageAccess,
     },
@@ -353,7 +295,7 @@ impl Operand for ImageClass {
             }
             ImageClass::Depth { multi } => [sys::NAGA_CHECK_CLASS_DEPTH, u32::from(multi), 0],
             ImageClass::Storage { format, access } => {
-                [sys::NAGA_CHECK_CLASS_STORAGE, format, access.word()]
+                [sys::NAGA_CHECK_CLASS_STORAGE, format as u32, access.word()]
             }
             ImageClass::External => [sys::NAGA_CHECK_CLASS_EXTERNAL, 0, 0],
         });

@@ -1,15 +1,17 @@
 //! The builder of modules as words.
 
+use crate::bindings::{MemoryDecorations, OptionalBinding, OptionalResourceBinding};
 use crate::expressions::{halves, Expression};
 use crate::flags::{Capabilities, ValidationFlags};
 use crate::module::{
     Constant, DiagnosticFilterNode, Documented, EntryPoint, Function, FunctionArgument,
-    GlobalVariable, LocalVariable, Override, SpecialTypes,
+    GlobalVariable, LocalVariable, MeshStageInfo, Override, SpecialTypes,
 };
 use crate::operands::{Handle, Operand};
-use crate::statements::{Block, Statement, SwitchCase};
+use crate::stages::{EntryStage, MeshOutputTopology};
+use crate::statements::{Block, OptionalSwitchValue, Statement, SwitchCase};
 use crate::sys;
-use crate::types::{OptionalBinding, Type};
+use crate::types::Type;
 use std::collections::hash_map::{Entry, HashMap};
 use std::fmt;
 
@@ -183,11 +185,22 @@ impl Words {
 
     /// Adds a variable of the module.
     pub fn add_global_variable(&mut self, variable: &GlobalVariable) -> Handle<GlobalVariable> {
-        self.item(sys::NAGA_CHECK_OP_GLOBAL_VARIABLE, |words| {
+        let decorations = variable.memory_decorations;
+        let is_resource = variable.binding.is_some() || decorations != MemoryDecorations::NONE;
+        let opcode = if is_resource {
+            sys::NAGA_CHECK_OP_RESOURCE
+        } else {
+            sys::NAGA_CHECK_OP_GLOBAL_VARIABLE
+        };
+        self.item(opcode, |words| {
             variable.name.write(words);
             variable.space.write(words);
             variable.ty.write(words);
             variable.init.write(words);
+            if is_resource {
+                OptionalResourceBinding(variable.binding).write(words);
+                words.push(decorations.word());
+            }
         });
         let index = next(&mut self.global_variables);
         self.handle_of(index)
@@ -227,25 +240,7 @@ impl Words {
         self.item(sys::NAGA_CHECK_OP_ENTRY_POINT, |words| {
             entry_point.name.write(words)
         });
-        if let Some(sizes) = &entry_point.workgroup_size_overrides {
-            self.item(sys::NAGA_CHECK_OP_WORKGROUP_SIZES, |words| {
-                sizes.write(words)
-            });
-        }
-        if let Some(payload) = entry_point.task_payload {
-            self.item(sys::NAGA_CHECK_OP_TASK_PAYLOAD, |words| {
-                payload.write(words)
-            });
-        }
-        if let Some(mesh) = &entry_point.mesh_info {
-            self.item(sys::NAGA_CHECK_OP_MESH_OUTPUT, |words| {
-                mesh.output_variable.write(words);
-                mesh.vertex_output_type.write(words);
-                mesh.primitive_output_type.write(words);
-                mesh.max_vertices_override.write(words);
-                mesh.max_primitives_override.write(words);
-            });
-        }
+        self.entry_parts(entry_point);
         self.parts(&entry_point.function);
         let index = next(&mut self.entry_points);
         self.handle_of::<EntryPoint>(index).index()
@@ -361,6 +356,48 @@ impl Words {
         });
     }
 
+    /// Adds the parts that only an entry point has.
+    fn entry_parts(&mut self, entry_point: &EntryPoint) {
+        let stage = EntryStage(entry_point.stage, entry_point.early_depth_test);
+        if stage.is_said() {
+            self.item(sys::NAGA_CHECK_OP_STAGE, |words| stage.write(words));
+        }
+        if entry_point.workgroup_size != [0; 3] {
+            self.item(sys::NAGA_CHECK_OP_WORKGROUP_SIZE, |words| {
+                entry_point.workgroup_size.write(words)
+            });
+        }
+        if let Some(sizes) = &entry_point.workgroup_size_overrides {
+            self.item(sys::NAGA_CHECK_OP_WORKGROUP_SIZES, |words| {
+                sizes.write(words)
+            });
+        }
+        if let Some(payload) = entry_point.task_payload {
+            self.item(sys::NAGA_CHECK_OP_TASK_PAYLOAD, |words| {
+                payload.write(words)
+            });
+        }
+        if let Some(mesh) = &entry_point.mesh_info {
+            self.mesh_output(mesh);
+        }
+    }
+
+    /// Adds the output of a mesh shader. Points without greatest numbers need no words.
+    fn mesh_output(&mut self, mesh: &MeshStageInfo) {
+        self.item(sys::NAGA_CHECK_OP_MESH_OUTPUT, |words| {
+            mesh.output_variable.write(words);
+            mesh.vertex_output_type.write(words);
+            mesh.primitive_output_type.write(words);
+            mesh.max_vertices_override.write(words);
+            mesh.max_primitives_override.write(words);
+            let most = [mesh.max_vertices, mesh.max_primitives];
+            if mesh.topology != MeshOutputTopology::Points || most != [0; 2] {
+                mesh.topology.write(words);
+                most.write(words);
+            }
+        });
+    }
+
     /// Adds the parts of a function.
     fn parts(&mut self, function: &Function) {
         for argument in &function.arguments {
@@ -452,7 +489,8 @@ impl Words {
         self.check_depth(open);
         for case in cases {
             self.item(sys::NAGA_CHECK_STATEMENT_CASE, |words| {
-                case.fall_through.write(words)
+                case.fall_through.write(words);
+                OptionalSwitchValue(case.value).write(words);
             });
             self.nested(&case.body, open);
         }

@@ -171,14 +171,10 @@ fn equal_types_are_one() {
 fn many_types_are_found_again() {
     let mut words = Words::new();
     let mut add_all = || {
-        let image = |format| ImageClass::Storage {
-            format,
-            access: StorageAccess::default(),
-        };
-        let types = (0..5000).map(|format| TypeInner::Image {
-            dim: ImageDimension::D2,
-            arrayed: false,
-            class: image(format),
+        let types = (0..5000).map(|stride| TypeInner::Array {
+            base: Handle::new(0),
+            size: ArraySize::Dynamic,
+            stride,
         });
         let added: Vec<u32> = types.map(|inner| words.add_type(inner).index()).collect();
         added
@@ -186,7 +182,7 @@ fn many_types_are_found_again() {
     let expected: Vec<u32> = (0..5000).collect();
     assert_eq!(add_all(), expected);
     assert_eq!(add_all(), expected);
-    assert_eq!(words.finish().unwrap().len(), 5000 * 7);
+    assert_eq!(words.finish().unwrap().len(), 5000 * 6);
 }
 
 #[test]
@@ -223,17 +219,46 @@ fn parts_of_types() {
     assert_eq!(operands_of_type(array(ArraySize::Dynamic)), [NONE, 9, 2, 0]);
 }
 
+/// The location 5, with what is said besides.
+fn location(
+    interpolation: Option<Interpolation>,
+    sampling: Option<Sampling>,
+    blend_src: Option<u32>,
+    per_primitive: bool,
+) -> Option<Binding> {
+    Some(Binding::Location {
+        location: 5,
+        interpolation,
+        sampling,
+        blend_src,
+        per_primitive,
+    })
+}
+
 #[test]
 fn bindings() {
-    let location = |blend_src| Binding::Location {
-        location: 5,
-        blend_src,
-    };
+    let built_in = |value| Some(Binding::BuiltIn(value));
+    let flat = Some(Interpolation::Flat);
+    let perspective = false;
     for (binding, expected) in [
         (None, [0, 0, 0]),
-        (Some(Binding::BuiltIn(8)), [1, 8, 0]),
-        (Some(location(None)), [2, 5, 0]),
-        (Some(location(Some(1))), [3, 5, 1]),
+        (built_in(BuiltIn::Position { invariant: false }), [1, 0, 0]),
+        (built_in(BuiltIn::Position { invariant: true }), [1, 1, 0]),
+        (built_in(BuiltIn::PointSize), [1, 8, 0]),
+        (built_in(BuiltIn::Barycentric { perspective }), [1, 15, 0]),
+        (built_in(BuiltIn::HitKind), [1, 50, 0]),
+        (Some(Binding::location(5)), [2, 5, 0]),
+        (location(None, None, Some(1), false), [3, 5, 1]),
+        (location(flat, None, None, false), [0x302, 5, 0]),
+        (
+            location(None, Some(Sampling::Sample), None, false),
+            [0x3_0002, 5, 0],
+        ),
+        (location(None, None, None, true), [0x100_0002, 5, 0]),
+        (
+            location(flat, Some(Sampling::Either), Some(0), true),
+            [0x105_0303, 5, 0],
+        ),
     ] {
         let mut member = StructMember::at(4, Handle::new(0));
         member.binding = binding;
@@ -244,12 +269,174 @@ fn bindings() {
 }
 
 #[test]
+fn interpolations_and_samplings() {
+    for (interpolation, number) in [
+        (Interpolation::Perspective, 1),
+        (Interpolation::Linear, 2),
+        (Interpolation::Flat, 3),
+        (Interpolation::PerVertex, 4),
+    ] {
+        assert_eq!(interpolation as u32, number);
+    }
+    for (sampling, number) in [
+        (Sampling::Center, 1),
+        (Sampling::Centroid, 2),
+        (Sampling::Sample, 3),
+        (Sampling::First, 4),
+        (Sampling::Either, 5),
+    ] {
+        assert_eq!(sampling as u32, number);
+    }
+}
+
+#[test]
+fn types_with_other_bindings_are_others() {
+    let mut words = Words::new();
+    let ty = words.add_type(TypeInner::Scalar(Scalar::F32));
+    let mut add = |binding: Option<Binding>| {
+        let mut member = StructMember::at(0, ty);
+        member.binding = binding;
+        let members = vec![member];
+        words
+            .add_type(TypeInner::Struct { members, span: 4 })
+            .index()
+    };
+    let bindings = [
+        location(None, None, None, false),
+        location(Some(Interpolation::Linear), None, None, false),
+        location(None, Some(Sampling::Centroid), None, false),
+        location(None, None, None, true),
+    ];
+    assert_eq!(bindings.map(&mut add), [1, 2, 3, 4]);
+    assert_eq!(bindings.map(&mut add), [1, 2, 3, 4]);
+}
+
+#[test]
+fn images_have_formats() {
+    let access = StorageAccess::STORE;
+    for (format, number) in [
+        (StorageFormat::R8Unorm, 0),
+        (StorageFormat::Rgba8Unorm, 17),
+        (StorageFormat::Bgra8Unorm, 21),
+        (StorageFormat::R64Uint, 25),
+        (StorageFormat::Rgba32Float, 34),
+        (StorageFormat::Rgba16Snorm, 40),
+    ] {
+        let image = TypeInner::Image {
+            dim: ImageDimension::D2,
+            arrayed: false,
+            class: ImageClass::Storage { format, access },
+        };
+        assert_eq!(operands_of_type(image), [NONE, 1, 0, 2, number, 2]);
+    }
+}
+
+#[test]
+fn resources_have_bindings_and_decorations() {
+    let variable = || GlobalVariable::new(AddressSpace::Uniform, Handle::new(6));
+    let item = |variable: &GlobalVariable| {
+        let mut words = Words::new();
+        words.add_global_variable(variable);
+        words.finish().expect("one variable has words")
+    };
+    assert_eq!(item(&variable()), [5 << 8 | 34, NONE, 3, 0, 6, NONE]);
+    let bound = variable().with_binding(ResourceBinding::new(2, 7));
+    let none = MemoryDecorations::default();
+    let both = MemoryDecorations::COHERENT | MemoryDecorations::VOLATILE;
+    for (variable, expected) in [
+        (bound.clone(), [1, 2, 7, 0]),
+        (bound.clone().with_memory_decorations(none), [1, 2, 7, 0]),
+        (bound.with_memory_decorations(both), [1, 2, 7, 3]),
+        (
+            variable().with_memory_decorations(MemoryDecorations::COHERENT),
+            [0, 0, 0, 1],
+        ),
+        (
+            variable().with_memory_decorations(MemoryDecorations::VOLATILE),
+            [0, 0, 0, 2],
+        ),
+        (
+            variable().with_binding(ResourceBinding::new(0, 0)),
+            [1, 0, 0, 0],
+        ),
+    ] {
+        let first = [9 << 8 | 50, NONE, 3, 0, 6, NONE];
+        assert_eq!(item(&variable), [first.as_slice(), &expected].concat());
+    }
+}
+
+/// The items of an entry point without a name, after its first.
+fn items_of(entry_point: &EntryPoint) -> Vec<u32> {
+    let mut words = Words::new();
+    words.add_entry_point(entry_point);
+    words.finish().expect("an entry point has words")[2..].to_vec()
+}
+
+#[test]
+fn entry_points_have_stages() {
+    let entry_point = || EntryPoint::new("", Function::new());
+    assert_eq!(items_of(&entry_point()), []);
+    for (stage, number) in [
+        (ShaderStage::Vertex, 1),
+        (ShaderStage::Task, 2),
+        (ShaderStage::Mesh, 3),
+        (ShaderStage::Fragment, 4),
+        (ShaderStage::Compute, 5),
+        (ShaderStage::RayGeneration, 6),
+        (ShaderStage::Miss, 7),
+        (ShaderStage::AnyHit, 8),
+        (ShaderStage::ClosestHit, 9),
+    ] {
+        let items = items_of(&entry_point().with_stage(stage));
+        assert_eq!(items, [2 << 8 | 48, number, 0]);
+    }
+    let allow = |conservative| EarlyDepthTest::Allow { conservative };
+    for (test, number) in [
+        (EarlyDepthTest::Force, 1),
+        (allow(ConservativeDepth::GreaterEqual), 2),
+        (allow(ConservativeDepth::LessEqual), 3),
+        (allow(ConservativeDepth::Unchanged), 4),
+    ] {
+        let items = items_of(&entry_point().with_early_depth_test(test));
+        assert_eq!(items, [2 << 8 | 48, 0, number]);
+    }
+}
+
+#[test]
+fn entry_points_have_sizes_and_meshes() {
+    let (variable, ty) = (Handle::new(1), Handle::new(2));
+    let mesh = || MeshStageInfo::new(variable, ty, ty).with_max_vertices_override(Handle::new(4));
+    let entry_point = |mesh| EntryPoint::new("", Function::new()).with_mesh_info(mesh);
+    let sized = entry_point(mesh())
+        .with_stage(ShaderStage::Mesh)
+        .with_workgroup_size([8, 0, 1])
+        .with_workgroup_size_overrides([None, Some(Handle::new(3)), None]);
+    let expected = [
+        vec![2 << 8 | 48, 3, 0],
+        vec![3 << 8 | 49, 8, 0, 1],
+        vec![3 << 8 | 45, NONE, 3, NONE],
+        vec![5 << 8 | 47, 1, 2, 2, 4, NONE],
+    ];
+    assert_eq!(items_of(&sized), expected.concat());
+    for (mesh, expected) in [
+        (mesh().with_topology(MeshOutputTopology::Lines), [1, 0, 0]),
+        (
+            mesh().with_topology(MeshOutputTopology::Triangles),
+            [2, 0, 0],
+        ),
+        (mesh().with_max_vertices(5), [0, 5, 0]),
+        (mesh().with_max_primitives(6), [0, 0, 6]),
+    ] {
+        let first = [8 << 8 | 47, 1, 2, 2, 4, NONE];
+        let items = items_of(&entry_point(mesh));
+        assert_eq!(items, [first.as_slice(), &expected].concat());
+    }
+}
+
+#[test]
 fn what_may_be_left_out_can_be_set() {
     let (ty, init) = (Handle::new(5), Handle::new(6));
-    let location = Binding::Location {
-        location: 3,
-        blend_src: None,
-    };
+    let location = Binding::location(3);
     let mut words = Words::new();
     words.add_constant(&Constant::new(ty, init).named("c"));
     words.add_override(&Override::new(ty).named("o").with_id(9).with_init(init));
@@ -257,7 +444,8 @@ fn what_may_be_left_out_can_be_set() {
     words.add_global_variable(&variable.named("g").with_init(init));
     let mut function = Function::new().named("f");
     function.arguments = vec![FunctionArgument::new(ty).named("a").with_binding(location)];
-    function.result = Some(FunctionResult::new(ty).with_binding(Binding::BuiltIn(4)));
+    let value = Binding::BuiltIn(BuiltIn::BaseVertex);
+    function.result = Some(FunctionResult::new(ty).with_binding(value));
     function.add_local_variable(LocalVariable::new(ty).named("l").with_init(init));
     words.add_function(&function);
     let member = StructMember::at(8, ty).named("m").with_binding(location);
@@ -312,6 +500,122 @@ fn what_is_left_out_is_none() {
     let query = |query| item_of(&Expression::ImageQuery { image: expr, query })[1..].to_vec();
     assert_eq!(query(ImageQuery::Size { level: None }), [3, 0, NONE]);
     assert_eq!(query(ImageQuery::NumSamples), [3, 3, 0]);
+}
+
+#[test]
+fn functions_of_packed_numbers() {
+    for (fun, number) in [
+        (MathFunction::Unpack2x16float, 57),
+        (MathFunction::Modf, 58),
+        (MathFunction::Dot4U8Packed, 62),
+        (MathFunction::Inverse, 64),
+        (MathFunction::Pack4xU8Clamp, 72),
+        (MathFunction::Unpack4xU8, 78),
+    ] {
+        let item = item_of(&Expression::Math {
+            fun,
+            arg: Handle::new(3),
+            arg1: None,
+            arg2: None,
+            arg3: None,
+        });
+        assert_eq!(item, [5 << 8 | 85, number, 3, NONE, NONE, NONE]);
+    }
+}
+
+#[test]
+fn cooperative_loads_have_shapes() {
+    let load = |shape| {
+        item_of(&Expression::CooperativeLoad {
+            shape,
+            pointer: Handle::new(3),
+            stride: Handle::new(4),
+        })
+    };
+    assert_eq!(load(None), [2 << 8 | 96, 3, 4]);
+    let (eight, sixteen) = (CooperativeSize::Eight, CooperativeSize::Sixteen);
+    let shape = CooperativeShape::new(eight, sixteen, CooperativeRole::C);
+    assert_eq!(load(Some(shape)), [5 << 8 | 96, 3, 4, 8, 16, 2]);
+}
+
+/// The items of a function without a name, of these statements.
+fn items_of_body(body: Vec<Statement>) -> Vec<u32> {
+    let mut words = Words::new();
+    let mut function = Function::new();
+    function.body = body;
+    words.add_function(&function);
+    words.finish().expect("a function has words")[2..].to_vec()
+}
+
+#[test]
+fn cases_have_values() {
+    let value = |value| SwitchCase::new(vec![]).with_value(value);
+    let cases = vec![
+        SwitchCase::new(vec![]),
+        value(SwitchValue::I32(-2)).falling_through(),
+        value(SwitchValue::U32(7)),
+        value(SwitchValue::Default),
+    ];
+    let selector = Handle::new(0);
+    let expected = [
+        vec![1 << 8 | 196, 0],
+        vec![1 << 8 | 197, 0],
+        vec![3 << 8 | 197, 1, 1, NONE - 1],
+        vec![3 << 8 | 197, 0, 2, 7],
+        vec![3 << 8 | 197, 0, 0, 0],
+        vec![200],
+    ];
+    assert_eq!(
+        items_of_body(vec![Statement::Switch { selector, cases }]),
+        expected.concat()
+    );
+}
+
+#[test]
+fn barriers_have_memory() {
+    let all = Barrier::STORAGE | Barrier::WORK_GROUP | Barrier::SUB_GROUP | Barrier::TEXTURE;
+    for (barrier, expected) in [
+        (Barrier::WORK_GROUP, None),
+        (Barrier::default(), Some(0)),
+        (Barrier::STORAGE, Some(1)),
+        (Barrier::STORAGE | Barrier::WORK_GROUP, Some(3)),
+        (Barrier::SUB_GROUP, Some(4)),
+        (Barrier::TEXTURE, Some(8)),
+        (all, Some(15)),
+    ] {
+        let both = vec![
+            Statement::ControlBarrier(barrier),
+            Statement::MemoryBarrier(barrier),
+        ];
+        let expected = match expected {
+            None => vec![206, 207],
+            Some(word) => vec![1 << 8 | 206, word, 1 << 8 | 207, word],
+        };
+        assert_eq!(items_of_body(both), expected);
+    }
+}
+
+#[test]
+fn subgroups_scan() {
+    for (collective_op, expected) in [
+        (CollectiveOperation::Reduce, vec![3 << 8 | 218, 2, 3, 4]),
+        (
+            CollectiveOperation::InclusiveScan,
+            vec![4 << 8 | 218, 2, 3, 4, 1],
+        ),
+        (
+            CollectiveOperation::ExclusiveScan,
+            vec![4 << 8 | 218, 2, 3, 4, 2],
+        ),
+    ] {
+        let operation = Statement::SubgroupCollectiveOperation {
+            op: SubgroupOperation::Add,
+            collective_op,
+            argument: Handle::new(3),
+            result: Handle::new(4),
+        };
+        assert_eq!(items_of_body(vec![operation]), expected);
+    }
 }
 
 #[test]

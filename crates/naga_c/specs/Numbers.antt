@@ -8,6 +8,8 @@ use Rattle.naga_ir.specs.declared.expression.SwizzleComponent.TheVariants as com
 use Rattle.naga_ir.specs.declared.expression.SwizzleComponent.{SwizzleComponent}
 use Rattle.naga_ir.specs.declared.expression.UnaryOperator.TheVariants as unary
 use Rattle.naga_ir.specs.declared.expression.UnaryOperator.{UnaryOperator}
+use Rattle.naga_ir.specs.declared.storage_format.StorageFormat.TheVariants as format
+use Rattle.naga_ir.specs.declared.storage_format.StorageFormat.{StorageFormat}
 use Rattle.naga_ir.specs.declared.types.AddressSpace.TheVariants as space
 use Rattle.naga_ir.specs.declared.types.AddressSpace.{AddressSpace}
 use Rattle.naga_ir.specs.declared.types.ImageClass.TheVariants as class
@@ -128,6 +130,71 @@ math_function_number math.FirstTrailingBit = 54
 math_function_number math.FirstLeadingBit = 55
 math_function_number math.Pack2x16float = 56
 math_function_number math.Unpack2x16float = 57
+math_function_number math.Modf = 58
+math_function_number math.Frexp = 59
+math_function_number math.Ldexp = 60
+math_function_number math.Dot4I8Packed = 61
+math_function_number math.Dot4U8Packed = 62
+math_function_number math.Outer = 63
+math_function_number math.Inverse = 64
+math_function_number math.Pack4x8snorm = 65
+math_function_number math.Pack4x8unorm = 66
+math_function_number math.Pack2x16snorm = 67
+math_function_number math.Pack2x16unorm = 68
+math_function_number math.Pack4xI8 = 69
+math_function_number math.Pack4xU8 = 70
+math_function_number math.Pack4xI8Clamp = 71
+math_function_number math.Pack4xU8Clamp = 72
+math_function_number math.Unpack4x8snorm = 73
+math_function_number math.Unpack4x8unorm = 74
+math_function_number math.Unpack2x16snorm = 75
+math_function_number math.Unpack2x16unorm = 76
+math_function_number math.Unpack4xI8 = 77
+math_function_number math.Unpack4xU8 = 78
+
+-- the number of a format of storage images
+abbrev pub format_number : StorageFormat → ℕ
+format_number format.R8Unorm = 0
+format_number format.R8Snorm = 1
+format_number format.R8Uint = 2
+format_number format.R8Sint = 3
+format_number format.R16Uint = 4
+format_number format.R16Sint = 5
+format_number format.R16Float = 6
+format_number format.Rg8Unorm = 7
+format_number format.Rg8Snorm = 8
+format_number format.Rg8Uint = 9
+format_number format.Rg8Sint = 10
+format_number format.R32Uint = 11
+format_number format.R32Sint = 12
+format_number format.R32Float = 13
+format_number format.Rg16Uint = 14
+format_number format.Rg16Sint = 15
+format_number format.Rg16Float = 16
+format_number format.Rgba8Unorm = 17
+format_number format.Rgba8Snorm = 18
+format_number format.Rgba8Uint = 19
+format_number format.Rgba8Sint = 20
+format_number format.Bgra8Unorm = 21
+format_number format.Rgb10a2Uint = 22
+format_number format.Rgb10a2Unorm = 23
+format_number format.Rg11b10Ufloat = 24
+format_number format.R64Uint = 25
+format_number format.Rg32Uint = 26
+format_number format.Rg32Sint = 27
+format_number format.Rg32Float = 28
+format_number format.Rgba16Uint = 29
+format_number format.Rgba16Sint = 30
+format_number format.Rgba16Float = 31
+format_number format.Rgba32Uint = 32
+format_number format.Rgba32Sint = 33
+format_number format.Rgba32Float = 34
+format_number format.R16Unorm = 35
+format_number format.R16Snorm = 36
+format_number format.Rg16Unorm = 37
+format_number format.Rg16Snorm = 38
+format_number format.Rgba16Unorm = 39
+format_number format.Rgba16Snorm = 40
 
 -- the number of a bool
 abbrev pub bool_number : Boolean → ℕ
@@ -167,7 +234,7 @@ class_number class.External = 3
 abbrev pub class_first : ImageClass → ℕ
 class_first (class.Sampled kind _) = scalar_kind_number kind
 class_first (class.Depth multi) = bool_number multi
-class_first (class.Storage format _) = format.0
+class_first (class.Storage format _) = format_number format
 class_first class.External = 0
 
 -- the second of them

@@ -21,7 +21,7 @@ use Rattle.naga_valid.specs.declared.error.OverrideError.{OverrideError}
 use Rattle.naga_valid.specs.declared.error.OverrideError.TheVariants as override_error
 use Rattle.naga_ir.specs.Sizes.{components}
 use Rattle.naga_c.specs.Kinds.{capability_named, scalar_named}
-use Rattle.naga_c.specs.Numbers.{access_number, binary_operator_number, bool_number, class_first, class_number, class_second, component_number, dimension_number, math_function_number, scalar_kind_number, space_access, space_number, unary_operator_number}
+use Rattle.naga_c.specs.Numbers.{access_number, binary_operator_number, bool_number, class_first, class_number, class_second, component_number, dimension_number, format_number, math_function_number, scalar_kind_number, space_access, space_number, unary_operator_number}
 use Rattle.naga_c.specs.declared.values.Values.{Values}
 
 -- the first five of a list, and 0 for each that it doesn't have
@@ -133,7 +133,7 @@ expression_error_values (expression_error.ExpectedImageType ty) = ty ∷ []
 expression_error_values (expression_error.ExpectedSamplerType ty) = ty ∷ []
 expression_error_values (expression_error.InvalidImageClass class) =
     class_number class ∷ class_first class ∷ class_second class ∷ []
-expression_error_values (expression_error.InvalidImageFormat format) = format.0 ∷ []
+expression_error_values (expression_error.InvalidImageFormat format) = format_number format ∷ []
 expression_error_values (expression_error.InvalidImageStorageAccess access) = access_number access ∷ []
 expression_error_values (expression_error.InvalidImageArrayIndexType operand) = operand ∷ []
 expression_error_values (expression_error.InvalidImageOtherIndexType operand) = operand ∷ []

@@ -1,10 +1,11 @@
 //! The numbers that words have for what errors hold.
 
-ghost use Rattle.naga_words.specs.Tables.{accesses, binary_operators, components, dimensions, kinds, math_functions, unary_operators};
-ghost use Rattle.naga_c.specs.Numbers.{access_number, binary_operator_number, bool_number, class_first, class_number, class_second, component_number, dimension_number, math_function_number, scalar_kind_number, space_access, space_number, unary_operator_number};
+ghost use Rattle.naga_words.specs.Tables.{accesses, binary_operators, components, dimensions, kinds, math_functions, storage_formats, unary_operators};
+ghost use Rattle.naga_c.specs.Numbers.{access_number, binary_operator_number, bool_number, class_first, class_number, class_second, component_number, dimension_number, format_number, math_function_number, scalar_kind_number, space_access, space_number, unary_operator_number};
 ghost use Rattle.std.specs.Prelude.{◌≡◌, Some, slice_get};
 
 use naga_ir::expression::{BinaryOperator, MathFunction, SwizzleComponent, UnaryOperator};
+use naga_ir::storage_format::StorageFormat;
 use naga_ir::types::{AddressSpace, ImageClass, ImageDimension, ScalarKind, StorageAccess};
 
 /// The number of a kind of scalars.
@@ -151,6 +152,27 @@ pub(crate) fn math_function_number(function: MathFunction) -> u64
         MathFunction::FirstLeadingBit => 55,
         MathFunction::Pack2x16float => 56,
         MathFunction::Unpack2x16float => 57,
+        MathFunction::Modf => 58,
+        MathFunction::Frexp => 59,
+        MathFunction::Ldexp => 60,
+        MathFunction::Dot4I8Packed => 61,
+        MathFunction::Dot4U8Packed => 62,
+        MathFunction::Outer => 63,
+        MathFunction::Inverse => 64,
+        MathFunction::Pack4x8snorm => 65,
+        MathFunction::Pack4x8unorm => 66,
+        MathFunction::Pack2x16snorm => 67,
+        MathFunction::Pack2x16unorm => 68,
+        MathFunction::Pack4xI8 => 69,
+        MathFunction::Pack4xU8 => 70,
+        MathFunction::Pack4xI8Clamp => 71,
+        MathFunction::Pack4xU8Clamp => 72,
+        MathFunction::Unpack4x8snorm => 73,
+        MathFunction::Unpack4x8unorm => 74,
+        MathFunction::Unpack2x16snorm => 75,
+        MathFunction::Unpack2x16unorm => 76,
+        MathFunction::Unpack4xI8 => 77,
+        MathFunction::Unpack4xU8 => 78,
     }
 }
 
@@ -168,6 +190,56 @@ pub(crate) fn access_number(access: StorageAccess) -> u64
         (true, false, true) => 5,
         (false, true, true) => 6,
         (true, true, true) => 7,
+    }
+}
+
+/// The number of a format of storage images.
+pub(crate) fn format_number(format: StorageFormat) -> u64
+    ensures value { result ≡ format_number format }
+    ensures word { slice_get storage_formats result ≡ Some format }
+{
+    match format {
+        StorageFormat::R8Unorm => 0,
+        StorageFormat::R8Snorm => 1,
+        StorageFormat::R8Uint => 2,
+        StorageFormat::R8Sint => 3,
+        StorageFormat::R16Uint => 4,
+        StorageFormat::R16Sint => 5,
+        StorageFormat::R16Float => 6,
+        StorageFormat::Rg8Unorm => 7,
+        StorageFormat::Rg8Snorm => 8,
+        StorageFormat::Rg8Uint => 9,
+        StorageFormat::Rg8Sint => 10,
+        StorageFormat::R32Uint => 11,
+        StorageFormat::R32Sint => 12,
+        StorageFormat::R32Float => 13,
+        StorageFormat::Rg16Uint => 14,
+        StorageFormat::Rg16Sint => 15,
+        StorageFormat::Rg16Float => 16,
+        StorageFormat::Rgba8Unorm => 17,
+        StorageFormat::Rgba8Snorm => 18,
+        StorageFormat::Rgba8Uint => 19,
+        StorageFormat::Rgba8Sint => 20,
+        StorageFormat::Bgra8Unorm => 21,
+        StorageFormat::Rgb10a2Uint => 22,
+        StorageFormat::Rgb10a2Unorm => 23,
+        StorageFormat::Rg11b10Ufloat => 24,
+        StorageFormat::R64Uint => 25,
+        StorageFormat::Rg32Uint => 26,
+        StorageFormat::Rg32Sint => 27,
+        StorageFormat::Rg32Float => 28,
+        StorageFormat::Rgba16Uint => 29,
+        StorageFormat::Rgba16Sint => 30,
+        StorageFormat::Rgba16Float => 31,
+        StorageFormat::Rgba32Uint => 32,
+        StorageFormat::Rgba32Sint => 33,
+        StorageFormat::Rgba32Float => 34,
+        StorageFormat::R16Unorm => 35,
+        StorageFormat::R16Snorm => 36,
+        StorageFormat::Rg16Unorm => 37,
+        StorageFormat::Rg16Snorm => 38,
+        StorageFormat::Rgba16Unorm => 39,
+        StorageFormat::Rgba16Snorm => 40,
     }
 }
 
@@ -233,7 +305,7 @@ pub(crate) fn class_first(class: ImageClass) -> u64
     match class {
         ImageClass::Sampled { kind, .. } => scalar_kind_number(kind),
         ImageClass::Depth { multi } => bool_number(multi),
-        ImageClass::Storage { format, .. } => u64::from(format.0),
+        ImageClass::Storage { format, .. } => format_number(format),
         ImageClass::External => 0,
     }
 }

@@ -18,9 +18,9 @@ use std::alloc::Global;
 /// The version of this interface.
 #[unsafe(no_mangle)]
 pub extern "C" fn naga_check_abi_version() -> u32
-    ensures { result ≡ 2 }
+    ensures { result ≡ 3 }
 {
-    2
+    3
 }
 
 /// Checks the types of a text.

@@ -7,8 +7,8 @@ ghost use Rattle.std.specs.Prelude.{◌≡◌, ◌<◌, ℕ, List, [], ◌∷◌
 use crate::kinds::{capability_named, scalar_named};
 use crate::numbers::{
     access_number, binary_operator_number, bool_number, class_first, class_number, class_second,
-    component_number, dimension_number, math_function_number, scalar_kind_number, space_access,
-    space_number, unary_operator_number,
+    component_number, dimension_number, format_number, math_function_number, scalar_kind_number,
+    space_access, space_number, unary_operator_number,
 };
 use bitflags::Flags;
 use naga_flags::width::WidthError;
@@ -325,7 +325,7 @@ pub(crate) fn expression_error_values(error: &ExpressionError) -> Values
             class_first(*class),
             class_second(*class),
         ),
-        ExpressionError::InvalidImageFormat(format) => one(u64::from(format.0)),
+        ExpressionError::InvalidImageFormat(format) => one(format_number(*format)),
         ExpressionError::InvalidImageStorageAccess(access) => one(access_number(*access)),
         ExpressionError::InvalidImageArrayIndexType(operand) => one(operand.index() as u64),
         ExpressionError::InvalidImageOtherIndexType(operand) => one(operand.index() as u64),

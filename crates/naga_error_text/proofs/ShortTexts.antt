@@ -64,13 +64,14 @@ named_short names.Spaces n = name_in_short (names names.Spaces) n refl
 named_short names.UnaryOperators n = name_in_short (names names.UnaryOperators) n refl
 named_short names.BinaryOperators n = name_in_short (names names.BinaryOperators) n refl
 named_short names.MathFunctions n = name_in_short (names names.MathFunctions) n refl
+named_short names.StorageFormats n = name_in_short (names names.StorageFormats) n refl
 named_short names.Capabilities n = name_in_short (names names.Capabilities) n refl
 
 -- the text of a class of images is short
 class_parts_short : (class : ImageClass) (a b : ℕ) → a < 2 ^ 64 → length (concat (image_class_parts class (two_values a b))) ≤ 1024
 class_parts_short Sampled a b fits = grind (arith, places, named_short names.ScalarKinds a, named_short names.Bools b)
 class_parts_short Depth a b fits = grind (arith, places, named_short names.Bools a)
-class_parts_short Storage a b fits = grind (arith, places, decimal_short a fits, named_short names.Accesses b)
+class_parts_short Storage a b fits = grind (arith, places, named_short names.StorageFormats a, named_short names.Accesses b)
 class_parts_short External a b fits = grind (arith, places)
 class_parts_short Unknown a b fits = grind (arith, places)
 

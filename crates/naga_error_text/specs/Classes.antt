@@ -1,7 +1,7 @@
 -- The texts of classes of images.
-use Rattle.std.specs.Prelude.{ℕ, List, [], ◌∷◌, ◌==◌, codes, decimal, if◌then◌else◌}
+use Rattle.std.specs.Prelude.{ℕ, List, [], ◌∷◌, ◌==◌, codes, if◌then◌else◌}
 use Rattle.std.specs.List.{concat}
-use Rattle.naga_error_text.specs.declared.names.Names.TheVariants.{Accesses, Bools, ScalarKinds}
+use Rattle.naga_error_text.specs.declared.names.Names.TheVariants.{Accesses, Bools, ScalarKinds, StorageFormats}
 use Rattle.naga_error_text.specs.declared.pieces.ImageClass.{ImageClass}
 use Rattle.naga_error_text.specs.declared.pieces.ImageClass.TheVariants.{Sampled, Depth, Storage, External, Unknown}
 use Rattle.naga_error_text.specs.declared.pieces.Values.{Values}
@@ -19,7 +19,8 @@ image_class_parts Sampled v =
     codes "Sampled { kind: " ∷ named ScalarKinds v.first ∷ codes ", multi: " ∷ named Bools v.second ∷ codes " }" ∷ []
 image_class_parts Depth v = codes "Depth { multi: " ∷ named Bools v.first ∷ codes " }" ∷ []
 image_class_parts Storage v =
-    codes "Storage { format: " ∷ decimal v.first ∷ codes ", access: " ∷ named Accesses v.second ∷ codes " }" ∷ []
+    codes "Storage { format: " ∷ named StorageFormats v.first ∷ codes ", access: " ∷ named Accesses v.second ∷
+    codes " }" ∷ []
 image_class_parts External v = codes "External" ∷ []
 image_class_parts Unknown v = codes "unknown" ∷ []
 

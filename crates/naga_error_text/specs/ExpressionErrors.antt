@@ -2,7 +2,7 @@
 use Rattle.std.specs.Prelude.{ℕ, List, [], ◌∷◌, codes, decimal, Option, Some, None}
 use Rattle.naga_error_text.specs.declared.families.Family.{Family}
 use Rattle.naga_error_text.specs.declared.families.Family.TheVariants as family
-use Rattle.naga_error_text.specs.declared.names.Names.TheVariants.{Accesses, BinaryOperators, Bools, Capabilities, Components, Dimensions, MathFunctions, ScalarKinds, UnaryOperators, VectorSizes}
+use Rattle.naga_error_text.specs.declared.names.Names.TheVariants.{Accesses, BinaryOperators, Bools, Capabilities, Components, Dimensions, MathFunctions, ScalarKinds, StorageFormats, UnaryOperators, VectorSizes}
 use Rattle.naga_error_text.specs.declared.pieces.Values.{Values}
 use Rattle.naga_error_text.specs.declared.expression_errors.ExpressionError.{ExpressionError}
 use Rattle.naga_error_text.specs.declared.expression_errors.ExpressionError.TheVariants as expression_error
@@ -98,7 +98,7 @@ expression_error_parts expression_error.ExpectedSamplerType v =
 expression_error_parts expression_error.InvalidImageClass v =
     codes "Unable to operate on image class " ∷ image_class v.first v.second v.third ∷ []
 expression_error_parts expression_error.InvalidImageFormat v =
-    codes "Image atomics are not supported for storage format " ∷ decimal v.first ∷ []
+    codes "Image atomics are not supported for storage format " ∷ named StorageFormats v.first ∷ []
 expression_error_parts expression_error.InvalidImageStorageAccess v =
     codes "Image atomics require atomic storage access, " ∷ named Accesses v.first ∷ codes " is insufficient" ∷ []
 expression_error_parts expression_error.InvalidDerivative v =

@@ -1,7 +1,7 @@
 -- The names that texts show in place of numbers.
 use Rattle.std.specs.Prelude.{ℕ, List, [], ◌∷◌, codes, ◌==◌, if◌then◌else◌}
 use Rattle.naga_error_text.specs.declared.names.Names.{Names}
-use Rattle.naga_error_text.specs.declared.names.Names.TheVariants.{ItemKinds, Bools, ScalarKinds, ScalarLetters, ScalarBits, VectorSizes, Components, Dimensions, ImageNames, Accesses, Spaces, UnaryOperators, BinaryOperators, MathFunctions, Capabilities}
+use Rattle.naga_error_text.specs.declared.names.Names.TheVariants.{ItemKinds, Bools, ScalarKinds, ScalarLetters, ScalarBits, VectorSizes, Components, Dimensions, ImageNames, Accesses, Spaces, UnaryOperators, BinaryOperators, MathFunctions, StorageFormats, Capabilities}
 
 -- the name of the number `n` in a table, or "unknown"
 abbrev pub name_in : List (ℕ × List ℕ) → ℕ → List ℕ
@@ -57,7 +57,24 @@ names MathFunctions =
     (47, codes "QuantizeToF16") ∷ (48, codes "CountTrailingZeros") ∷ (49, codes "CountLeadingZeros") ∷
     (50, codes "CountOneBits") ∷ (51, codes "ReverseBits") ∷ (52, codes "ExtractBits") ∷ (53, codes "InsertBits") ∷
     (54, codes "FirstTrailingBit") ∷ (55, codes "FirstLeadingBit") ∷ (56, codes "Pack2x16float") ∷
-    (57, codes "Unpack2x16float") ∷ []
+    (57, codes "Unpack2x16float") ∷ (58, codes "Modf") ∷ (59, codes "Frexp") ∷ (60, codes "Ldexp") ∷
+    (61, codes "Dot4I8Packed") ∷ (62, codes "Dot4U8Packed") ∷ (63, codes "Outer") ∷ (64, codes "Inverse") ∷
+    (65, codes "Pack4x8snorm") ∷ (66, codes "Pack4x8unorm") ∷ (67, codes "Pack2x16snorm") ∷
+    (68, codes "Pack2x16unorm") ∷ (69, codes "Pack4xI8") ∷ (70, codes "Pack4xU8") ∷ (71, codes "Pack4xI8Clamp") ∷
+    (72, codes "Pack4xU8Clamp") ∷ (73, codes "Unpack4x8snorm") ∷ (74, codes "Unpack4x8unorm") ∷
+    (75, codes "Unpack2x16snorm") ∷ (76, codes "Unpack2x16unorm") ∷ (77, codes "Unpack4xI8") ∷
+    (78, codes "Unpack4xU8") ∷ []
+names StorageFormats =
+    (0, codes "R8Unorm") ∷ (1, codes "R8Snorm") ∷ (2, codes "R8Uint") ∷ (3, codes "R8Sint") ∷ (4, codes "R16Uint") ∷
+    (5, codes "R16Sint") ∷ (6, codes "R16Float") ∷ (7, codes "Rg8Unorm") ∷ (8, codes "Rg8Snorm") ∷
+    (9, codes "Rg8Uint") ∷ (10, codes "Rg8Sint") ∷ (11, codes "R32Uint") ∷ (12, codes "R32Sint") ∷
+    (13, codes "R32Float") ∷ (14, codes "Rg16Uint") ∷ (15, codes "Rg16Sint") ∷ (16, codes "Rg16Float") ∷
+    (17, codes "Rgba8Unorm") ∷ (18, codes "Rgba8Snorm") ∷ (19, codes "Rgba8Uint") ∷ (20, codes "Rgba8Sint") ∷
+    (21, codes "Bgra8Unorm") ∷ (22, codes "Rgb10a2Uint") ∷ (23, codes "Rgb10a2Unorm") ∷ (24, codes "Rg11b10Ufloat") ∷
+    (25, codes "R64Uint") ∷ (26, codes "Rg32Uint") ∷ (27, codes "Rg32Sint") ∷ (28, codes "Rg32Float") ∷
+    (29, codes "Rgba16Uint") ∷ (30, codes "Rgba16Sint") ∷ (31, codes "Rgba16Float") ∷ (32, codes "Rgba32Uint") ∷
+    (33, codes "Rgba32Sint") ∷ (34, codes "Rgba32Float") ∷ (35, codes "R16Unorm") ∷ (36, codes "R16Snorm") ∷
+    (37, codes "Rg16Unorm") ∷ (38, codes "Rg16Snorm") ∷ (39, codes "Rgba16Unorm") ∷ (40, codes "Rgba16Snorm") ∷ []
 names Capabilities =
     (1, codes "IMMEDIATES") ∷ (2, codes "FLOAT64") ∷ (4, codes "PRIMITIVE_INDEX") ∷
     (8, codes "TEXTURE_AND_SAMPLER_BINDING_ARRAY") ∷ (16, codes "BUFFER_BINDING_ARRAY") ∷

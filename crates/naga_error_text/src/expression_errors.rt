@@ -352,7 +352,7 @@ pub(crate) fn expression_error_pieces(error: ExpressionError) -> &'static [Piece
         ],
         ExpressionError::InvalidImageFormat => &[
             Words("Image atomics are not supported for storage format "),
-            Number(First),
+            Name(Names::StorageFormats, First),
         ],
         ExpressionError::InvalidImageStorageAccess => &[
             Words("Image atomics require atomic storage access, "),

@@ -121,7 +121,7 @@ pub(crate) fn image_class_pieces(class: ImageClass) -> &'static [Part]
         ],
         ImageClass::Storage => &[
             Part::Words("Storage { format: "),
-            Part::Number(Place::First),
+            Part::Name(Names::StorageFormats, Place::First),
             Part::Words(", access: "),
             Part::Name(Names::Accesses, Place::Second),
             Part::Words(" }"),
