@@ -86,7 +86,7 @@ fn each_error_has_the_text_of_the_crate() {
             numbers / 17920,
         ];
         // Errors within one that holds no other change nothing, and few of those that do hold values.
-        let rounds = if errors[1..] == [0; 3] { 100 } else { 10 };
+        let rounds = if errors[1..] == [0; 3] { 400 } else { 10 };
         for round in 0..rounds {
             let outcome = NagaCheckOutcome {
                 index: round.into(),
