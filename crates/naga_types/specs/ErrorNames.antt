@@ -18,14 +18,31 @@ disalignment_name (disalignment.MemberOffsetAfterStruct _ _ _) = codes "MemberOf
 disalignment_name (disalignment.UnsizedMember _) = codes "UnsizedMember"
 disalignment_name disalignment.NonHostShareable = codes "NonHostShareable"
 
--- the name of the reason why the members of a struct can't be the two sources of blending
+-- the name of the reason why an input or output is refused, or why members can't be the two sources of blending
 abbrev pub varying_error_name : VaryingError → List ℕ
-varying_error_name (varying_error.InvalidBlendSrcIndex _ _) = codes "InvalidBlendSrcIndex"
+varying_error_name (varying_error.InvalidType _) = codes "InvalidType"
+varying_error_name (varying_error.NotIOShareableType _) = codes "NotIOShareableType"
+varying_error_name varying_error.InvalidInterpolation = codes "InvalidInterpolation"
+varying_error_name (varying_error.InvalidInterpolationSamplingCombination _ _) =
+    codes "InvalidInterpolationSamplingCombination"
+varying_error_name varying_error.MissingInterpolation = codes "MissingInterpolation"
+varying_error_name (varying_error.InvalidBuiltInStage _) = codes "InvalidBuiltInStage"
+varying_error_name (varying_error.InvalidBuiltInType _) = codes "InvalidBuiltInType"
+varying_error_name varying_error.MissingBinding = codes "MissingBinding"
+varying_error_name (varying_error.MemberMissingBinding _) = codes "MemberMissingBinding"
+varying_error_name (varying_error.BindingCollision _) = codes "BindingCollision"
 varying_error_name (varying_error.BindingCollisionBlendSrc _) = codes "BindingCollisionBlendSrc"
+varying_error_name (varying_error.DuplicateBuiltIn _) = codes "DuplicateBuiltIn"
+varying_error_name (varying_error.UnsupportedCapability _) = codes "UnsupportedCapability"
+varying_error_name (varying_error.InvalidInputAttributeInStage _) = codes "InvalidInputAttributeInStage"
+varying_error_name (varying_error.InvalidAttributeInStage _) = codes "InvalidAttributeInStage"
+varying_error_name (varying_error.InvalidBlendSrcIndex _ _) = codes "InvalidBlendSrcIndex"
+varying_error_name (varying_error.IncompleteBlendSrcUsage _) = codes "IncompleteBlendSrcUsage"
 varying_error_name (varying_error.InvalidBlendSrcWithOtherBindings _) = codes "InvalidBlendSrcWithOtherBindings"
 varying_error_name (varying_error.BlendSrcOutputTypeMismatch _ _) = codes "BlendSrcOutputTypeMismatch"
-varying_error_name (varying_error.NotIOShareableType _) = codes "NotIOShareableType"
-varying_error_name (varying_error.IncompleteBlendSrcUsage _) = codes "IncompleteBlendSrcUsage"
+varying_error_name varying_error.InvalidMultiDimensionalSubgroupBuiltIn = codes "InvalidMultiDimensionalSubgroupBuiltIn"
+varying_error_name varying_error.InvalidPerPrimitive = codes "InvalidPerPrimitive"
+varying_error_name varying_error.OutOfMemory = codes "OutOfMemory"
 
 -- the name of the rule that a type breaks
 abbrev pub type_error_name : TypeError → List ℕ

@@ -7,11 +7,15 @@ ghost use Rattle.naga_types.specs.Layouts as layouts;
 use naga_flags::flags::Capabilities;
 use naga_flags::width::WidthError;
 use naga_ir::alignment::Alignment;
+use naga_ir::built_in::BuiltIn;
 use naga_ir::handle::Handle;
+use naga_ir::ir::ShaderStage;
 use naga_ir::memory::OutOfMemory;
 use naga_ir::tags::{ConstantTag, TypeTag};
 use naga_ir::text::Text;
-use naga_ir::types::{AddressSpace, ImageClass, ImageDimension, ScalarKind};
+use naga_ir::types::{
+    AddressSpace, ImageClass, ImageDimension, Interpolation, Sampling, ScalarKind,
+};
 use std::fmt;
 use thiserror::Error;
 
@@ -109,10 +113,64 @@ impl fmt::Display for Disalignment {
 
 impl std::error::Error for Disalignment {}
 
-/// Why the members of a struct can't be the two sources of blending (WGSL "blend_src"): the variants of
-/// naga's `VaryingError` that structs give.
+/// Why an input or output of an entry point is refused, or why the members of a struct can't be the two sources of
+/// blending (WGSL "User-defined Inputs and Outputs", "blend_src"): naga's `VaryingError`. The rule of structs gives
+/// only the errors about blend sources, and `NotIOShareableType`.
 #[derive(Clone, Debug, PartialEq, Drop, Error)]
 pub enum VaryingError {
+    /// The type at a location is not a scalar or a vector.
+    #[error("The type {0:?} does not match the varying")]
+    InvalidType(Handle<TypeTag>),
+    /// Pipeline stages can't pass values of the type (WGSL "Input-output Locations").
+    #[error("Values of the type {0:?} can't be passed between pipeline stages")]
+    NotIOShareableType(Handle<TypeTag>),
+    /// The values of integers are not interpolated, and the interpolation is not `Flat`.
+    #[error("Interpolation is not valid")]
+    InvalidInterpolation,
+    /// The sampling says nothing of values that are interpolated so (WGSL "Interpolation").
+    #[error("Cannot combine {interpolation:?} interpolation with the {sampling:?} sample type")]
+    InvalidInterpolationSamplingCombination {
+        interpolation: Interpolation,
+        sampling: Sampling,
+    },
+    /// A floating-point output of a vertex shader or input of a fragment shader has no interpolation.
+    #[error("Interpolation must be specified on vertex shader outputs and fragment shader inputs")]
+    MissingInterpolation,
+    /// The stage has no such built-in value as an input, or as an output.
+    #[error("Built-in {0:?} is not available at this stage")]
+    InvalidBuiltInStage(BuiltIn),
+    /// The built-in value has another type (WGSL "Built-in Inputs and Outputs").
+    #[error("Built-in type for {0:?} is invalid")]
+    InvalidBuiltInType(BuiltIn),
+    /// An argument or a result that is not a struct has no binding.
+    #[error("Entry point arguments and return values must all have bindings")]
+    MissingBinding,
+    /// The member of this index has no binding.
+    #[error("Struct member {0} is missing a binding")]
+    MemberMissingBinding(usize),
+    /// An earlier input, or an earlier output, has the same location.
+    #[error("Multiple bindings at location {location} are present")]
+    BindingCollision {
+        location: u32,
+    },
+    /// An earlier member or output is the same source of blending.
+    #[error("Several members are the blend source {blend_src}")]
+    BindingCollisionBlendSrc {
+        /// The index of the source.
+        blend_src: u32,
+    },
+    /// An earlier input, or an earlier output, is the same built-in value.
+    #[error("Built-in {0:?} is present more than once")]
+    DuplicateBuiltIn(BuiltIn),
+    /// The binding needs a capability that isn't given.
+    #[error("Capability {0:?} is not supported")]
+    UnsupportedCapability(Capabilities),
+    /// A source of blending is an input of this stage, and not an output.
+    #[error("A blend source is only valid as an output for stage {0:?}")]
+    InvalidInputAttributeInStage(ShaderStage),
+    /// This stage has no sources of blending.
+    #[error("A blend source is not valid for stage {0:?}")]
+    InvalidAttributeInStage(ShaderStage),
     /// A source of blending has another location than 0, or an index other than 0 and 1.
     #[error("A blend source has to be 0 or 1 at location 0, and not {blend_src} at location {location}")]
     InvalidBlendSrcIndex {
@@ -120,11 +178,11 @@ pub enum VaryingError {
         /// The index of the source.
         blend_src: u32,
     },
-    /// A member before is the same source.
-    #[error("Several members are the blend source {blend_src}")]
-    BindingCollisionBlendSrc {
-        /// The index of the source.
-        blend_src: u32,
+    /// Only one of the two sources exists.
+    #[error("Only the blend source {present_blend_src} is there, and not the other one")]
+    IncompleteBlendSrcUsage {
+        /// The index of the source that exists.
+        present_blend_src: u32,
     },
     /// A member of a struct with blend sources has a location, but is not a source itself.
     #[error("A member at location {location} stands beside blend sources")]
@@ -138,15 +196,15 @@ pub enum VaryingError {
         blend_src_0_type: Handle<TypeTag>,
         blend_src_1_type: Handle<TypeTag>,
     },
-    /// Pipeline stages can't pass values of the sources' type (WGSL "Input-output Locations").
-    #[error("Values of the type {0:?} can't be passed between pipeline stages")]
-    NotIOShareableType(Handle<TypeTag>),
-    /// Only one of the two sources exists.
-    #[error("Only the blend source {present_blend_src} is there, and not the other one")]
-    IncompleteBlendSrcUsage {
-        /// The index of the source that exists.
-        present_blend_src: u32,
-    },
+    /// The place of an invocation among subgroups is only defined in workgroups of one dimension.
+    #[error("Workgroup size is multi dimensional, so built-in values of subgroups are not supported")]
+    InvalidMultiDimensionalSubgroupBuiltIn,
+    /// A value of each primitive is not an input of a fragment shader.
+    #[error("Values of each primitive can only be inputs of fragment shaders")]
+    InvalidPerPrimitive,
+    /// A request for memory was refused, and nothing was decided. The rule of structs takes none.
+    #[error("Out of memory")]
+    OutOfMemory,
 }
 
 impl VaryingError {
@@ -155,14 +213,43 @@ impl VaryingError {
         ensures { result.now ≡ varying_error_name self.now }
     {
         match self {
-            VaryingError::InvalidBlendSrcIndex { .. } => "InvalidBlendSrcIndex",
+            VaryingError::InvalidType(_) => "InvalidType",
+            VaryingError::NotIOShareableType(_) => "NotIOShareableType",
+            VaryingError::InvalidInterpolation => "InvalidInterpolation",
+            VaryingError::InvalidInterpolationSamplingCombination { .. } =>
+                "InvalidInterpolationSamplingCombination",
+            VaryingError::MissingInterpolation => "MissingInterpolation",
+            VaryingError::InvalidBuiltInStage(_) => "InvalidBuiltInStage",
+            VaryingError::InvalidBuiltInType(_) => "InvalidBuiltInType",
+            VaryingError::MissingBinding => "MissingBinding",
+            VaryingError::MemberMissingBinding(_) => "MemberMissingBinding",
+            VaryingError::BindingCollision { .. } => "BindingCollision",
             VaryingError::BindingCollisionBlendSrc { .. } => "BindingCollisionBlendSrc",
+            VaryingError::DuplicateBuiltIn(_) => "DuplicateBuiltIn",
+            VaryingError::UnsupportedCapability(_) => "UnsupportedCapability",
+            VaryingError::InvalidInputAttributeInStage(_) => "InvalidInputAttributeInStage",
+            VaryingError::InvalidAttributeInStage(_) => "InvalidAttributeInStage",
+            VaryingError::InvalidBlendSrcIndex { .. } => "InvalidBlendSrcIndex",
+            VaryingError::IncompleteBlendSrcUsage { .. } => "IncompleteBlendSrcUsage",
             VaryingError::InvalidBlendSrcWithOtherBindings { .. } =>
                 "InvalidBlendSrcWithOtherBindings",
             VaryingError::BlendSrcOutputTypeMismatch { .. } => "BlendSrcOutputTypeMismatch",
-            VaryingError::NotIOShareableType(_) => "NotIOShareableType",
-            VaryingError::IncompleteBlendSrcUsage { .. } => "IncompleteBlendSrcUsage",
+            VaryingError::InvalidMultiDimensionalSubgroupBuiltIn =>
+                "InvalidMultiDimensionalSubgroupBuiltIn",
+            VaryingError::InvalidPerPrimitive => "InvalidPerPrimitive",
+            VaryingError::OutOfMemory => "OutOfMemory",
         }
+    }
+}
+
+impl From<OutOfMemory> for VaryingError {
+    ghost use Rattle.std.specs.Prelude.{◌≡◌};
+    ghost use Rattle.naga_types.specs.declared.error.VaryingError.TheVariants as variant;
+
+    ghost from_gives = { λ _ error. error ≡ variant.OutOfMemory };
+
+    fn from(_: OutOfMemory) -> VaryingError {
+        VaryingError::OutOfMemory
     }
 }
 
