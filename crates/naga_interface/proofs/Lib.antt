@@ -1,0 +1,9 @@
+mod Conditions
+mod FirstErrors
+mod KnownParts
+mod MoreBindings
+mod NoMemory
+mod PlainNumbers
+mod Sets
+mod UnusedKinds
+mod VaryingRefusals
