@@ -1,13 +1,21 @@
 mod AllFunctions
+mod Buffers
+mod DeclarationAnswers
+mod DeclaredItems
 mod FirstErrors
 mod FunctionLaws
 mod FunctionRules
 mod Ids
 mod ItemsInOrder
+pub mod KnownModules
+mod KnownTypes
 mod Meanings
 mod ModuleLaws
 mod MoreCapabilities
+mod MoreDeclarations
 mod MoreStages
+mod NamesInOrder
+mod NeededKinds
 mod OverrideValues
 mod ReferencedItems
 mod Refusals

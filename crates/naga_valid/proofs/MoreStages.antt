@@ -132,7 +132,7 @@ one-usable (x ∷ less) [] a b h one = absurd (omega (arith, h.as_many))
 one-usable (x ∷ less) (y ∷ more) a b h one = first-usable x y (less ++ a ∷ []) (more ++ b ∷ []) (h.each zero x y refl refl) (one-usable less more a b (rest-usable x y less more h) one)
 
 -- one more of the first items is the next one behind them
-take-one-more : {A : Type 0} (items : List A) (n : ℕ) (a : A) → slice_get items n ≡ Some a → take (suc n) items ≡ take n items ++ a ∷ []
+pub take-one-more : {A : Type 0} (items : List A) (n : ℕ) (a : A) → slice_get items n ≡ Some a → take (suc n) items ≡ take n items ++ a ∷ []
 take-one-more [] n a at = cc at
 take-one-more (item ∷ items) zero a at = ap (λ b. b ∷ []) (same_Some item a at)
 take-one-more (item ∷ items) (suc n) a at = ap (λ rest. item ∷ rest) (take-one-more items n a at)

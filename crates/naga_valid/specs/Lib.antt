@@ -11,6 +11,9 @@
 -- Functions.AreFunctionsReadyInOrder: the functions of a module can be validated in order
 -- AllFunctions.ValidatesFunctions, AddsInfos: what is known of all functions and entry points, each by those before
 -- it, or the first that is refused
+-- Interfaces.KeepVariables, IsVariableRefusal: the variables of a module are accepted, or the first that is refused
+-- Interfaces.IsInterfacesResult, IsDeclarationsResult: the same of what functions declare and of entry points, and of
+-- all that is declared
 -- MoreCapabilities.HasMoreCapabilities, KnowsMoreStages: when a validator allows what another does, and when no fewer
 -- stages may use what is known of a module
 -- State.State, Settings, new_state: what a validator keeps from call to call, and begins with
@@ -21,6 +24,7 @@ pub mod AllFunctions
 pub mod ErrorNames
 pub mod Faults
 pub mod Functions
+pub mod Interfaces
 pub mod MoreCapabilities
 pub mod State
 pub mod Values

@@ -2,4 +2,5 @@
 pub mod AllFunctions
 pub mod Functions
 pub mod Ids
+pub mod Interfaces
 pub mod KnownValues

@@ -12,6 +12,7 @@ ghost use Rattle.naga_ir.specs.ItemReferences.{global_lists};
 ghost use Rattle.naga_info.specs.Integers.{scope_in};
 ghost use Rattle.naga_info.specs.Sources.{AreSources, AreSourcesRight};
 ghost use Rattle.naga_info.specs.Surroundings.{IsReady, surroundings};
+ghost use Rattle.naga_interface.specs.Surroundings.{surroundings as interface_surroundings};
 ghost use Rattle.naga_types.specs.AcceptedTypes.{IsLaidOut, surroundings_by, rule_at};
 ghost use Rattle.naga_types.specs.HostLeaves.{AllLeavesAreSeparate};
 ghost use Rattle.naga_types.specs.RuleResults.{IsRuleResult};
@@ -20,6 +21,7 @@ ghost use Rattle.naga_typing.specs.Resolutions.{TypesExist};
 ghost use Rattle.naga_typing.specs.Typings.{AreResolved, Resolves};
 ghost use Rattle.naga_valid.specs.Accepted.{Accepts, AreValidTypes, Refuses, lists_of};
 ghost use Rattle.naga_valid.specs.Functions.{surroundings_under};
+ghost use Rattle.naga_valid.specs.Interfaces.{surroundings_of};
 ghost use Rattle.naga_valid.specs.State.{settings_of};
 ghost use Rattle.naga_valid.specs.State as state;
 ghost use Rattle.naga_valid.specs.steps.KnownValues.{IsFirstUnresolved};
@@ -38,6 +40,7 @@ use naga_info::context::{ExprContext, FunctionContext};
 use naga_info::expression_error::ExpressionError;
 use naga_info::module_info::{FunctionInfo, ModuleInfo};
 use naga_info::sources::Sources;
+use naga_interface::context::InterfaceContext;
 use naga_ir::expression::{Expression, Literal};
 use naga_ir::handle::Handle;
 use naga_ir::ir::{Function, Module};
@@ -419,6 +422,18 @@ impl<T: Typing> Validator<T> {
             mod_info,
             kinds,
             sources,
+        }
+    }
+
+    /// What the rules of variables, inputs and outputs of a module depend on, of whose types the infos are known.
+    pub(super) fn interface_context<'a>(&'a self, module: &'a Module) -> InterfaceContext<'a>
+        ensures { interface_surroundings result ≡ surroundings_of self.now «module».now }
+    {
+        InterfaceContext {
+            flags: self.flags,
+            capabilities: self.capabilities,
+            types: &module.types,
+            infos: &self.infos,
         }
     }
 

@@ -9,10 +9,11 @@
 //! The leaves of a value are its scalars, vectors, matrices and atomics, at any depth of arrays and
 //! structs. Each is named by the indices of the elements and members that lead to it.
 
-ghost use Rattle.std.specs.Prelude.{◌≡◌, ◌↔◌, ◌+◌, ◌*◌, ◌≤◌, ℕ, IfSome, IsTrue, List, Ok, Some, bit_or, length, slice_get, true};
+ghost use Rattle.std.specs.Prelude.{◌≡◌, ◌↔◌, ◌+◌, ◌*◌, ◌≤◌, ℕ, IfSome, IsTrue, List, Ok, Some, bit_or, false, length, slice_get, true};
 ghost use Rattle.naga_exprs.specs.ExpressionRule.{IsRule};
 ghost use Rattle.naga_exprs.specs.Math.{math_typing};
 ghost use Rattle.naga_exprs.specs.MoreCapabilities.{AllowsMore};
+ghost use Rattle.naga_flags.specs.Bits.{STRUCT_LAYOUTS};
 ghost use Rattle.naga_flags.specs.Flags.{has};
 ghost use Rattle.naga_flags.specs.declared.flags.ShaderStages.{ShaderStages};
 ghost use Rattle.naga_immediates.specs.LeafSlots.{HasNoArray, HasSlotsOfLeaves};
@@ -31,6 +32,7 @@ ghost use Rattle.naga_types.specs.TypeRule.{type_rule_with};
 ghost use Rattle.naga_typing.specs.Leaves.{AreSeparate, EndsInArray, HasNoShortStride, inner_at, size_at_index};
 ghost use Rattle.naga_valid.specs.Accepted.{Accepts, AcceptsBy, AreValidTypes};
 ghost use Rattle.naga_valid.specs.Functions.{AreFunctionsReadyInOrder, validator_surroundings};
+ghost use Rattle.naga_valid.specs.Interfaces.{AcceptsDeclarationsToo, HasSeparateLeaves, IsBuffer, IsKnown, KeepVariables, surroundings_of};
 ghost use Rattle.naga_valid.specs.MoreCapabilities.{AcceptsFunctionsToo, HasMoreCapabilities};
 ghost use Rattle.naga_valid.specs.State.{settings_of, stages_with};
 
@@ -41,7 +43,7 @@ use naga_info::module_info::ModuleInfo;
 use naga_ir::expression::Expression;
 use naga_ir::handle::Handle;
 use naga_ir::ir::Module;
-use naga_ir::tags::TypeTag;
+use naga_ir::tags::{GlobalVariableTag, TypeTag};
 use naga_typing::typing::Typing;
 
 /// The leaves of a type that is `SIZED`, whose size the module or an override gives: the first byte of
@@ -299,4 +301,41 @@ pub fn more_capabilities_functions<T: Typing>(
     requires stages { IsTrue (has more.now.subgroup_stages.0 validator.now.subgroup_stages.0) }
     ensures { let by = validator_surroundings T.resolves T.accepts_types T.least_arguments in
         AcceptsFunctionsToo (by validator.now resolved «module».now) (by more.now resolved «module».now) «module».now }
+{}
+
+/// The leaves of each uniform and storage variable of a module whose variables are accepted, of a binding if it has
+/// several: the first byte of each is a multiple of its alignment, no two share a byte, and each ends within the size of
+/// the type, or, if it ends in a runtime-sized array of `length` elements, where these end. So a host can fill the buffer
+/// that it binds, leaf by leaf. No layout is asked for: the rule of variables asks for it.
+///
+/// `mod_info` is what `validate` or `validate_resolved_overrides` returned, and functions may have been added since. The
+/// validator has the flag `STRUCT_LAYOUTS`: without it layouts are not validated.
+pub fn buffers<T: Typing>(
+    module: &Module,
+    validator: &Validator<T>,
+    mod_info: &ModuleInfo,
+    variable: Handle<GlobalVariableTag>,
+    length: u32,
+)
+    requires known { IsKnown (T.resolves validator.now.typing) validator.now «module».now mod_info.now.lists }
+    requires layouts { IsTrue (has validator.now.flags.0 STRUCT_LAYOUTS) }
+    requires accepted { KeepVariables validator.now «module».now mod_info.now.lists }
+    ensures { (ty : ℕ) → IsBuffer (surroundings_of validator.now «module».now) «module».now variable ty
+        → HasSeparateLeaves (global_lists «module».now) validator.now.infos length ty }
+{}
+
+/// More capabilities accept no less of what a module declares: variables, declarations of functions and entry points that
+/// a validator accepts are accepted by one with the same flags and typing that has all its capabilities, and has the same
+/// infos of types, as `more_capabilities` says. No fewer stages may use the functions and entry points, as
+/// `more_capabilities_functions` says.
+///
+/// Of what `validator` refuses nothing is said.
+pub fn more_capabilities_variables<T: Typing>(
+    module: &Module,
+    validator: &Validator<T>,
+    more: &Validator<T>,
+)
+    requires capabilities { HasMoreCapabilities validator.now more.now }
+    requires infos { more.now.infos ≡ validator.now.infos }
+    ensures { AcceptsDeclarationsToo validator.now more.now «module».now }
 {}
