@@ -1,11 +1,13 @@
--- The text of an error that has another one within.
-use Rattle.std.proofs.Common.{arith, ◌≡◌, ◌∙◌, ap, sym, refl, ℕ, zero, suc, List, [], ◌∷◌, ◌+◌, ◌++◌, Some, get_or, length}
+-- The text of an error that has another one within, and of a flag.
+use Rattle.std.proofs.Common.{arith, ◌≡◌, ◌∙◌, ap, sym, refl, ℕ, zero, suc, Bool, false, List, [], ◌∷◌, ◌+◌, ◌++◌, ◌==◌, Some, bit_and, get_or, if◌then◌else◌, length}
+use Rattle.std.proofs.lemmas.Bool.{ne_eqb}
 use Rattle.std.specs.List.{concat}
 use Rattle.naga_error_text.specs.declared.errors.Error.{Error}
 use Rattle.naga_error_text.specs.declared.families.Family.{Family}
 use Rattle.naga_error_text.specs.declared.families.Family.TheVariants.{Stage}
 use Rattle.naga_error_text.specs.declared.pieces.Values.{Values}
 use Rattle.naga_error_text.specs.Errors.{cause_of, error_of, error_parts, values_within}
+use Rattle.naga_error_text.specs.Flags.{flag_text, separator}
 use Rattle.naga_error_text.specs.Texts.{chain_text, refusal_text, text_of, text_within}
 use Rattle.naga_error_text.specs.steps.Writing.{written_at}
 use Rattle.naga_error_text.proofs.WritingLaws.{written_after}
@@ -37,3 +39,11 @@ four_items (a ∷ b ∷ c ∷ d ∷ e ∷ xs) h = absurd (grind (arith, h))
 pub refusal_chain : (stage : ℕ) (errors numbers : List ℕ) (v : Values) → (stage ≡ 0 → ⊥) → numbers ≡ stage ∷ errors → chain_text numbers Stage v ≡ refusal_text stage errors v
 refusal_chain zero errors numbers v some more = absurd (some refl)
 refusal_chain (suc n) errors numbers v some more = ap (λ ns. chain_text ns Stage v) more
+
+-- the second of two texts, if a condition doesn't hold
+second_of : (first : Bool) (a b : List ℕ) → first ≡ false → (if first then a else b) ≡ b
+second_of first a b not_first = ap (λ (c : Bool). if c then a else b) not_first
+
+-- what the text of a set says of a flag that it has
+pub flag_there : (n : ℕ) (row : ℕ × ℕ × List ℕ) → (bit_and n row.0 ≡ 0 → ⊥) → flag_text n row ≡ separator (bit_and n row.1) ++ row.2
+flag_there n row there = second_of (bit_and n row.0 == 0) [] (separator (bit_and n row.1) ++ row.2) (ne_eqb (bit_and n row.0) 0 there)

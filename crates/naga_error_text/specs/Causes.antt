@@ -2,7 +2,7 @@
 use Rattle.std.specs.Prelude.{ℕ, List, [], ◌∷◌, codes, decimal}
 use Rattle.naga_error_text.specs.declared.families.Family.{Family}
 use Rattle.naga_error_text.specs.declared.families.Family.TheVariants as family
-use Rattle.naga_error_text.specs.declared.names.Names.TheVariants.{Capabilities, ScalarBits, ScalarKinds, ScalarLetters}
+use Rattle.naga_error_text.specs.declared.names.Names.TheVariants.{BuiltIns, Capabilities, EntryStages, Interpolations, Samplings, ScalarBits, ScalarKinds, ScalarLetters}
 use Rattle.naga_error_text.specs.declared.pieces.Values.{Values}
 use Rattle.naga_error_text.specs.declared.causes.VaryingError.{VaryingError}
 use Rattle.naga_error_text.specs.declared.causes.VaryingError.TheVariants as varying_error
@@ -16,6 +16,10 @@ use Rattle.naga_error_text.specs.declared.causes.ResolveError.{ResolveError}
 use Rattle.naga_error_text.specs.declared.causes.ResolveError.TheVariants as resolve_error
 use Rattle.naga_error_text.specs.declared.causes.IndexableLengthError.{IndexableLengthError}
 use Rattle.naga_error_text.specs.declared.causes.IndexableLengthError.TheVariants as indexable_length_error
+use Rattle.naga_error_text.specs.declared.causes.ImmediateError.{ImmediateError}
+use Rattle.naga_error_text.specs.declared.causes.ImmediateError.TheVariants as immediate_error
+use Rattle.naga_error_text.specs.declared.causes.Disalignment.{Disalignment}
+use Rattle.naga_error_text.specs.declared.causes.Disalignment.TheVariants as disalignment
 use Rattle.naga_error_text.specs.Names.{named}
 
 -- the errors `VaryingError` in the order of their numbers, which begin at 1
@@ -23,7 +27,13 @@ abbrev pub varying_errors : List VaryingError
 varying_errors =
     varying_error.InvalidBlendSrcIndex ∷ varying_error.BindingCollisionBlendSrc ∷
     varying_error.InvalidBlendSrcWithOtherBindings ∷ varying_error.BlendSrcOutputTypeMismatch ∷
-    varying_error.NotIOShareableType ∷ varying_error.IncompleteBlendSrcUsage ∷ []
+    varying_error.NotIOShareableType ∷ varying_error.IncompleteBlendSrcUsage ∷ varying_error.InvalidType ∷
+    varying_error.InvalidInterpolation ∷ varying_error.InvalidInterpolationSamplingCombination ∷
+    varying_error.MissingInterpolation ∷ varying_error.InvalidBuiltInStage ∷ varying_error.InvalidBuiltInType ∷
+    varying_error.MissingBinding ∷ varying_error.MemberMissingBinding ∷ varying_error.BindingCollision ∷
+    varying_error.DuplicateBuiltIn ∷ varying_error.UnsupportedCapability ∷ varying_error.InvalidInputAttributeInStage ∷
+    varying_error.InvalidAttributeInStage ∷ varying_error.InvalidMultiDimensionalSubgroupBuiltIn ∷
+    varying_error.InvalidPerPrimitive ∷ []
 
 -- what the text of each `VaryingError` says of the values `v`, piece by piece
 abbrev pub varying_error_parts : VaryingError → Values → List (List ℕ)
@@ -41,6 +51,36 @@ varying_error_parts varying_error.NotIOShareableType v =
     codes "Values of the type [" ∷ decimal v.first ∷ codes "] can't be passed between pipeline stages" ∷ []
 varying_error_parts varying_error.IncompleteBlendSrcUsage v =
     codes "Only the blend source " ∷ decimal v.first ∷ codes " is there, and not the other one" ∷ []
+varying_error_parts varying_error.InvalidType v =
+    codes "The type [" ∷ decimal v.first ∷ codes "] does not match the varying" ∷ []
+varying_error_parts varying_error.InvalidInterpolation v = codes "Interpolation is not valid" ∷ []
+varying_error_parts varying_error.InvalidInterpolationSamplingCombination v =
+    codes "Cannot combine " ∷ named Interpolations v.first ∷ codes " interpolation with the " ∷
+    named Samplings v.second ∷ codes " sample type" ∷ []
+varying_error_parts varying_error.MissingInterpolation v =
+    codes "Interpolation must be specified on vertex shader outputs and fragment shader inputs" ∷ []
+varying_error_parts varying_error.InvalidBuiltInStage v =
+    codes "Built-in " ∷ named BuiltIns v.first ∷ codes " is not available at this stage" ∷ []
+varying_error_parts varying_error.InvalidBuiltInType v =
+    codes "Built-in type for " ∷ named BuiltIns v.first ∷ codes " is invalid" ∷ []
+varying_error_parts varying_error.MissingBinding v =
+    codes "Entry point arguments and return values must all have bindings" ∷ []
+varying_error_parts varying_error.MemberMissingBinding v =
+    codes "Struct member " ∷ decimal v.first ∷ codes " is missing a binding" ∷ []
+varying_error_parts varying_error.BindingCollision v =
+    codes "Multiple bindings at location " ∷ decimal v.first ∷ codes " are present" ∷ []
+varying_error_parts varying_error.DuplicateBuiltIn v =
+    codes "Built-in " ∷ named BuiltIns v.first ∷ codes " is present more than once" ∷ []
+varying_error_parts varying_error.UnsupportedCapability v =
+    codes "Capability Capabilities(" ∷ named Capabilities v.first ∷ codes ") is not supported" ∷ []
+varying_error_parts varying_error.InvalidInputAttributeInStage v =
+    codes "A blend source is only valid as an output for stage " ∷ named EntryStages v.first ∷ []
+varying_error_parts varying_error.InvalidAttributeInStage v =
+    codes "A blend source is not valid for stage " ∷ named EntryStages v.first ∷ []
+varying_error_parts varying_error.InvalidMultiDimensionalSubgroupBuiltIn v =
+    codes "Workgroup size is multi dimensional, so built-in values of subgroups are not supported" ∷ []
+varying_error_parts varying_error.InvalidPerPrimitive v =
+    codes "Values of each primitive can only be inputs of fragment shaders" ∷ []
 
 -- the errors `LiteralError` in the order of their numbers, which begin at 1
 abbrev pub literal_errors : List LiteralError
@@ -100,3 +140,37 @@ indexable_length_error_parts indexable_length_error.TypeNotIndexable v =
     codes "Type is not indexable, and has no length (validation error)" ∷ []
 indexable_length_error_parts indexable_length_error.InvalidArrayLength v =
     codes "Array length is not a positive constant" ∷ []
+
+-- the errors `ImmediateError` in the order of their numbers, which begin at 1
+abbrev pub immediate_errors : List ImmediateError
+immediate_errors = immediate_error.InvalidScalar ∷ []
+
+-- what the text of each `ImmediateError` says of the values `v`, piece by piece
+abbrev pub immediate_error_parts : ImmediateError → Values → List (List ℕ)
+immediate_error_parts immediate_error.InvalidScalar v =
+    codes "The scalar type Scalar { kind: " ∷ named ScalarKinds v.first ∷ codes ", width: " ∷ decimal v.second ∷
+    codes " } is not supported in immediates" ∷ []
+
+-- the errors `Disalignment` in the order of their numbers, which begin at 1
+abbrev pub disalignments : List Disalignment
+disalignments =
+    disalignment.ArrayStride ∷ disalignment.StructSpan ∷ disalignment.MemberOffset ∷
+    disalignment.MemberOffsetAfterStruct ∷ disalignment.UnsizedMember ∷ disalignment.NonHostShareable ∷ []
+
+-- what the text of each `Disalignment` says of the values `v`, piece by piece
+abbrev pub disalignment_parts : Disalignment → Values → List (List ℕ)
+disalignment_parts disalignment.ArrayStride v =
+    codes "The array stride " ∷ decimal v.first ∷ codes " is not a multiple of the required alignment " ∷
+    decimal v.second ∷ []
+disalignment_parts disalignment.StructSpan v =
+    codes "The struct span " ∷ decimal v.first ∷ codes ", is not a multiple of the required alignment " ∷
+    decimal v.second ∷ []
+disalignment_parts disalignment.MemberOffset v =
+    codes "The struct member[" ∷ decimal v.first ∷ codes "] offset " ∷ decimal v.second ∷
+    codes " is not a multiple of the required alignment " ∷ decimal v.third ∷ []
+disalignment_parts disalignment.MemberOffsetAfterStruct v =
+    codes "The struct member[" ∷ decimal v.first ∷ codes "] offset " ∷ decimal v.second ∷ codes " must be at least " ∷
+    decimal v.third ∷ []
+disalignment_parts disalignment.UnsizedMember v =
+    codes "The struct member[" ∷ decimal v.first ∷ codes "] is not statically sized" ∷ []
+disalignment_parts disalignment.NonHostShareable v = codes "The type is not host-shareable" ∷ []

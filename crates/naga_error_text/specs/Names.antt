@@ -1,7 +1,7 @@
 -- The names that texts show in place of numbers.
 use Rattle.std.specs.Prelude.{ℕ, List, [], ◌∷◌, codes, ◌==◌, if◌then◌else◌}
 use Rattle.naga_error_text.specs.declared.names.Names.{Names}
-use Rattle.naga_error_text.specs.declared.names.Names.TheVariants.{ItemKinds, Bools, ScalarKinds, ScalarLetters, ScalarBits, VectorSizes, Components, Dimensions, ImageNames, Accesses, Spaces, UnaryOperators, BinaryOperators, MathFunctions, StorageFormats, Capabilities}
+use Rattle.naga_error_text.specs.declared.names.Names.TheVariants.{ItemKinds, Bools, ScalarKinds, ScalarLetters, ScalarBits, VectorSizes, Components, Dimensions, ImageNames, Accesses, Spaces, UnaryOperators, BinaryOperators, MathFunctions, StorageFormats, BuiltIns, Interpolations, Samplings, EntryStages, Capabilities}
 
 -- the name of the number `n` in a table, or "unknown"
 abbrev pub name_in : List (ℕ × List ℕ) → ℕ → List ℕ
@@ -75,6 +75,29 @@ names StorageFormats =
     (29, codes "Rgba16Uint") ∷ (30, codes "Rgba16Sint") ∷ (31, codes "Rgba16Float") ∷ (32, codes "Rgba32Uint") ∷
     (33, codes "Rgba32Sint") ∷ (34, codes "Rgba32Float") ∷ (35, codes "R16Unorm") ∷ (36, codes "R16Snorm") ∷
     (37, codes "Rg16Unorm") ∷ (38, codes "Rg16Snorm") ∷ (39, codes "Rgba16Unorm") ∷ (40, codes "Rgba16Snorm") ∷ []
+names BuiltIns =
+    (0, codes "Position { invariant: false }") ∷ (1, codes "Position { invariant: true }") ∷ (2, codes "ViewIndex") ∷
+    (3, codes "BaseInstance") ∷ (4, codes "BaseVertex") ∷ (5, codes "ClipDistances") ∷ (6, codes "CullDistance") ∷
+    (7, codes "InstanceIndex") ∷ (8, codes "PointSize") ∷ (9, codes "VertexIndex") ∷ (10, codes "DrawIndex") ∷
+    (11, codes "FragDepth") ∷ (12, codes "PointCoord") ∷ (13, codes "FrontFacing") ∷ (14, codes "PrimitiveIndex") ∷
+    (15, codes "Barycentric { perspective: false }") ∷ (16, codes "Barycentric { perspective: true }") ∷
+    (17, codes "SampleIndex") ∷ (18, codes "SampleMask") ∷ (19, codes "GlobalInvocationId") ∷
+    (20, codes "LocalInvocationId") ∷ (21, codes "LocalInvocationIndex") ∷ (22, codes "WorkGroupId") ∷
+    (23, codes "WorkGroupSize") ∷ (24, codes "NumWorkGroups") ∷ (25, codes "NumSubgroups") ∷ (26, codes "SubgroupId") ∷
+    (27, codes "SubgroupSize") ∷ (28, codes "SubgroupInvocationId") ∷ (29, codes "MeshTaskSize") ∷
+    (30, codes "CullPrimitive") ∷ (31, codes "PointIndex") ∷ (32, codes "LineIndices") ∷ (33, codes "TriangleIndices") ∷
+    (34, codes "VertexCount") ∷ (35, codes "Vertices") ∷ (36, codes "PrimitiveCount") ∷ (37, codes "Primitives") ∷
+    (38, codes "RayInvocationId") ∷ (39, codes "NumRayInvocations") ∷ (40, codes "InstanceCustomData") ∷
+    (41, codes "GeometryIndex") ∷ (42, codes "WorldRayOrigin") ∷ (43, codes "WorldRayDirection") ∷
+    (44, codes "ObjectRayOrigin") ∷ (45, codes "ObjectRayDirection") ∷ (46, codes "RayTmin") ∷
+    (47, codes "RayTCurrentMax") ∷ (48, codes "ObjectToWorld") ∷ (49, codes "WorldToObject") ∷ (50, codes "HitKind") ∷
+    []
+names Interpolations = (1, codes "Perspective") ∷ (2, codes "Linear") ∷ (3, codes "Flat") ∷ (4, codes "PerVertex") ∷ []
+names Samplings =
+    (1, codes "Center") ∷ (2, codes "Centroid") ∷ (3, codes "Sample") ∷ (4, codes "First") ∷ (5, codes "Either") ∷ []
+names EntryStages =
+    (1, codes "Vertex") ∷ (2, codes "Task") ∷ (3, codes "Mesh") ∷ (4, codes "Fragment") ∷ (5, codes "Compute") ∷
+    (6, codes "RayGeneration") ∷ (7, codes "Miss") ∷ (8, codes "AnyHit") ∷ (9, codes "ClosestHit") ∷ []
 names Capabilities =
     (1, codes "IMMEDIATES") ∷ (2, codes "FLOAT64") ∷ (4, codes "PRIMITIVE_INDEX") ∷
     (8, codes "TEXTURE_AND_SAMPLER_BINDING_ARRAY") ∷ (16, codes "BUFFER_BINDING_ARRAY") ∷

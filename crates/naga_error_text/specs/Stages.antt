@@ -12,7 +12,7 @@ use Rattle.naga_error_text.specs.Names.{named}
 abbrev pub stages : List Stage
 stages =
     stage.Handle ∷ stage.Layout ∷ stage.Type_ ∷ stage.GlobalExpression ∷ stage.Constant ∷ stage.Override ∷
-    stage.Function ∷ stage.EntryPoint ∷ stage.Module ∷ []
+    stage.Function ∷ stage.EntryPoint ∷ stage.Module ∷ stage.GlobalVariable ∷ stage.Declarations ∷ stage.Interface ∷ []
 
 -- what the text of a stage says of the values `v`, piece by piece
 abbrev pub stage_parts : Stage → Values → List (List ℕ)
@@ -30,6 +30,9 @@ stage_parts stage.EntryPoint v =
     codes "Expression [" ∷ decimal v.expression ∷ codes "] of entry point [" ∷ decimal v.index ∷
     codes "] is invalid: " ∷ []
 stage_parts stage.Module v = codes "The module is invalid: " ∷ []
+stage_parts stage.GlobalVariable v = codes "Global variable [" ∷ decimal v.index ∷ codes "] is invalid: " ∷ []
+stage_parts stage.Declarations v = codes "Function [" ∷ decimal v.index ∷ codes "] is invalid: " ∷ []
+stage_parts stage.Interface v = codes "Entry point [" ∷ decimal v.index ∷ codes "] is invalid: " ∷ []
 
 -- what the error of a stage is one of
 abbrev pub stage_cause : Stage → Family
@@ -42,3 +45,6 @@ stage_cause stage.Override = family.Override
 stage_cause stage.Function = family.Expression
 stage_cause stage.EntryPoint = family.Expression
 stage_cause stage.Module = family.Module
+stage_cause stage.GlobalVariable = family.GlobalVariable
+stage_cause stage.Declarations = family.FunctionDeclaration
+stage_cause stage.Interface = family.EntryPoint

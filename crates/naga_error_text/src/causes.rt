@@ -1,6 +1,6 @@
 //! The errors within errors.
 
-ghost use Rattle.naga_error_text.specs.Causes.{compose_error_parts, compose_errors, indexable_length_error_parts, indexable_length_errors, literal_error_cause, literal_error_parts, literal_errors, resolve_error_parts, resolve_errors, varying_error_parts, varying_errors, width_error_parts, width_errors};
+ghost use Rattle.naga_error_text.specs.Causes.{compose_error_parts, compose_errors, disalignment_parts, disalignments, immediate_error_parts, immediate_errors, indexable_length_error_parts, indexable_length_errors, literal_error_cause, literal_error_parts, literal_errors, resolve_error_parts, resolve_errors, varying_error_parts, varying_errors, width_error_parts, width_errors};
 ghost use Rattle.naga_error_text.specs.Numbers.{numbered};
 ghost use Rattle.naga_error_text.specs.steps.Pieces.{are_short, piece_text};
 ghost use Rattle.std.specs.Prelude.{◌≡◌, IsTrue, map};
@@ -12,21 +12,52 @@ use crate::pieces::Piece::{Name, Number, Words};
 use crate::pieces::Place::{First, Second, Third};
 use crate::pieces::{Piece, Values};
 
-/// Why the members of a struct can't be the two sources of blending (WGSL "blend_src").
+/// Why an input or output of an entry point is refused, or why the members of a struct can't be the two sources of
+/// blending (WGSL "User-defined Inputs and Outputs", "blend_src").
 #[derive(Clone, Copy, Debug, PartialEq)]
 pub enum VaryingError {
     /// A source of blending has another location than 0, or an index other than 0 and 1.
     InvalidBlendSrcIndex,
-    /// A member before is the same source.
+    /// An earlier member or output is the same source.
     BindingCollisionBlendSrc,
     /// A member of a struct with blend sources has a location, but is not a source itself.
     InvalidBlendSrcWithOtherBindings,
     /// The two sources have different types.
     BlendSrcOutputTypeMismatch,
-    /// Pipeline stages can't pass values of the sources' type (WGSL "Input-output Locations").
+    /// Pipeline stages can't pass values of the type (WGSL "Input-output Locations").
     NotIOShareableType,
     /// Only one of the two sources exists.
     IncompleteBlendSrcUsage,
+    /// The type at a location is not a scalar or a vector.
+    InvalidType,
+    /// The values of integers are not interpolated, and the interpolation is not `Flat`.
+    InvalidInterpolation,
+    /// The sampling says nothing of values that are interpolated so (WGSL "Interpolation").
+    InvalidInterpolationSamplingCombination,
+    /// A floating-point output of a vertex shader or input of a fragment shader has no interpolation.
+    MissingInterpolation,
+    /// The stage has no such built-in value as an input, or as an output.
+    InvalidBuiltInStage,
+    /// The built-in value has another type (WGSL "Built-in Inputs and Outputs").
+    InvalidBuiltInType,
+    /// An argument or a result that is not a struct has no binding.
+    MissingBinding,
+    /// The member of this index has no binding.
+    MemberMissingBinding,
+    /// An earlier input, or an earlier output, has the same location.
+    BindingCollision,
+    /// An earlier input, or an earlier output, is the same built-in value.
+    DuplicateBuiltIn,
+    /// The binding needs a capability that isn't given.
+    UnsupportedCapability,
+    /// A source of blending is an input of this stage, and not an output.
+    InvalidInputAttributeInStage,
+    /// This stage has no sources of blending.
+    InvalidAttributeInStage,
+    /// The place of an invocation among subgroups is only defined in workgroups of one dimension.
+    InvalidMultiDimensionalSubgroupBuiltIn,
+    /// A value of each primitive is not an input of a fragment shader.
+    InvalidPerPrimitive,
 }
 
 /// The error of a number, if there is one.
@@ -41,6 +72,21 @@ pub(crate) fn varying_error_of(number: u32) -> Option<VaryingError>
             VaryingError::BlendSrcOutputTypeMismatch,
             VaryingError::NotIOShareableType,
             VaryingError::IncompleteBlendSrcUsage,
+            VaryingError::InvalidType,
+            VaryingError::InvalidInterpolation,
+            VaryingError::InvalidInterpolationSamplingCombination,
+            VaryingError::MissingInterpolation,
+            VaryingError::InvalidBuiltInStage,
+            VaryingError::InvalidBuiltInType,
+            VaryingError::MissingBinding,
+            VaryingError::MemberMissingBinding,
+            VaryingError::BindingCollision,
+            VaryingError::DuplicateBuiltIn,
+            VaryingError::UnsupportedCapability,
+            VaryingError::InvalidInputAttributeInStage,
+            VaryingError::InvalidAttributeInStage,
+            VaryingError::InvalidMultiDimensionalSubgroupBuiltIn,
+            VaryingError::InvalidPerPrimitive,
         ],
         number,
     )
@@ -84,6 +130,69 @@ pub(crate) fn varying_error_pieces(error: VaryingError) -> &'static [Piece]
             Number(First),
             Words(" is there, and not the other one"),
         ],
+        VaryingError::InvalidType => &[
+            Words("The type ["),
+            Number(First),
+            Words("] does not match the varying"),
+        ],
+        VaryingError::InvalidInterpolation => &[Words("Interpolation is not valid")],
+        VaryingError::InvalidInterpolationSamplingCombination => &[
+            Words("Cannot combine "),
+            Name(Names::Interpolations, First),
+            Words(" interpolation with the "),
+            Name(Names::Samplings, Second),
+            Words(" sample type"),
+        ],
+        VaryingError::MissingInterpolation => &[Words(
+            "Interpolation must be specified on vertex shader outputs and fragment shader inputs",
+        )],
+        VaryingError::InvalidBuiltInStage => &[
+            Words("Built-in "),
+            Name(Names::BuiltIns, First),
+            Words(" is not available at this stage"),
+        ],
+        VaryingError::InvalidBuiltInType => &[
+            Words("Built-in type for "),
+            Name(Names::BuiltIns, First),
+            Words(" is invalid"),
+        ],
+        VaryingError::MissingBinding => &[Words(
+            "Entry point arguments and return values must all have bindings",
+        )],
+        VaryingError::MemberMissingBinding => &[
+            Words("Struct member "),
+            Number(First),
+            Words(" is missing a binding"),
+        ],
+        VaryingError::BindingCollision => &[
+            Words("Multiple bindings at location "),
+            Number(First),
+            Words(" are present"),
+        ],
+        VaryingError::DuplicateBuiltIn => &[
+            Words("Built-in "),
+            Name(Names::BuiltIns, First),
+            Words(" is present more than once"),
+        ],
+        VaryingError::UnsupportedCapability => &[
+            Words("Capability Capabilities("),
+            Name(Names::Capabilities, First),
+            Words(") is not supported"),
+        ],
+        VaryingError::InvalidInputAttributeInStage => &[
+            Words("A blend source is only valid as an output for stage "),
+            Name(Names::EntryStages, First),
+        ],
+        VaryingError::InvalidAttributeInStage => &[
+            Words("A blend source is not valid for stage "),
+            Name(Names::EntryStages, First),
+        ],
+        VaryingError::InvalidMultiDimensionalSubgroupBuiltIn => &[Words(
+            "Workgroup size is multi dimensional, so built-in values of subgroups are not supported",
+        )],
+        VaryingError::InvalidPerPrimitive => &[Words(
+            "Values of each primitive can only be inputs of fragment shaders",
+        )],
     }
 }
 
@@ -288,5 +397,112 @@ pub(crate) fn indexable_length_error_pieces(error: IndexableLengthError) -> &'st
         IndexableLengthError::InvalidArrayLength => &[Words(
             "Array length is not a positive constant",
         )],
+    }
+}
+
+/// Why immediates can't hold a type.
+#[derive(Clone, Copy, Debug, PartialEq)]
+pub enum ImmediateError {
+    /// The scalar, of which the type is made, has 16 bits.
+    InvalidScalar,
+}
+
+/// The error of a number, if there is one.
+pub(crate) fn immediate_error_of(number: u32) -> Option<ImmediateError>
+    ensures { result ≡ numbered immediate_errors number }
+{
+    numbered(&[ImmediateError::InvalidScalar], number)
+}
+
+/// The pieces of the text of such an error.
+pub(crate) fn immediate_error_pieces(error: ImmediateError) -> &'static [Piece]
+    ensures text { (values : Values) → map (piece_text values) result.now ≡ immediate_error_parts error values }
+    ensures short { IsTrue (are_short result.now) }
+{
+    match error {
+        ImmediateError::InvalidScalar => &[
+            Words("The scalar type Scalar { kind: "),
+            Name(Names::ScalarKinds, First),
+            Words(", width: "),
+            Number(Second),
+            Words(" } is not supported in immediates"),
+        ],
+    }
+}
+
+/// Why a type has no layout in an address space (WGSL "Alignment and Size", "Address Space Layout Constraints").
+#[derive(Clone, Copy, Debug, PartialEq)]
+pub enum Disalignment {
+    /// An array's stride is not a multiple of the alignment that the array needs.
+    ArrayStride,
+    /// A struct's span is not a multiple of the struct's alignment.
+    StructSpan,
+    /// A member's offset is not a multiple of the alignment that the member needs.
+    MemberOffset,
+    /// A member follows a struct, and begins before that struct's size rounded up to 16 bytes ends.
+    MemberOffsetAfterStruct,
+    /// A member of a uniform struct has no fixed size.
+    UnsizedMember,
+    /// Hosts can't share values of the type (WGSL "Host-shareable Types").
+    NonHostShareable,
+}
+
+/// The error of a number, if there is one.
+pub(crate) fn disalignment_of(number: u32) -> Option<Disalignment>
+    ensures { result ≡ numbered disalignments number }
+{
+    numbered(
+        &[
+            Disalignment::ArrayStride,
+            Disalignment::StructSpan,
+            Disalignment::MemberOffset,
+            Disalignment::MemberOffsetAfterStruct,
+            Disalignment::UnsizedMember,
+            Disalignment::NonHostShareable,
+        ],
+        number,
+    )
+}
+
+/// The pieces of the text of such an error.
+pub(crate) fn disalignment_pieces(error: Disalignment) -> &'static [Piece]
+    ensures text { (values : Values) → map (piece_text values) result.now ≡ disalignment_parts error values }
+    ensures short { IsTrue (are_short result.now) }
+{
+    match error {
+        Disalignment::ArrayStride => &[
+            Words("The array stride "),
+            Number(First),
+            Words(" is not a multiple of the required alignment "),
+            Number(Second),
+        ],
+        Disalignment::StructSpan => &[
+            Words("The struct span "),
+            Number(First),
+            Words(", is not a multiple of the required alignment "),
+            Number(Second),
+        ],
+        Disalignment::MemberOffset => &[
+            Words("The struct member["),
+            Number(First),
+            Words("] offset "),
+            Number(Second),
+            Words(" is not a multiple of the required alignment "),
+            Number(Third),
+        ],
+        Disalignment::MemberOffsetAfterStruct => &[
+            Words("The struct member["),
+            Number(First),
+            Words("] offset "),
+            Number(Second),
+            Words(" must be at least "),
+            Number(Third),
+        ],
+        Disalignment::UnsizedMember => &[
+            Words("The struct member["),
+            Number(First),
+            Words("] is not statically sized"),
+        ],
+        Disalignment::NonHostShareable => &[Words("The type is not host-shareable")],
     }
 }

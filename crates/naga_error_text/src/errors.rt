@@ -1,15 +1,23 @@
 //! An error of any family.
 
-ghost use Rattle.naga_error_text.specs.Errors.{cause_of, error_of, error_parts, values_within};
+ghost use Rattle.naga_error_text.specs.Errors.{cause_of, error_of, error_parts, values_within, without_first};
 ghost use Rattle.naga_error_text.specs.steps.Pieces.{are_short, piece_text};
 ghost use Rattle.std.specs.Prelude.{◌≡◌, IsTrue, map};
 
 use crate::causes::{
-    ComposeError, IndexableLengthError, LiteralError, ResolveError, VaryingError, WidthError,
-    compose_error_of, compose_error_pieces, indexable_length_error_of,
+    ComposeError, Disalignment, ImmediateError, IndexableLengthError, LiteralError, ResolveError,
+    VaryingError, WidthError, compose_error_of, compose_error_pieces, disalignment_of,
+    disalignment_pieces, immediate_error_of, immediate_error_pieces, indexable_length_error_of,
     indexable_length_error_pieces, literal_error_cause, literal_error_of, literal_error_pieces,
     resolve_error_of, resolve_error_pieces, varying_error_of, varying_error_pieces, width_error_of,
     width_error_pieces,
+};
+use crate::declaration_errors::{
+    EntryPointError, FunctionDeclarationError, GlobalVariableError, LocalVariableError,
+    entry_point_error_cause, entry_point_error_of, entry_point_error_pieces,
+    function_declaration_error_cause, function_declaration_error_of,
+    function_declaration_error_pieces, global_variable_error_cause, global_variable_error_of,
+    global_variable_error_pieces, local_variable_error_of, local_variable_error_pieces,
 };
 use crate::expression_errors::{
     ExpressionError, expression_error_cause, expression_error_of, expression_error_pieces,
@@ -44,6 +52,12 @@ pub enum Error {
     Compose(ComposeError),
     Resolve(ResolveError),
     IndexableLength(IndexableLengthError),
+    GlobalVariable(GlobalVariableError),
+    LocalVariable(LocalVariableError),
+    FunctionDeclaration(FunctionDeclarationError),
+    EntryPoint(EntryPointError),
+    Immediate(ImmediateError),
+    Disalignment(Disalignment),
 }
 
 /// The error of a family that has this number, if there is one.
@@ -66,6 +80,14 @@ pub(crate) fn error_of(family: Family, number: u32) -> Option<Error>
         Family::Compose => Error::Compose(compose_error_of(number)?),
         Family::Resolve => Error::Resolve(resolve_error_of(number)?),
         Family::IndexableLength => Error::IndexableLength(indexable_length_error_of(number)?),
+        Family::GlobalVariable => Error::GlobalVariable(global_variable_error_of(number)?),
+        Family::LocalVariable => Error::LocalVariable(local_variable_error_of(number)?),
+        Family::FunctionDeclaration => Error::FunctionDeclaration(function_declaration_error_of(
+            number,
+        )?),
+        Family::EntryPoint => Error::EntryPoint(entry_point_error_of(number)?),
+        Family::Immediate => Error::Immediate(immediate_error_of(number)?),
+        Family::Disalignment => Error::Disalignment(disalignment_of(number)?),
     })
 }
 
@@ -90,6 +112,12 @@ pub(crate) fn pieces_of(error: Error) -> &'static [Piece]
         Error::Compose(error) => compose_error_pieces(error),
         Error::Resolve(error) => resolve_error_pieces(error),
         Error::IndexableLength(error) => indexable_length_error_pieces(error),
+        Error::GlobalVariable(error) => global_variable_error_pieces(error),
+        Error::LocalVariable(error) => local_variable_error_pieces(error),
+        Error::FunctionDeclaration(error) => function_declaration_error_pieces(error),
+        Error::EntryPoint(error) => entry_point_error_pieces(error),
+        Error::Immediate(error) => immediate_error_pieces(error),
+        Error::Disalignment(error) => disalignment_pieces(error),
     }
 }
 
@@ -104,6 +132,9 @@ pub(crate) fn cause_of(error: Error) -> Option<Family>
         Error::Override(error) => override_error_cause(error),
         Error::Expression(error) => expression_error_cause(error),
         Error::Literal(error) => Some(literal_error_cause(error)),
+        Error::GlobalVariable(error) => global_variable_error_cause(error),
+        Error::FunctionDeclaration(error) => function_declaration_error_cause(error),
+        Error::EntryPoint(error) => entry_point_error_cause(error),
         Error::Handle(_)
         | Error::Layout(_)
         | Error::Constant(_)
@@ -112,7 +143,24 @@ pub(crate) fn cause_of(error: Error) -> Option<Family>
         | Error::Width(_)
         | Error::Compose(_)
         | Error::Resolve(_)
-        | Error::IndexableLength(_) => None,
+        | Error::IndexableLength(_)
+        | Error::LocalVariable(_)
+        | Error::Immediate(_)
+        | Error::Disalignment(_) => None,
+    }
+}
+
+/// Values without the first.
+fn without_first(values: Values) -> Values
+    ensures { result ≡ without_first values }
+{
+    Values {
+        first: values.second,
+        second: values.third,
+        third: values.fourth,
+        fourth: values.fifth,
+        fifth: 0,
+        ..values
     }
 }
 
@@ -121,14 +169,12 @@ pub(crate) fn values_within(error: Error, values: Values) -> Values
     ensures { result ≡ values_within error values }
 {
     match error {
-        Error::Override(OverrideError::ConstExpression) => Values {
-            first: values.second,
-            second: values.third,
-            third: values.fourth,
-            fourth: values.fifth,
-            fifth: 0,
-            ..values
-        },
+        Error::Override(OverrideError::ConstExpression)
+        | Error::FunctionDeclaration(FunctionDeclarationError::LocalVariable)
+        | Error::EntryPoint(EntryPointError::Argument) => without_first(values),
+        Error::GlobalVariable(GlobalVariableError::Alignment) => {
+            without_first(without_first(values))
+        }
         _ => values,
     }
 }

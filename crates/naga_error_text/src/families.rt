@@ -21,7 +21,7 @@ pub enum Family {
     Expression,
     /// Errors of a module as a whole.
     Module,
-    /// Why a struct can't have its blend sources.
+    /// Why an input or output is refused, or why a struct can't have its blend sources.
     Varying,
     /// Why a literal is refused.
     Literal,
@@ -33,4 +33,16 @@ pub enum Family {
     Resolve,
     /// Why a value has no length.
     IndexableLength,
+    /// Errors of global variables.
+    GlobalVariable,
+    /// Errors of local variables.
+    LocalVariable,
+    /// Errors of what functions declare.
+    FunctionDeclaration,
+    /// Errors of entry points.
+    EntryPoint,
+    /// Why immediates can't hold a type.
+    Immediate,
+    /// Why a type has no layout in an address space.
+    Disalignment,
 }

@@ -2,6 +2,7 @@
 #![tactic(auto)]
 
 mod causes;
+mod declaration_errors;
 mod errors;
 mod expression_errors;
 mod families;

@@ -1,7 +1,9 @@
 //! The pieces of texts.
 
-ghost use Rattle.naga_error_text.specs.Classes.{image_class_of, image_class_parts};
-ghost use Rattle.naga_error_text.specs.steps.Pieces.{are_short_parts, part_text, place_value};
+ghost use Rattle.naga_error_text.specs.Classes.{image_class_of, image_class_parts, two_values};
+ghost use Rattle.naga_error_text.specs.Flags as flags;
+ghost use Rattle.naga_error_text.specs.Spaces.{is_storage, space_parts};
+ghost use Rattle.naga_error_text.specs.steps.Pieces.{are_short_parts, part_text, place_value, row_of};
 ghost use Rattle.std.specs.Prelude.{◌≡◌, IsTrue, map};
 
 use crate::names::Names;
@@ -20,6 +22,22 @@ pub struct Values {
     pub expression: u64,
     /// The kind of the item.
     pub kind: u64,
+}
+
+/// Two values.
+pub(crate) fn two_values(first: u64, second: u64) -> Values
+    ensures { result ≡ two_values first second }
+{
+    Values {
+        first,
+        second,
+        third: 0,
+        fourth: 0,
+        fifth: 0,
+        index: 0,
+        expression: 0,
+        kind: 0,
+    }
 }
 
 /// Which of these values.
@@ -53,7 +71,7 @@ impl Values {
     }
 }
 
-/// A piece of the text of a class of images.
+/// A piece of the text of a class of images or of an address space.
 #[derive(Clone, Copy)]
 pub enum Part {
     /// Words that stand in each such text.
@@ -75,6 +93,10 @@ pub enum Piece {
     Name(Names, Place),
     /// A class of images, by its number and the two words after it.
     Class(Place, Place, Place),
+    /// An address space, by its number and the number of what may be done with it.
+    Space(Place, Place),
+    /// A set of flags of types, by their bits.
+    TypeFlags(Place),
 }
 
 /// A class of images.
@@ -129,4 +151,84 @@ pub(crate) fn image_class_pieces(class: ImageClass) -> &'static [Part]
         ImageClass::External => &[Part::Words("External")],
         ImageClass::Unknown => &[Part::Words("unknown")],
     }
+}
+
+/// Whether a number is that of storage, in which more may be done or less.
+pub(crate) fn is_storage(number: u64) -> bool
+    ensures { result ≡ is_storage number }
+{
+    number == 4
+}
+
+/// The pieces of the text of storage, or of another address space, whose number and access are the first two values.
+pub(crate) fn space_pieces(is_storage: bool) -> &'static [Part]
+    ensures text { (values : Values) → map (part_text values) result.now ≡ space_parts is_storage values }
+    ensures short { IsTrue (are_short_parts result.now) }
+{
+    if is_storage {
+        &[
+            Part::Words("Storage { access: "),
+            Part::Name(Names::Accesses, Place::Second),
+            Part::Words(" }"),
+        ]
+    } else {
+        &[Part::Name(Names::Spaces, Place::First)]
+    }
+}
+
+/// A flag.
+#[derive(Clone, Copy)]
+pub struct Flag {
+    pub(crate) bit: u64,
+    /// The bits of the flags before it together.
+    pub(crate) before: u64,
+    pub(crate) name: &'static str,
+}
+
+/// The flags of types.
+pub(crate) fn type_flags() -> &'static [Flag]
+    ensures { map row_of result.now ≡ flags.type_flags }
+{
+    &[
+        Flag {
+            bit: 0x1,
+            before: 0x0,
+            name: "DATA",
+        },
+        Flag {
+            bit: 0x2,
+            before: 0x1,
+            name: "SIZED",
+        },
+        Flag {
+            bit: 0x4,
+            before: 0x3,
+            name: "COPY",
+        },
+        Flag {
+            bit: 0x8,
+            before: 0x7,
+            name: "IO_SHAREABLE",
+        },
+        Flag {
+            bit: 0x10,
+            before: 0xf,
+            name: "HOST_SHAREABLE",
+        },
+        Flag {
+            bit: 0x20,
+            before: 0x1f,
+            name: "CREATION_RESOLVED",
+        },
+        Flag {
+            bit: 0x40,
+            before: 0x3f,
+            name: "ARGUMENT",
+        },
+        Flag {
+            bit: 0x80,
+            before: 0x7f,
+            name: "CONSTRUCTIBLE",
+        },
+    ]
 }

@@ -33,6 +33,12 @@ pub enum Stage {
     EntryPoint,
     /// The module as a whole breaks a rule. No call returns it.
     Module,
+    /// A global variable breaks its rule.
+    GlobalVariable,
+    /// A function declares what it may not.
+    Declarations,
+    /// An entry point breaks its rule.
+    Interface,
 }
 
 /// The stage of a number, if there is one.
@@ -50,6 +56,9 @@ pub(crate) fn stage_of(number: u32) -> Option<Stage>
             Stage::Function,
             Stage::EntryPoint,
             Stage::Module,
+            Stage::GlobalVariable,
+            Stage::Declarations,
+            Stage::Interface,
         ],
         number,
     )
@@ -96,6 +105,17 @@ pub(crate) fn stage_pieces(stage: Stage) -> &'static [Piece]
             Words("] is invalid: "),
         ],
         Stage::Module => &[Words("The module is invalid: ")],
+        Stage::GlobalVariable => &[
+            Words("Global variable ["),
+            Number(Index),
+            Words("] is invalid: "),
+        ],
+        Stage::Declarations => &[Words("Function ["), Number(Index), Words("] is invalid: ")],
+        Stage::Interface => &[
+            Words("Entry point ["),
+            Number(Index),
+            Words("] is invalid: "),
+        ],
     }
 }
 
@@ -112,5 +132,8 @@ pub(crate) fn stage_cause(stage: Stage) -> Family
         Stage::Override => Family::Override,
         Stage::Function | Stage::EntryPoint => Family::Expression,
         Stage::Module => Family::Module,
+        Stage::GlobalVariable => Family::GlobalVariable,
+        Stage::Declarations => Family::FunctionDeclaration,
+        Stage::Interface => Family::EntryPoint,
     }
 }

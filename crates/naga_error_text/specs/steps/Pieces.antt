@@ -1,6 +1,7 @@
 -- The pieces of texts.
 use Rattle.std.specs.Prelude.{ℕ, List, ◌&&◌, Bool, true, decimal, length, nat_le}
 use Rattle.std.specs.List.{list_all}
+use Rattle.naga_error_text.specs.declared.pieces.Flag.{Flag}
 use Rattle.naga_error_text.specs.declared.pieces.Part.{Part}
 use Rattle.naga_error_text.specs.declared.pieces.Part.TheVariants as part
 use Rattle.naga_error_text.specs.declared.pieces.Piece.{Piece}
@@ -9,7 +10,9 @@ use Rattle.naga_error_text.specs.declared.pieces.Place.{Place}
 use Rattle.naga_error_text.specs.declared.pieces.Place.TheVariants.{First, Second, Third, Fourth, Fifth, Index, Expression, Kind}
 use Rattle.naga_error_text.specs.declared.pieces.Values.{Values}
 use Rattle.naga_error_text.specs.Classes.{image_class}
+use Rattle.naga_error_text.specs.Flags.{flags_text}
 use Rattle.naga_error_text.specs.Names.{named}
+use Rattle.naga_error_text.specs.Spaces.{space_text}
 
 -- the value at a place
 abbrev pub place_value : Values → Place → ℕ
@@ -22,7 +25,7 @@ place_value v Index = v.index
 place_value v Expression = v.expression
 place_value v Kind = v.kind
 
--- the text of a piece of a class of images, of its two words
+-- the text of a piece of a class of images or of an address space, of its two values
 abbrev pub part_text : Values → Part → List ℕ
 part_text v (part.Words words) = words.now
 part_text v (part.Number place) = decimal (place_value v place)
@@ -34,8 +37,10 @@ piece_text v (piece.Words words) = words.now
 piece_text v (piece.Number place) = decimal (place_value v place)
 piece_text v (piece.Name kind place) = named kind (place_value v place)
 piece_text v (piece.Class number a b) = image_class (place_value v number) (place_value v a) (place_value v b)
+piece_text v (piece.Space number access) = space_text (place_value v number) (place_value v access)
+piece_text v (piece.TypeFlags place) = flags_text (place_value v place)
 
--- a piece of a class of images has at most 128 bytes
+-- a piece of a class of images or of an address space has at most 128 bytes
 abbrev pub is_short_part : Part → Bool
 is_short_part (part.Words words) = nat_le (length words.now) 128
 is_short_part (part.Number place) = true
@@ -51,7 +56,13 @@ is_short (piece.Words words) = nat_le (length words.now) 128
 is_short (piece.Number place) = true
 is_short (piece.Name kind place) = true
 is_short (piece.Class number a b) = true
+is_short (piece.Space number access) = true
+is_short (piece.TypeFlags place) = true
 
 -- there are at most 16 pieces, and their words have at most 128 bytes
 abbrev pub are_short : List Piece → Bool
 are_short pieces = nat_le (length pieces) 16 && list_all is_short pieces
+
+-- a flag: its bit, the bits of those before it, and its name
+abbrev pub row_of : Flag → ℕ × ℕ × List ℕ
+row_of flag = (flag.bit, flag.before, flag.name.now)
