@@ -2,6 +2,7 @@ pub mod AcceptedLaws
 pub mod CallLaws
 pub mod CountLaws
 pub mod CursorLaws
+mod DeclarationLaws
 pub mod Fronts
 pub mod LeafCountLaws
 pub mod LeafLaws

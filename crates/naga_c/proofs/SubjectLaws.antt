@@ -1,5 +1,5 @@
 -- What comes of a module that was read, with the settings that it brings.
-use Rattle.std.proofs.Common.{◌≡◌, ℕ, Err, Ok, Result}
+use Rattle.std.proofs.Common.{ℕ, Err, Ok, Result}
 use Rattle.naga_ir.specs.declared.ir.Module.{Module}
 use Rattle.naga_c.specs.Subjects.{IsReadTo}
 use Rattle.naga_c.specs.steps.Subjects.{IsTaken}

@@ -1,17 +1,11 @@
 -- Modules that are accepted, and what calls on them end with.
-use Rattle.std.specs.Prelude.{◌≡◌, ℕ, Result, Ok, Err}
 use Rattle.naga_info.specs.ModuleInfo.{ModuleInfoLists}
 use Rattle.naga_ir.specs.Handles.{GlobalReferencesOk}
 use Rattle.naga_ir.specs.ItemReferences.{global_lists}
 use Rattle.naga_typing.specs.FullTyping.{full_resolves}
 use Rattle.naga_valid.specs.Accepted.{Accepts}
-use Rattle.naga_c.specs.Calls.{IsNotAccepted}
-use Rattle.naga_c.specs.Statuses.{status_without}
-use Rattle.naga_c.specs.Verdicts.{outcome_without, settings_in}
+use Rattle.naga_c.specs.Verdicts.{settings_in}
 use Rattle.naga_c.specs.declared.accepted.AcceptedModule.{AcceptedModule}
-use Rattle.naga_c.specs.declared.accepted.NotAccepted.{NotAccepted}
-use Rattle.naga_c.specs.declared.subject.NoSubject.{NoSubject}
-use Rattle.naga_c.specs.declared.subject.Subject.{Subject}
 
 -- the module of `m` is accepted by the settings in force: the validator has the infos of its types, and its references
 -- are right

@@ -41,7 +41,7 @@ layout_error_code layout_error_inner.TooLarge = 1
 layout_error_code layout_error_inner.NonPowerOfTwoWidth = 2
 layout_error_code layout_error_inner.OutOfMemory = 3
 
--- the number of the reason why a struct can't have its blend sources
+-- the number of the reason why an input or output is refused, or why a struct can't have its blend sources
 abbrev pub varying_error_code : VaryingError → ℕ
 varying_error_code (varying_error.InvalidBlendSrcIndex _ _) = 1
 varying_error_code (varying_error.BindingCollisionBlendSrc _) = 2
@@ -49,6 +49,22 @@ varying_error_code (varying_error.InvalidBlendSrcWithOtherBindings _) = 3
 varying_error_code (varying_error.BlendSrcOutputTypeMismatch _ _) = 4
 varying_error_code (varying_error.NotIOShareableType _) = 5
 varying_error_code (varying_error.IncompleteBlendSrcUsage _) = 6
+varying_error_code (varying_error.InvalidType _) = 7
+varying_error_code varying_error.InvalidInterpolation = 8
+varying_error_code (varying_error.InvalidInterpolationSamplingCombination _ _) = 9
+varying_error_code varying_error.MissingInterpolation = 10
+varying_error_code (varying_error.InvalidBuiltInStage _) = 11
+varying_error_code (varying_error.InvalidBuiltInType _) = 12
+varying_error_code varying_error.MissingBinding = 13
+varying_error_code (varying_error.MemberMissingBinding _) = 14
+varying_error_code (varying_error.BindingCollision _) = 15
+varying_error_code (varying_error.DuplicateBuiltIn _) = 16
+varying_error_code (varying_error.UnsupportedCapability _) = 17
+varying_error_code (varying_error.InvalidInputAttributeInStage _) = 18
+varying_error_code (varying_error.InvalidAttributeInStage _) = 19
+varying_error_code varying_error.InvalidMultiDimensionalSubgroupBuiltIn = 20
+varying_error_code varying_error.InvalidPerPrimitive = 21
+varying_error_code varying_error.OutOfMemory = 22
 
 -- the number of the reason why a width is refused
 abbrev pub width_error_code : WidthError → ℕ

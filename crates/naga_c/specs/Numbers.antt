@@ -8,6 +8,8 @@ use Rattle.naga_ir.specs.declared.expression.SwizzleComponent.TheVariants as com
 use Rattle.naga_ir.specs.declared.expression.SwizzleComponent.{SwizzleComponent}
 use Rattle.naga_ir.specs.declared.expression.UnaryOperator.TheVariants as unary
 use Rattle.naga_ir.specs.declared.expression.UnaryOperator.{UnaryOperator}
+use Rattle.naga_ir.specs.declared.ir.ShaderStage.TheVariants as stage
+use Rattle.naga_ir.specs.declared.ir.ShaderStage.{ShaderStage}
 use Rattle.naga_ir.specs.declared.storage_format.StorageFormat.TheVariants as format
 use Rattle.naga_ir.specs.declared.storage_format.StorageFormat.{StorageFormat}
 use Rattle.naga_ir.specs.declared.types.AddressSpace.TheVariants as space
@@ -16,6 +18,10 @@ use Rattle.naga_ir.specs.declared.types.ImageClass.TheVariants as class
 use Rattle.naga_ir.specs.declared.types.ImageClass.{ImageClass}
 use Rattle.naga_ir.specs.declared.types.ImageDimension.TheVariants as dimension
 use Rattle.naga_ir.specs.declared.types.ImageDimension.{ImageDimension}
+use Rattle.naga_ir.specs.declared.types.Interpolation.TheVariants as interpolation
+use Rattle.naga_ir.specs.declared.types.Interpolation.{Interpolation}
+use Rattle.naga_ir.specs.declared.types.Sampling.TheVariants as sampling
+use Rattle.naga_ir.specs.declared.types.Sampling.{Sampling}
 use Rattle.naga_ir.specs.declared.types.ScalarKind.TheVariants as kind
 use Rattle.naga_ir.specs.declared.types.ScalarKind.{ScalarKind}
 use Rattle.naga_ir.specs.declared.types.StorageAccess.{StorageAccess}
@@ -243,3 +249,30 @@ class_second (class.Sampled _ multi) = bool_number multi
 class_second (class.Depth _) = 0
 class_second (class.Storage _ access) = access_number access
 class_second class.External = 0
+
+-- the number of how the value of a fragment is made
+abbrev pub interpolation_number : Interpolation → ℕ
+interpolation_number interpolation.Perspective = 1
+interpolation_number interpolation.Linear = 2
+interpolation_number interpolation.Flat = 3
+interpolation_number interpolation.PerVertex = 4
+
+-- the number of where the value of a fragment is taken
+abbrev pub sampling_number : Sampling → ℕ
+sampling_number sampling.Center = 1
+sampling_number sampling.Centroid = 2
+sampling_number sampling.Sample = 3
+sampling_number sampling.First = 4
+sampling_number sampling.Either = 5
+
+-- the number of the stage of an entry point
+abbrev pub stage_number : ShaderStage → ℕ
+stage_number stage.Vertex = 1
+stage_number stage.Task = 2
+stage_number stage.Mesh = 3
+stage_number stage.Fragment = 4
+stage_number stage.Compute = 5
+stage_number stage.RayGeneration = 6
+stage_number stage.Miss = 7
+stage_number stage.AnyHit = 8
+stage_number stage.ClosestHit = 9

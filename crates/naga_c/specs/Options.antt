@@ -1,5 +1,5 @@
 -- What hosts say of how their modules are validated, and of what calls may take.
-use Rattle.std.specs.Prelude.{◌≡◌, ◌==◌, ◌≤◌, ◌+◌, ◌/◌, ◌⊎◌, ℕ, Bool, false, List, [], ◌∷◌, Option, None, Some, bit_and, bit_or, drop, filter, length, suc, zero, ◌||◌}
+use Rattle.std.specs.Prelude.{◌≡◌, ◌==◌, ◌≤◌, ◌+◌, ◌/◌, ◌⊎◌, ℕ, false, List, [], ◌∷◌, Option, None, Some, bit_and, bit_or, drop, filter, length, suc, zero, ◌||◌}
 use Rattle.naga_flags.specs.Bits.{all_capabilities, all_validation_flags}
 use Rattle.naga_flags.specs.declared.flags.Capabilities.{Capabilities}
 use Rattle.naga_flags.specs.declared.flags.ValidationFlags.{ValidationFlags}

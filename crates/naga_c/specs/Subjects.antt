@@ -3,13 +3,7 @@ use Rattle.std.specs.Prelude.{◌≡◌, ℕ, List, Result, Ok, Err, ⊤}
 use Rattle.naga_ir.specs.declared.ir.Module.{Module}
 use Rattle.naga_text.specs.Text.{IsFirstUnreadable as IsFirstUnreadableLine, IsText}
 use Rattle.naga_text.specs.Words.{lines_of}
-use Rattle.naga_text.specs.declared.text.Contents.{Contents as TextContents}
-use Rattle.naga_text.specs.declared.text.TextError.{TextError}
-use Rattle.naga_text.specs.declared.text.TextError.TheVariants as text
 use Rattle.naga_words.specs.Words.{IsFirstUnreadable, IsWords}
-use Rattle.naga_draft.specs.declared.draft.Contents.{Contents}
-use Rattle.naga_words.specs.declared.reader.WordsError.{WordsError}
-use Rattle.naga_words.specs.declared.reader.WordsError.TheVariants as words
 use Rattle.naga_c.specs.Options.{Allow, AreKnown, AreWithin, IsTextWithin, subject_of}
 use Rattle.naga_c.specs.declared.options.Options.{Options as OptionsType}
 use Rattle.naga_c.specs.declared.subject.NoSubject.{NoSubject}

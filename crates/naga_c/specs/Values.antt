@@ -19,9 +19,10 @@ use Rattle.naga_handles.specs.declared.error.InvalidHandleError.{InvalidHandleEr
 use Rattle.naga_handles.specs.declared.error.InvalidHandleError.TheVariants as handle_error
 use Rattle.naga_valid.specs.declared.error.OverrideError.{OverrideError}
 use Rattle.naga_valid.specs.declared.error.OverrideError.TheVariants as override_error
+use Rattle.naga_ir.specs.BuiltIns.{number}
 use Rattle.naga_ir.specs.Sizes.{components}
 use Rattle.naga_c.specs.Kinds.{capability_named, scalar_named}
-use Rattle.naga_c.specs.Numbers.{access_number, binary_operator_number, bool_number, class_first, class_number, class_second, component_number, dimension_number, format_number, math_function_number, scalar_kind_number, space_access, space_number, unary_operator_number}
+use Rattle.naga_c.specs.Numbers.{access_number, binary_operator_number, bool_number, class_first, class_number, class_second, component_number, dimension_number, format_number, interpolation_number, math_function_number, sampling_number, scalar_kind_number, space_access, space_number, stage_number, unary_operator_number}
 use Rattle.naga_c.specs.declared.values.Values.{Values}
 
 -- the first five of a list, and 0 for each that it doesn't have
@@ -43,7 +44,7 @@ handle_error_values (handle_error.BadHandle e) = e.index ∷ []
 handle_error_values (handle_error.ForwardDependency e) = e.subject ∷ e.depends_on ∷ []
 handle_error_values (handle_error.BadRange e) = e.start ∷ e.end ∷ []
 
--- the values of why a struct can't have its blend sources
+-- the values of why an input or output is refused, or why a struct can't have its blend sources
 abbrev pub varying_error_values : VaryingError → List ℕ
 varying_error_values (varying_error.InvalidBlendSrcIndex location blend_src) = location ∷ blend_src ∷ []
 varying_error_values (varying_error.BindingCollisionBlendSrc blend_src) = blend_src ∷ []
@@ -51,6 +52,23 @@ varying_error_values (varying_error.InvalidBlendSrcWithOtherBindings location) =
 varying_error_values (varying_error.BlendSrcOutputTypeMismatch first second) = first ∷ second ∷ []
 varying_error_values (varying_error.NotIOShareableType ty) = ty ∷ []
 varying_error_values (varying_error.IncompleteBlendSrcUsage blend_src) = blend_src ∷ []
+varying_error_values (varying_error.InvalidType ty) = ty ∷ []
+varying_error_values varying_error.InvalidInterpolation = []
+varying_error_values (varying_error.InvalidInterpolationSamplingCombination interpolation sampling) =
+    interpolation_number interpolation ∷ sampling_number sampling ∷ []
+varying_error_values varying_error.MissingInterpolation = []
+varying_error_values (varying_error.InvalidBuiltInStage value) = number value ∷ []
+varying_error_values (varying_error.InvalidBuiltInType value) = number value ∷ []
+varying_error_values varying_error.MissingBinding = []
+varying_error_values (varying_error.MemberMissingBinding index) = index ∷ []
+varying_error_values (varying_error.BindingCollision location) = location ∷ []
+varying_error_values (varying_error.DuplicateBuiltIn value) = number value ∷ []
+varying_error_values (varying_error.UnsupportedCapability capabilities) = capabilities.0 ∷ []
+varying_error_values (varying_error.InvalidInputAttributeInStage stage) = stage_number stage ∷ []
+varying_error_values (varying_error.InvalidAttributeInStage stage) = stage_number stage ∷ []
+varying_error_values varying_error.InvalidMultiDimensionalSubgroupBuiltIn = []
+varying_error_values varying_error.InvalidPerPrimitive = []
+varying_error_values varying_error.OutOfMemory = []
 
 -- the values of why a width is refused
 abbrev pub width_error_values : WidthError → List ℕ

@@ -5,6 +5,7 @@ use Rattle.naga_valid.specs.State.{Settings}
 use Rattle.naga_valid.specs.declared.error.ValidationError.{ValidationError}
 use Rattle.naga_c.specs.declared.subject.Subject.{Subject}
 use Rattle.naga_c.specs.Refusals.{refusal_of}
+use Rattle.naga_c.specs.declared.refusal.Refusal.{Refusal}
 use Rattle.naga_c.specs.declared.results.Outcome.{Outcome}
 use Rattle.naga_c.specs.declared.subject.NoSubject.{NoSubject}
 use Rattle.naga_c.specs.declared.subject.NoSubject.TheVariants as none
@@ -42,9 +43,9 @@ counts_of m = record no_outcome {
 abbrev pub settings_in : Subject → Settings
 settings_in subject = record { flags = subject.flags; capabilities = subject.capabilities; resolved = subject.resolved }
 
--- what is written of a module that is refused with an error
-abbrev pub refused_by : Module → ValidationError → Outcome
-refused_by m e = let r = refusal_of e in record (counts_of m) {
+-- what is written of a module of which this is refused
+abbrev pub refused_with : Module → Refusal → Outcome
+refused_with m r = record (counts_of m) {
   index = r.index;
   values = r.values.items;
   stage = r.stage;
@@ -52,3 +53,7 @@ refused_by m e = let r = refusal_of e in record (counts_of m) {
   errors = r.errors;
   value_count = r.values.count;
 }
+
+-- what is written of a module that is refused with an error
+abbrev pub refused_by : Module → ValidationError → Outcome
+refused_by m e = refused_with m (refusal_of e)

@@ -2,6 +2,7 @@
 
 ghost use Rattle.naga_c.specs.steps.Accepting.{Accepting};
 ghost use Rattle.naga_c.specs.Calls.{LeavesBuffer, OfWords};
+ghost use Rattle.naga_c.specs.Declarations.{ChecksDeclarations};
 ghost use Rattle.naga_c.specs.Functions.{ChecksFunctions};
 ghost use Rattle.naga_c.specs.LeafCounts.{ChecksCounts};
 ghost use Rattle.naga_c.specs.Leaves.{ChecksLeaves, LeavesBuffers, buffers, no_counts};
@@ -12,6 +13,7 @@ ghost use Rattle.naga_c.specs.Types.{ChecksTypes};
 ghost use Rattle.std.specs.Prelude.{◌≡◌};
 
 use crate::accepted::{AcceptedModule, NotAccepted, accept};
+use crate::declarations::check_declarations;
 use crate::functions::check_functions;
 use crate::leaf_counts::report_counts;
 use crate::leaves::{Queries, report_leaves};
@@ -69,6 +71,25 @@ fn words_functions(
 {
     match subject_of_words(alloc, words, options) {
         Ok(subject) => check_functions(alloc, &subject, stages, outcome),
+        Err(why) => {
+            *outcome = outcome_without(why);
+            status_without(why)
+        }
+    }
+}
+
+/// Checks what the module of words declares.
+fn words_declarations(
+    alloc: Global,
+    words: &[u32],
+    options: &Options,
+    outcome: &mut Outcome,
+) -> Status
+    ensures { OfWords options.now words.now (λ subject. ChecksDeclarations subject outcome.new)
+        (λ found. outcome.new ≡ found) result }
+{
+    match subject_of_words(alloc, words, options) {
+        Ok(subject) => check_declarations(alloc, &subject, outcome),
         Err(why) => {
             *outcome = outcome_without(why);
             status_without(why)
@@ -195,6 +216,21 @@ pub extern "C" fn naga_check_functions_with(
         (LeavesBuffer stages.old stages.new outcome.new)) }
 {
     words_functions(alloc, words, options, stages, outcome).code()
+}
+
+/// Validates a module in words, its variables, the expressions of its functions and entry points, and what these
+/// declare.
+#[unsafe(no_mangle)]
+pub extern "C" fn naga_check_declarations_with(
+    alloc: Global,
+    words: &[u32],
+    options: &Options,
+    outcome: &mut Outcome,
+) -> u32
+    ensures { Returns result (OfWords options.now words.now (λ subject. ChecksDeclarations subject outcome.new)
+        (λ found. outcome.new ≡ found)) }
+{
+    words_declarations(alloc, words, options, outcome).code()
 }
 
 /// Validates a module in words, and writes the leaves of types of it. A runtime-sized array has `length` elements.

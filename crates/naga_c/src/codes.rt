@@ -192,8 +192,8 @@ pub(crate) fn disalignment_code(error: &Disalignment) -> u32
     }
 }
 
-/// The number of the reason why a struct can't have its blend sources.
-fn varying_error_code(error: &VaryingError) -> u32
+/// The number of the reason why a struct can't have its blend sources, or why an input or output is refused.
+pub(crate) fn varying_error_code(error: &VaryingError) -> u32
     ensures { result ≡ varying_error_code error.now }
 {
     match error {
@@ -203,6 +203,22 @@ fn varying_error_code(error: &VaryingError) -> u32
         VaryingError::BlendSrcOutputTypeMismatch { .. } => 4,
         VaryingError::NotIOShareableType(_) => 5,
         VaryingError::IncompleteBlendSrcUsage { .. } => 6,
+        VaryingError::InvalidType(_) => 7,
+        VaryingError::InvalidInterpolation => 8,
+        VaryingError::InvalidInterpolationSamplingCombination { .. } => 9,
+        VaryingError::MissingInterpolation => 10,
+        VaryingError::InvalidBuiltInStage(_) => 11,
+        VaryingError::InvalidBuiltInType(_) => 12,
+        VaryingError::MissingBinding => 13,
+        VaryingError::MemberMissingBinding(_) => 14,
+        VaryingError::BindingCollision { .. } => 15,
+        VaryingError::DuplicateBuiltIn(_) => 16,
+        VaryingError::UnsupportedCapability(_) => 17,
+        VaryingError::InvalidInputAttributeInStage(_) => 18,
+        VaryingError::InvalidAttributeInStage(_) => 19,
+        VaryingError::InvalidMultiDimensionalSubgroupBuiltIn => 20,
+        VaryingError::InvalidPerPrimitive => 21,
+        VaryingError::OutOfMemory => 22,
     }
 }
 

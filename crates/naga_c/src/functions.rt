@@ -105,7 +105,7 @@ fn accepted_before(module: &Module, info: &ModuleInfo, at: &Callable) -> (usize,
 }
 
 /// What is written of a function or entry point whose expression is refused.
-fn refused_at(
+pub(crate) fn refused_at(
     module: &Module,
     at: &Callable,
     expression: Handle<ExpressionTag>,
@@ -174,7 +174,7 @@ fn with_constants(flags: ValidationFlags) -> ValidationFlags
 /// A validator of the functions of words. It validates constants also if the words leave them out: the rule of a
 /// division goes through the global expressions that its right operand is made of, and calls itself as deep as these
 /// are nested unless they keep their rules.
-fn validator_of_functions(alloc: Global, subject: &Subject) -> Validator<FullTyping>
+pub(crate) fn validator_of_functions(alloc: Global, subject: &Subject) -> Validator<FullTyping>
     ensures { result ≡ new_state (with_constants subject.now.flags) subject.now.capabilities result.typing }
 {
     let flags = with_constants(subject.flags);

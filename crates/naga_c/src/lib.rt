@@ -6,6 +6,9 @@
 mod accepted;
 mod calls;
 mod codes;
+mod declaration_codes;
+mod declaration_values;
+mod declarations;
 mod error_text;
 mod functions;
 mod kinds;

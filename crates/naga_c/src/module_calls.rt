@@ -2,6 +2,7 @@
 
 ghost use Rattle.naga_c.specs.Accepted.{IsAccepted};
 ghost use Rattle.naga_c.specs.Calls.{LeavesBuffer, OfWords};
+ghost use Rattle.naga_c.specs.Declarations.{ChecksDeclarations};
 ghost use Rattle.naga_c.specs.Functions.{ChecksFunctions};
 ghost use Rattle.naga_c.specs.LeafCounts.{ChecksCounts};
 ghost use Rattle.naga_c.specs.Leaves.{ChecksLeaves, LeavesBuffers, buffers, no_counts};
@@ -15,6 +16,7 @@ ghost use Rattle.std.specs.declared.option.Option.TheVariants.{None};
 
 use crate::accepted::AcceptedModule;
 use crate::calls::accepted_words;
+use crate::declarations::check_declarations;
 use crate::functions::check_functions;
 use crate::leaf_counts::report_counts;
 use crate::leaves::{Queries, report_leaves};
@@ -113,6 +115,27 @@ pub extern "C" fn naga_check_module_functions_with(
         return Status::NotOpen.code();
     };
     let status = check_functions(alloc, &accepted.subject, stages, outcome);
+    *opened = OpenModule::of(accepted);
+    status.code()
+}
+
+/// Validates the variables of an open module, the expressions of its functions and entry points, and what these declare.
+#[unsafe(no_mangle)]
+pub extern "C" fn naga_check_module_declarations_with(
+    alloc: Global,
+    opened: &mut OpenModule,
+    outcome: &mut Outcome,
+) -> u32
+    requires { IsOpenModule opened.old.held }
+    ensures kept { opened.new.held ≡ opened.old.held }
+    ensures written { Returns result (OfOpenModule opened.old.held
+        (λ (accepted : Accepted). ChecksDeclarations accepted.subject outcome.new) (λ found. outcome.new ≡ found)) }
+{
+    let Some(accepted) = opened.take(alloc) else {
+        *outcome = no_outcome();
+        return Status::NotOpen.code();
+    };
+    let status = check_declarations(alloc, &accepted.subject, outcome);
     *opened = OpenModule::of(accepted);
     status.code()
 }

@@ -1,12 +1,15 @@
 //! The numbers that words have for what errors hold.
 
-ghost use Rattle.naga_words.specs.Tables.{accesses, binary_operators, components, dimensions, kinds, math_functions, storage_formats, unary_operators};
-ghost use Rattle.naga_c.specs.Numbers.{access_number, binary_operator_number, bool_number, class_first, class_number, class_second, component_number, dimension_number, format_number, math_function_number, scalar_kind_number, space_access, space_number, unary_operator_number};
+ghost use Rattle.naga_words.specs.Tables.{accesses, binary_operators, components, dimensions, interpolations, kinds, math_functions, samplings, stages, storage_formats, unary_operators};
+ghost use Rattle.naga_c.specs.Numbers.{access_number, binary_operator_number, bool_number, class_first, class_number, class_second, component_number, dimension_number, format_number, interpolation_number, math_function_number, sampling_number, scalar_kind_number, space_access, space_number, stage_number, unary_operator_number};
 ghost use Rattle.std.specs.Prelude.{◌≡◌, Some, slice_get};
 
 use naga_ir::expression::{BinaryOperator, MathFunction, SwizzleComponent, UnaryOperator};
+use naga_ir::ir::ShaderStage;
 use naga_ir::storage_format::StorageFormat;
-use naga_ir::types::{AddressSpace, ImageClass, ImageDimension, ScalarKind, StorageAccess};
+use naga_ir::types::{
+    AddressSpace, ImageClass, ImageDimension, Interpolation, Sampling, ScalarKind, StorageAccess,
+};
 
 /// The number of a kind of scalars.
 pub(crate) fn scalar_kind_number(kind: ScalarKind) -> u64
@@ -318,5 +321,50 @@ pub(crate) fn class_second(class: ImageClass) -> u64
         ImageClass::Sampled { multi, .. } => bool_number(multi),
         ImageClass::Storage { access, .. } => access_number(access),
         ImageClass::Depth { .. } | ImageClass::External => 0,
+    }
+}
+
+/// The number of how the value of a fragment is made.
+pub(crate) fn interpolation_number(interpolation: Interpolation) -> u64
+    ensures value { result ≡ interpolation_number interpolation }
+    ensures word { slice_get interpolations result ≡ Some (Some interpolation) }
+{
+    match interpolation {
+        Interpolation::Perspective => 1,
+        Interpolation::Linear => 2,
+        Interpolation::Flat => 3,
+        Interpolation::PerVertex => 4,
+    }
+}
+
+/// The number of where the value of a fragment is taken.
+pub(crate) fn sampling_number(sampling: Sampling) -> u64
+    ensures value { result ≡ sampling_number sampling }
+    ensures word { slice_get samplings result ≡ Some (Some sampling) }
+{
+    match sampling {
+        Sampling::Center => 1,
+        Sampling::Centroid => 2,
+        Sampling::Sample => 3,
+        Sampling::First => 4,
+        Sampling::Either => 5,
+    }
+}
+
+/// The number of the stage of an entry point.
+pub(crate) fn stage_number(stage: ShaderStage) -> u64
+    ensures value { result ≡ stage_number stage }
+    ensures word { slice_get stages result ≡ Some (Some stage) }
+{
+    match stage {
+        ShaderStage::Vertex => 1,
+        ShaderStage::Task => 2,
+        ShaderStage::Mesh => 3,
+        ShaderStage::Fragment => 4,
+        ShaderStage::Compute => 5,
+        ShaderStage::RayGeneration => 6,
+        ShaderStage::Miss => 7,
+        ShaderStage::AnyHit => 8,
+        ShaderStage::ClosestHit => 9,
     }
 }

@@ -1,5 +1,6 @@
 //! Which item a refusal is about, and why, in numbers.
 
+ghost use Rattle.naga_c.specs.DeclarationRefusals.{declaration_refusal, entry_point_lacks_memory, entry_point_refusal, global_variable_refusal, interfaces_refusal, lacks_memory, variables_refusal};
 ghost use Rattle.naga_c.specs.Refusals.{handle_error_index, handle_error_kind, refusal, refusal_of};
 ghost use Rattle.std.specs.Prelude.{◌≡◌, [], ◌∷◌};
 
@@ -9,13 +10,25 @@ use crate::codes::{
     override_error_code, override_error_second_cause, override_error_third_cause, type_error_cause,
     type_error_code,
 };
+use crate::declaration_codes::{
+    declaration_error_cause, declaration_error_code, entry_point_error_cause,
+    entry_point_error_code, entry_point_error_second_cause, global_variable_error_cause,
+    global_variable_error_code,
+};
+use crate::declaration_values::{
+    declaration_error_values, entry_point_error_values, global_variable_error_values,
+};
 use crate::kinds::{self, item_kind};
 use crate::values::{
     Values, const_expression_error_values, handle_error_values, none, one, override_error_values,
     type_error_values,
 };
 use naga_handles::error::InvalidHandleError;
-use naga_valid::ValidationError;
+use naga_ir::tags::GlobalVariableTag;
+use naga_valid::{
+    EntryPointError, FunctionDeclarationError, FunctionTag, GlobalVariableError, Handle,
+    InterfacesError, ValidationError, VariablesError,
+};
 
 /// The stage of the handles of a module.
 const HANDLE: u32 = 1;
@@ -43,6 +56,15 @@ pub(crate) const ENTRY_POINT: u32 = 8;
 
 /// The stage of what no validation returns.
 const MODULE: u32 = 9;
+
+/// The stage of global variables.
+const GLOBAL_VARIABLE: u32 = 10;
+
+/// The stage of what functions declare.
+const DECLARATIONS: u32 = 11;
+
+/// The stage of what entry points declare.
+const INTERFACE: u32 = 12;
 
 /// Which item is refused, and why.
 #[derive(Clone, Copy, Debug, PartialEq)]
@@ -146,6 +168,129 @@ pub(crate) fn refusal_of(error: &ValidationError) -> Refusal
             values: one(handle.index() as u64),
         },
         ValidationError::OutOfMemory => never(0),
+    }
+}
+
+/// The refusal of a global variable.
+fn global_variable_refusal(
+    handle: Handle<GlobalVariableTag>,
+    source: &GlobalVariableError,
+) -> Refusal
+    ensures { result ≡ global_variable_refusal handle source.now }
+{
+    Refusal {
+        stage: GLOBAL_VARIABLE,
+        kind: kinds::GLOBAL_VARIABLE,
+        index: handle.index() as u64,
+        errors: [
+            global_variable_error_code(source),
+            global_variable_error_cause(source),
+            0,
+            0,
+        ],
+        values: global_variable_error_values(source),
+    }
+}
+
+/// The refusal of what a function declares.
+fn declaration_refusal(handle: Handle<FunctionTag>, source: &FunctionDeclarationError) -> Refusal
+    ensures { result ≡ declaration_refusal handle source.now }
+{
+    Refusal {
+        stage: DECLARATIONS,
+        kind: kinds::FUNCTION,
+        index: handle.index() as u64,
+        errors: [
+            declaration_error_code(source),
+            declaration_error_cause(source),
+            0,
+            0,
+        ],
+        values: declaration_error_values(source),
+    }
+}
+
+/// The refusal of an entry point.
+fn entry_point_refusal(index: usize, source: &EntryPointError) -> Refusal
+    ensures { result ≡ entry_point_refusal index source.now }
+{
+    Refusal {
+        stage: INTERFACE,
+        kind: kinds::ENTRY_POINT,
+        index: index as u64,
+        errors: [
+            entry_point_error_code(source),
+            entry_point_error_cause(source),
+            entry_point_error_second_cause(source),
+            0,
+        ],
+        values: entry_point_error_values(source),
+    }
+}
+
+/// The refusal of a module's variables, unless memory was refused.
+pub(crate) fn variables_refusal(error: &VariablesError) -> Option<Refusal>
+    ensures { result ≡ variables_refusal error.now }
+{
+    match error {
+        VariablesError::GlobalVariable { handle, source } => {
+            Some(global_variable_refusal(*handle, source))
+        }
+        VariablesError::OutOfMemory => None,
+    }
+}
+
+/// Whether memory was refused while a function's declarations were validated.
+fn lacks_memory(error: &FunctionDeclarationError) -> bool
+    ensures { result ≡ lacks_memory error.now }
+{
+    match error {
+        FunctionDeclarationError::OutOfMemory => true,
+        FunctionDeclarationError::LocalVariable { .. }
+        | FunctionDeclarationError::InvalidArgumentPointerSpace { .. }
+        | FunctionDeclarationError::InvalidArgumentType { .. }
+        | FunctionDeclarationError::PipelineInputRegularFunction { .. }
+        | FunctionDeclarationError::NonConstructibleReturnType
+        | FunctionDeclarationError::PipelineOutputRegularFunction => false,
+    }
+}
+
+/// Whether memory was refused while an entry point was validated.
+fn entry_point_lacks_memory(error: &EntryPointError) -> bool
+    ensures { result ≡ entry_point_lacks_memory error.now }
+{
+    match error {
+        EntryPointError::OutOfMemory => true,
+        EntryPointError::Conflict
+        | EntryPointError::MissingVertexOutputPosition
+        | EntryPointError::UnexpectedEarlyDepthTest
+        | EntryPointError::UnexpectedWorkgroupSize
+        | EntryPointError::OutOfRangeWorkgroupSize
+        | EntryPointError::ForbiddenStageOperations
+        | EntryPointError::Argument(..)
+        | EntryPointError::Result(_)
+        | EntryPointError::Function(_)
+        | EntryPointError::StageNotCovered => false,
+    }
+}
+
+/// The refusal of what a module's functions and entry points declare, unless memory was refused.
+pub(crate) fn interfaces_refusal(error: &InterfacesError) -> Option<Refusal>
+    ensures { result ≡ interfaces_refusal error.now }
+{
+    match error {
+        InterfacesError::Function { handle, source } => {
+            if lacks_memory(source) {
+                return None;
+            }
+            Some(declaration_refusal(*handle, source))
+        }
+        InterfacesError::EntryPoint { index, source } => {
+            if entry_point_lacks_memory(source) {
+                return None;
+            }
+            Some(entry_point_refusal(*index, source))
+        }
     }
 }
 

@@ -2,13 +2,14 @@
 //! and the rest by the numbers that words have. Types and texts are left out.
 
 ghost use Rattle.naga_c.specs.Values.{compose_error_values, const_expression_error_values, counted, expression_error_values, handle_error_values, literal_error_values, override_error_values, type_error_values, varying_error_values, width_error_values};
-ghost use Rattle.std.specs.Prelude.{◌≡◌, ◌<◌, ℕ, List, [], ◌∷◌};
+ghost use Rattle.std.specs.Prelude.{◌≡◌, ◌+◌, ◌<◌, ℕ, List, [], ◌∷◌};
 
 use crate::kinds::{capability_named, scalar_named};
 use crate::numbers::{
     access_number, binary_operator_number, bool_number, class_first, class_number, class_second,
-    component_number, dimension_number, format_number, math_function_number, scalar_kind_number,
-    space_access, space_number, unary_operator_number,
+    component_number, dimension_number, format_number, interpolation_number, math_function_number,
+    sampling_number, scalar_kind_number, space_access, space_number, stage_number,
+    unary_operator_number,
 };
 use bitflags::Flags;
 use naga_flags::width::WidthError;
@@ -48,7 +49,7 @@ pub(crate) fn one(first: u64) -> Values
 }
 
 /// Two values.
-fn two(first: u64, second: u64) -> Values
+pub(crate) fn two(first: u64, second: u64) -> Values
     ensures { result ≡ counted (first ∷ second ∷ []) }
 {
     Values {
@@ -58,7 +59,7 @@ fn two(first: u64, second: u64) -> Values
 }
 
 /// Three values.
-fn three(first: u64, second: u64, third: u64) -> Values
+pub(crate) fn three(first: u64, second: u64, third: u64) -> Values
     ensures { result ≡ counted (first ∷ second ∷ third ∷ []) }
 {
     Values {
@@ -88,9 +89,10 @@ fn five(first: u64, second: u64, third: u64, fourth: u64, fifth: u64) -> Values
 }
 
 /// A value, and those of an error within the one that holds it.
-fn after(first: u64, rest: Values) -> Values
+pub(crate) fn after(first: u64, rest: Values) -> Values
     requires room { rest.count < 5 }
-    ensures { (xs : List ℕ) → rest ≡ counted xs → result ≡ counted (first ∷ xs) }
+    ensures value { (xs : List ℕ) → rest ≡ counted xs → result ≡ counted (first ∷ xs) }
+    ensures count { result.count ≡ rest.count + 1 }
 {
     let [second, third, fourth, fifth, _] = rest.items;
     Values {
@@ -113,9 +115,10 @@ pub(crate) fn handle_error_values(error: &InvalidHandleError) -> Values
     }
 }
 
-/// The values of why a struct can't have its blend sources.
-fn varying_error_values(error: &VaryingError) -> Values
-    ensures { result ≡ counted (varying_error_values error.now) }
+/// The values of why an input or output is refused, or why a struct can't have its blend sources.
+pub(crate) fn varying_error_values(error: &VaryingError) -> Values
+    ensures value { result ≡ counted (varying_error_values error.now) }
+    ensures room { result.count < 5 }
 {
     match error {
         VaryingError::InvalidBlendSrcIndex {
@@ -135,6 +138,28 @@ fn varying_error_values(error: &VaryingError) -> Values
         VaryingError::IncompleteBlendSrcUsage { present_blend_src } => one(u64::from(
             *present_blend_src,
         )),
+        VaryingError::InvalidType(ty) => one(ty.index() as u64),
+        VaryingError::InvalidInterpolationSamplingCombination {
+            interpolation,
+            sampling,
+        } => two(
+            interpolation_number(*interpolation),
+            sampling_number(*sampling),
+        ),
+        VaryingError::InvalidBuiltInStage(value) => one(u64::from(value.number())),
+        VaryingError::InvalidBuiltInType(value) => one(u64::from(value.number())),
+        VaryingError::MemberMissingBinding(index) => one(*index as u64),
+        VaryingError::BindingCollision { location } => one(u64::from(*location)),
+        VaryingError::DuplicateBuiltIn(value) => one(u64::from(value.number())),
+        VaryingError::UnsupportedCapability(capabilities) => one(capabilities.bits()),
+        VaryingError::InvalidInputAttributeInStage(stage) => one(stage_number(*stage)),
+        VaryingError::InvalidAttributeInStage(stage) => one(stage_number(*stage)),
+        VaryingError::InvalidInterpolation
+        | VaryingError::MissingInterpolation
+        | VaryingError::MissingBinding
+        | VaryingError::InvalidMultiDimensionalSubgroupBuiltIn
+        | VaryingError::InvalidPerPrimitive
+        | VaryingError::OutOfMemory => none(),
     }
 }
 

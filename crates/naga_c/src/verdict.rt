@@ -11,9 +11,9 @@ ghost use Rattle.naga_typing.specs.declared.full_typing.FullTyping.{FullTyping};
 ghost use Rattle.naga_valid.specs.Accepted.{Accepts, Refuses};
 ghost use Rattle.naga_valid.specs.State.{new_state, settings_of};
 ghost use Rattle.naga_valid.specs.declared.error.ValidationError.TheVariants as error;
-ghost use Rattle.std.specs.Prelude.{◌≡◌, OnOk};
+ghost use Rattle.std.specs.Prelude.{◌≡◌, IfOk, OnOk, false};
 
-use crate::refusal::refusal_of;
+use crate::refusal::{Refusal, refusal_of};
 use crate::results::Outcome;
 use crate::status::Status;
 use crate::subject::{NoSubject, Subject};
@@ -71,6 +71,9 @@ pub(crate) fn validate(
         (λ e. Refuses full_resolves subject.now.«module» (settings_of validator.old subject.now.resolved)
         (inner_of e)) }
     ensures references { OnOk result (GlobalReferencesOk (global_lists subject.now.«module»)) }
+    ensures unresolved { IfOk result
+        (λ info. Accepts full_resolves subject.now.«module» (settings_of validator.old false) validator.new.infos
+        info.lists) }
     ensures settings { validator.new ≡ record validator.old { infos = validator.new.infos } }
 {
     if subject.resolved {
@@ -97,6 +100,21 @@ pub(crate) fn refused_status(error: &ValidationError) -> Status
     }
 }
 
+/// What is written of a module of which this is refused.
+pub(crate) fn outcome_of(module: &Module, refusal: &Refusal) -> Outcome
+    ensures { result ≡ spec.refused_with «module».now refusal.now }
+{
+    Outcome {
+        index: refusal.index,
+        values: refusal.values.items,
+        stage: refusal.stage,
+        kind: refusal.kind,
+        errors: refusal.errors,
+        value_count: refusal.values.count,
+        ..counts_of(module)
+    }
+}
+
 /// What is written of a module that is not accepted.
 pub(crate) fn refused_outcome(module: &Module, error: &ValidationError) -> Outcome
     ensures { result ≡ steps.refused_outcome «module».now error.now }
@@ -104,16 +122,5 @@ pub(crate) fn refused_outcome(module: &Module, error: &ValidationError) -> Outco
     if refused_status(error) == Status::OutOfMemory {
         return no_outcome();
     }
-    let refusal = refusal_of(error);
-    let values = refusal.values.items;
-    let errors = refusal.errors;
-    Outcome {
-        index: refusal.index,
-        values,
-        stage: refusal.stage,
-        kind: refusal.kind,
-        errors,
-        value_count: refusal.values.count,
-        ..counts_of(module)
-    }
+    outcome_of(module, &refusal_of(error))
 }

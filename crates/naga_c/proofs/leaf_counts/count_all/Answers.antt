@@ -1,4 +1,4 @@
-use Rattle.std.proofs.Common.{Some, ap, refl, sym, ◌∙◌}
+use Rattle.std.proofs.Common.{Some, ap, sym, ◌∙◌}
 use Rattle.std.proofs.lemmas.Option.{slice_get-get_or}
 use Rattle.naga_c.proofs.LeafCountLaws.{counted_more, not_counted}
 use Rattle.naga_c.proofs.leaf_counts.count_all.Goals as goal
