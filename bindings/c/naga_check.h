@@ -1,9 +1,10 @@
 /* naga_check: a validator of shader modules whose verdicts are proved. C interface, version 3.
  *
  * What NAGA_CHECK_OK means: every rule of the module's handles, types, global expressions, constants and overrides
- * holds, and after naga_check_functions every rule of the expressions of functions and entry points. It says nothing of
- * statements, of variables and their bindings, of what entry points hand to each other, nor of whether a type fits the
- * address space that a variable is in: these are not validated yet.
+ * holds; after naga_check_functions also every rule of the expressions of functions and entry points; and after
+ * naga_check_declarations besides these every rule of the module's variables, of the local variables, arguments and
+ * results of functions, and of the inputs and outputs of entry points. It says nothing of statements, nor of which
+ * variables an entry point uses and whether their bindings collide: these are not validated yet.
  *
  * Options say how a module is validated and how much a call may take; they are the host's, and what comes in the words
  * or the text of a stranger can't loosen them. A null pointer in their place is NAGA_CHECK_OPTIONS_DEFAULT.
@@ -81,7 +82,7 @@ extern "C" {
 /* What calls return. */
 typedef uint32_t naga_check_status;
 enum {
-  NAGA_CHECK_OK = 0,           /* done: the types, values and expressions that were checked keep their rules */
+  NAGA_CHECK_OK = 0,           /* done: what was checked keeps its rules */
   NAGA_CHECK_REFUSED = 1,      /* the module breaks a rule; never that memory was refused */
   NAGA_CHECK_UNREADABLE = 2,   /* the text or the words can't be read */
   NAGA_CHECK_MEMORY = 3,       /* memory was refused: nothing is known of the module */
@@ -132,7 +133,10 @@ enum {
   NAGA_CHECK_STAGE_OVERRIDE = 6,
   NAGA_CHECK_STAGE_FUNCTION = 7,
   NAGA_CHECK_STAGE_ENTRY_POINT = 8,
-  NAGA_CHECK_STAGE_MODULE = 9
+  NAGA_CHECK_STAGE_MODULE = 9,
+  NAGA_CHECK_STAGE_GLOBAL_VARIABLE = 10,
+  NAGA_CHECK_STAGE_DECLARATIONS = 11, /* of a function: its local variables, arguments and result */
+  NAGA_CHECK_STAGE_INTERFACE = 12     /* of an entry point */
 };
 
 /* Kinds of items of a module. Expressions are those of the module and of functions. */
@@ -217,6 +221,8 @@ naga_check_status naga_check_words_with(const uint32_t *words, size_t word_count
 naga_check_status naga_check_functions_with(const uint32_t *words, size_t word_count,
                                             const naga_check_options *options, uint32_t *stages, size_t stage_count,
                                             naga_check_outcome *outcome);
+naga_check_status naga_check_declarations_with(const uint32_t *words, size_t word_count,
+                                               const naga_check_options *options, naga_check_outcome *outcome);
 naga_check_status naga_check_leaves_with(const uint32_t *words, size_t word_count, const naga_check_options *options,
                                          const uint32_t *types, size_t type_count, uint32_t length,
                                          naga_check_leaf *leaves, size_t leaf_count, uint32_t *paths,
@@ -233,6 +239,7 @@ naga_check_status naga_check_module_types_with(naga_check_module *module, naga_c
                                                size_t info_count, naga_check_outcome *outcome);
 naga_check_status naga_check_module_functions_with(naga_check_module *module, uint32_t *stages, size_t stage_count,
                                                    naga_check_outcome *outcome);
+naga_check_status naga_check_module_declarations_with(naga_check_module *module, naga_check_outcome *outcome);
 naga_check_status naga_check_module_leaves_with(naga_check_module *module, const uint32_t *types, size_t type_count,
                                                 uint32_t length, naga_check_leaf *leaves, size_t leaf_count,
                                                 uint32_t *paths, size_t path_count, naga_check_counts *counts,
@@ -284,6 +291,20 @@ static inline naga_check_status naga_check_functions(const uint32_t *words, size
   naga_check_outcome unwanted;
   return naga_check_functions_with(words ? words : &no_words, word_count, &chosen, stages ? stages : &no_stage,
                                    stage_count, outcome ? outcome : &unwanted);
+}
+
+/* Validates a module as naga_check_words does, except that it never leaves out constants; then its variables in order;
+ * then the expressions of its functions and entry points, as naga_check_functions does; then what its functions declare
+ * in order, and its entry points: of each function its local variables, its arguments and its result, and of each entry
+ * point its inputs and outputs, and what its stage asks for. Without NAGA_CHECK_VALIDATE_STRUCT_LAYOUTS no variable is
+ * asked for a layout, and without NAGA_CHECK_VALIDATE_BINDINGS none for a binding. outcome->written is 0. */
+static inline naga_check_status naga_check_declarations(const uint32_t *words, size_t word_count,
+                                                        const naga_check_options *options,
+                                                        naga_check_outcome *outcome) {
+  const naga_check_options chosen = naga_check_options_or_default(options);
+  const uint32_t no_words = 0;
+  naga_check_outcome unwanted;
+  return naga_check_declarations_with(words ? words : &no_words, word_count, &chosen, outcome ? outcome : &unwanted);
 }
 
 /* Validates a module as naga_check_words does, and writes the leaves of types of it, those of types[0] first:
@@ -385,6 +406,15 @@ static inline naga_check_status naga_check_module_functions(naga_check_module *m
   naga_check_outcome unwanted;
   return naga_check_module_functions_with(module ? module : &closed, stages ? stages : &no_stage, stage_count,
                                           outcome ? outcome : &unwanted);
+}
+
+/* Writes what naga_check_declarations writes of the words that the module was opened with. Each call validates all of it
+ * anew. */
+static inline naga_check_status naga_check_module_declarations(naga_check_module *module,
+                                                               naga_check_outcome *outcome) {
+  naga_check_module closed = NAGA_CHECK_MODULE_CLOSED;
+  naga_check_outcome unwanted;
+  return naga_check_module_declarations_with(module ? module : &closed, outcome ? outcome : &unwanted);
 }
 
 /* Writes what naga_check_leaves writes of the words that the module was opened with, with the options of

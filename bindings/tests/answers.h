@@ -9,13 +9,23 @@
 
 enum { MOST_WORDS = 4096, MOST_TYPES = 64, MOST_CALLABLES = 16, MOST_LEAVES = 64, MOST_INDEXES = 256 };
 enum { MOST_BYTES = 256 };
-enum { ABOUT_REPORT, ABOUT_TEXT, ABOUT_WORDS, ABOUT_FUNCTIONS, ABOUT_LEAVES, ABOUT_SLOTS, DIRECT_CALLS };
+enum {
+  ABOUT_REPORT,
+  ABOUT_TEXT,
+  ABOUT_WORDS,
+  ABOUT_FUNCTIONS,
+  ABOUT_DECLARATIONS,
+  ABOUT_LEAVES,
+  ABOUT_SLOTS,
+  DIRECT_CALLS
+};
 /* The same on a module that is opened before and closed after the call. */
-enum { OPEN_WORDS = DIRECT_CALLS, OPEN_FUNCTIONS, OPEN_LEAVES, OPEN_SLOTS, CALLS };
+enum { OPEN_WORDS = DIRECT_CALLS, OPEN_FUNCTIONS, OPEN_DECLARATIONS, OPEN_LEAVES, OPEN_SLOTS, CALLS };
 
-static const char *const call_names[CALLS] = {"report", "text", "words", "functions", "leaves", "slots",
+static const char *const call_names[CALLS] = {"report", "text", "words", "functions", "declarations", "leaves", "slots",
                                               "words of an open module", "functions of an open module",
-                                              "leaves of an open module", "slots of an open module"};
+                                              "declarations of an open module", "leaves of an open module",
+                                              "slots of an open module"};
 
 /* Options that leave what may be used to the words. */
 static const naga_check_options by_words = {
@@ -71,6 +81,9 @@ static inline void ask_open(const question *asked, int call, answer *given) {
     case OPEN_FUNCTIONS:
       given->status = naga_check_module_functions(&module, given->stages, MOST_CALLABLES, &given->outcome);
       break;
+    case OPEN_DECLARATIONS:
+      given->status = naga_check_module_declarations(&module, &given->outcome);
+      break;
     case OPEN_LEAVES:
       given->status = naga_check_module_leaves(&module, &asked->type, 1, 3, given->leaves, MOST_LEAVES, given->paths,
                                                MOST_INDEXES, &given->counts, &given->outcome);
@@ -108,6 +121,9 @@ static inline void ask(const question *asked, int call, answer *given) {
     break;
   case ABOUT_FUNCTIONS:
     given->status = naga_check_functions(words, count, &by_words, given->stages, MOST_CALLABLES, &given->outcome);
+    break;
+  case ABOUT_DECLARATIONS:
+    given->status = naga_check_declarations(words, count, &by_words, &given->outcome);
     break;
   case ABOUT_LEAVES:
     given->status = naga_check_leaves(words, count, &by_words, &asked->type, 1, 3, given->leaves, MOST_LEAVES,

@@ -22,7 +22,10 @@ ERRORS = {"InvalidHandleError": "HANDLE_ERROR", "LayoutErrorInner": "LAYOUT_ERRO
           "OverrideError": "OVERRIDE_ERROR", "ExpressionError": "EXPRESSION_ERROR", "VaryingError": "VARYING_ERROR",
           "LiteralError": "LITERAL_ERROR", "WidthError": "WIDTH_ERROR", "ComposeError": "COMPOSE_ERROR",
           "ResolveError": "RESOLVE_ERROR",
-          "IndexableLengthError": "INDEXABLE_LENGTH_ERROR", "Disalignment": "DISALIGNMENT"}
+          "IndexableLengthError": "INDEXABLE_LENGTH_ERROR", "Disalignment": "DISALIGNMENT",
+          "GlobalVariableError": "GLOBAL_VARIABLE_ERROR", "LocalVariableError": "LOCAL_VARIABLE_ERROR",
+          "FunctionDeclarationError": "FUNCTION_DECLARATION_ERROR", "EntryPointError": "ENTRY_POINT_ERROR",
+          "ImmediateError": "IMMEDIATE_ERROR"}
 TABLES = {"ScalarKind": "KIND", "CooperativeRole": "ROLE", "ImageDimension": "DIMENSION",
           "SwizzleComponent": "COMPONENT", "UnaryOperator": "UNARY", "BinaryOperator": "BINARY",
           "RelationalFunction": "RELATIONAL", "MathFunction": "MATH", "SubgroupOperation": "SUBGROUP",
@@ -36,10 +39,10 @@ PAGES = {"BINARY": "BinaryOperator", "MATH": "MathFunction", "BUILT_IN": "BuiltI
 # How the header calls the enums of the crate of texts, and what its tables name.
 TEXTS = {**{name: prefix for name, prefix in ERRORS.items() if prefix not in ("HANDLE_ERROR", "LAYOUT_ERROR")},
          "HandleError": "HANDLE_ERROR", "LayoutError": "LAYOUT_ERROR", "ModuleError": "MODULE_ERROR", "Stage": "STAGE"}
-del TEXTS["Disalignment"]
 NAMES = {"ItemKinds": "ITEM_KIND", "ScalarKinds": "KIND", "Components": "COMPONENT", "Dimensions": "DIMENSION",
          "Spaces": "SPACE", "UnaryOperators": "UNARY", "BinaryOperators": "BINARY", "MathFunctions": "MATH",
-         "StorageFormats": "STORAGE_FORMAT", "Capabilities": "CAPABILITY"}
+         "StorageFormats": "STORAGE_FORMAT", "BuiltIns": "BUILT_IN", "Interpolations": "INTERPOLATION",
+         "Samplings": "SAMPLING", "EntryStages": "ENTRY_STAGE", "Capabilities": "CAPABILITY"}
 # How the header calls the sets of flags.
 FLAGS = {"ValidationFlags": "VALIDATE", "Capabilities": "CAPABILITY", "TypeFlags": "TYPE",
          "ShaderStages": "SHADER_STAGE"}
@@ -54,7 +57,8 @@ UNUSED = {"NAGA_CHECK_STAGE_NONE", "NAGA_CHECK_NOT_OPEN"}
 OWN_WORDS = {"Capability Capabilities(", "Shader requires capability Capabilities(", ") is required",
              "Sampled { kind", ", multi", "Depth { multi", "Storage { format", ", access", "External",
              "Handle or range", "of function", "of entry point", "The module is invalid",
-             "A field can't be dynamically-sized, has type", "unknown"}
+             "A field can't be dynamically-sized, has type", "unknown", "Storage { access", "Type flags TypeFlags(",
+             ") do not meet the required TypeFlags(", ") is not supported", "The scalar type Scalar { kind", ", width"}
 
 differences = []
 
@@ -310,11 +314,17 @@ def compare_texts(constants, text):
         same(f"{prefix} of texts", ours, numbers.get(name, {}))
     tables = dict(re.findall(r"Names::(\w+) => &\[(.*?)\]", text, re.DOTALL))
     for name, prefix in NAMES.items():
-        rows = re.findall(r'\(\s*(\w+),\s*"(\w+)",?\s*\)', tables.get(name, ""))
-        named = {RENAMED.get(row, row).upper().replace("_", ""): int(number, 0) for number, row in rows}
+        rows = re.findall(r'\(\s*(\w+),\s*"(\w+)(?: \{ (\w+: \w+) \})?",?\s*\)', tables.get(name, ""))
+        named = {with_bool(RENAMED.get(row, row), field).replace("_", ""): int(number, 0)
+                 for number, row, field in rows}
         ours = {name: value for name, value in numbers_of_prefix(constants, prefix).items()
                 if name not in ("NONE", "DEFAULT", "ALL")}
         same(f"{prefix} of names", ours, named)
+    flags = re.findall(r'bit: (\w+),\s*before: (\w+),\s*name: "(\w+)"', text)
+    ours = {name: value for name, value in constants.items() if re.match(r"NAGA_CHECK_TYPE_(?!ERROR_)", name)}
+    same("flag of texts", ours, {f"NAGA_CHECK_TYPE_{name}": int(bit, 0) for bit, _, name in flags})
+    same("flags before one", {name: value - 1 for name, value in ours.items()},
+         {f"NAGA_CHECK_TYPE_{name}": int(before, 0) for _, before, name in flags})
 
 
 def words_of_texts(text):

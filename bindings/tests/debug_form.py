@@ -5,11 +5,14 @@ import re
 # What an error holds, for those that hold an error.
 CAUSES = {"InvalidBlendSrc": "VARYING_ERROR", "WidthError": "WIDTH_ERROR", "Literal": "LITERAL_ERROR",
           "Width": "WIDTH_ERROR", "Compose": "COMPOSE_ERROR", "Type": "RESOLVE_ERROR",
-          "IndexableLength": "INDEXABLE_LENGTH_ERROR"}
+          "IndexableLength": "INDEXABLE_LENGTH_ERROR", "Argument": "VARYING_ERROR", "Result": "VARYING_ERROR",
+          "Function": "FUNCTION_DECLARATION_ERROR", "LocalVariable": "LOCAL_VARIABLE_ERROR",
+          "InvalidImmediateType": "IMMEDIATE_ERROR"}
 # What an outcome has no room for.
 LEFT_OUT = {"lhs_type", "rhs_type", "accept", "reject", "actual"}
 # The enums of which an error holds a variant without fields, and how the header calls a variant otherwise.
 ENUMS = "KIND DIMENSION COMPONENT UNARY BINARY MATH STORAGE_FORMAT".split()
+SPACES = "Function Private WorkGroup Uniform Storage Handle Immediate TaskPayload RayPayload IncomingRayPayload".split()
 RENAMED = {"D1": "1D", "D2": "2D", "D3": "3D"}
 SIZES = {"Bi": 2, "Tri": 3, "Quad": 4}
 # The kind of scalars and their width, by the names that errors show.
@@ -43,7 +46,7 @@ def read_value(tokens):
         return int(token)
     if token[0] == '"' or token in ("true", "false"):
         return token if token[0] == '"' else token == "true"
-    if token == "Capabilities":
+    if token in ("Capabilities", "TypeFlags"):
         return Form(token, {0: read_flags(tokens)})
     return Form(token, read_fields(tokens))
 
@@ -93,19 +96,47 @@ def class_numbers(header, form):
     return [number, 0, 0]
 
 
-def numbers_of(header, name, value):
-    """The numbers that an outcome has for a field of an error."""
+def space_numbers(header, form):
+    access = form.fields.get("access")
+    return [header.number("SPACE", form.name), access_bits(access) if access else 0]
+
+
+def built_in_numbers(header, form):
+    """The number of a built-in value, whose name has that of its bool if it is true."""
+    true = "".join(name for name, value in form.fields.items() if value is True)
+    return [header.number("BUILT_IN", form.name + true)]
+
+
+def alignment_numbers(header, form):
+    """What a layout that can't be is told with: of its address space only the number."""
+    space, ty, why = form.fields.values()
+    errors, values = told(header, "DISALIGNMENT", why)
+    return errors, [header.number("SPACE", space.name), ty, *values]
+
+
+def numbers_of(header, of, name, value):
+    """The numbers that an outcome has for a field of the error of a name."""
     if name in LEFT_OUT or isinstance(value, str):
         return []
     if isinstance(value, int):
         return [int(value)]
-    if value.name == "Capabilities":
-        return [sum(header.flags["CAPABILITY_" + flag] for flag in value.fields[0])]
+    if value.name in ("Capabilities", "TypeFlags"):
+        prefix = "CAPABILITY_" if value.name == "Capabilities" else "TYPE_"
+        return [sum(header.flags[prefix + flag] for flag in value.fields[0])]
+    if value.name == "Scalar":
+        return [header.number("KIND", value.fields["kind"].name), value.fields["width"]]
+    if value.name == "Alignment":
+        return [value.fields["bytes"]]
+    if name in ("interpolation", "sampling"):
+        return [header.number(name, value.name)]
     if value.name == "StorageAccess":
         return [access_bits(value)]
-    if name == "space":
-        access = value.fields.get("access")
-        return [header.number("SPACE", value.name), access_bits(access) if access else 0]
+    if name == "space" or of in ("InvalidUsage", "InvalidType", "InitializerNotAllowed") and value.name in SPACES:
+        return space_numbers(header, value)
+    if of in ("InvalidBuiltInStage", "InvalidBuiltInType", "DuplicateBuiltIn"):
+        return built_in_numbers(header, value)
+    if of in ("InvalidInputAttributeInStage", "InvalidAttributeInStage"):
+        return [header.number("ENTRY_STAGE", value.name)]
     if name in ("class", "image") or value.name in ("Sampled", "Depth", "Storage", "External"):
         return class_numbers(header, value)
     if value.name in SIZES:
@@ -125,11 +156,14 @@ def told(header, enum, form):
     errors, values = [header.number(enum, form.name)], []
     if enum == "WIDTH_ERROR" and form.name == "MissingCapability":
         return errors, width_numbers(header, form.fields["name"], form.fields["flag"])
+    if enum == "GLOBAL_VARIABLE_ERROR" and form.name == "Alignment":
+        within, values = alignment_numbers(header, form)
+        return errors + within, values
     for name, value in form.fields.items():
-        cause = "CONST_EXPRESSION_ERROR" if name == "source" else CAUSES.get(form.name)
+        cause = CAUSES.get(form.name, "CONST_EXPRESSION_ERROR" if name == "source" else None)
         if cause is not None and isinstance(value, Form):
             within, more = told(header, cause, value)
             errors, values = errors + within, values + more
         else:
-            values += numbers_of(header, name, value)
+            values += numbers_of(header, form.name, name, value)
     return errors, values

@@ -54,7 +54,7 @@ static void note(naga_check_status status) {
 }
 
 /* Whether calls on a module that is opened end as those on its words, which are gone by then. */
-static void try_open(uint32_t *words, size_t count) {
+static void try_open(uint32_t *words, size_t count, const naga_check_outcome *declared) {
   naga_check_module open;
   naga_check_outcome first;
   const naga_check_status direct = naga_check_words(words, count, &by_words, infos, FEW_TYPES, &first);
@@ -67,6 +67,8 @@ static void try_open(uint32_t *words, size_t count) {
     require(naga_check_module_types(&open, infos, FEW_TYPES, outcome) == direct, "types of an open module");
     require(memcmp(outcome, &first, sizeof first) == 0, "the outcome of an open module");
     note(naga_check_module_functions(&open, stages, FEW_CALLABLES, outcome));
+    note(naga_check_module_declarations(&open, outcome));
+    require(memcmp(outcome, declared, sizeof *declared) == 0, "the declarations of an open module");
     note(naga_check_module_leaves(&open, type, 1, 2, leaves, FEW_LEAVES, paths, FEW_INDEXES, counts, outcome));
     note(naga_check_module_slots(&open, *type, *type, slots, outcome));
   }
@@ -77,7 +79,8 @@ static void try_open(uint32_t *words, size_t count) {
 
 static void try_words(const uint32_t *module, size_t count) {
   uint32_t *words = words_end - count;
-  naga_check_status first, second;
+  naga_check_status first, second, third;
+  naga_check_outcome functions, declared;
   memcpy(words, module, count * sizeof *words);
   first = naga_check_words(words, count, &by_words, infos, FEW_TYPES, outcome);
   note(first);
@@ -88,6 +91,18 @@ static void try_words(const uint32_t *module, size_t count) {
   require(outcome->written <= FEW_CALLABLES, "more stages than there is room for");
   require(first != NAGA_CHECK_REFUSED || second == NAGA_CHECK_REFUSED, "functions of a refused module");
   require((first == NAGA_CHECK_UNREADABLE) == (second == NAGA_CHECK_UNREADABLE), "two ways to read");
+  functions = *outcome;
+  third = naga_check_declarations(words, count, &by_words, outcome);
+  declared = *outcome;
+  note(third);
+  require((third == NAGA_CHECK_REFUSED) == (declared.stage != 0), "a stage of declarations without a refusal");
+  require(declared.written == 0 && declared.value_count <= 5, "more than an outcome has");
+  require(second != NAGA_CHECK_REFUSED || third == NAGA_CHECK_REFUSED, "declarations of a refused module");
+  require(declared.stage < NAGA_CHECK_STAGE_DECLARATIONS || second != NAGA_CHECK_REFUSED,
+          "declarations of refused functions");
+  functions.written = 0;
+  require(declared.stage >= NAGA_CHECK_STAGE_GLOBAL_VARIABLE || memcmp(&declared, &functions, sizeof declared) == 0,
+          "another refusal of the same module or functions");
   for (*type = 0; *type < 20; *type += 5) {
     note(naga_check_leaves(words, count, &by_words, type, 1, 2, leaves, FEW_LEAVES, paths, FEW_INDEXES, counts,
                            outcome));
@@ -97,7 +112,7 @@ static void try_words(const uint32_t *module, size_t count) {
     require(first != NAGA_CHECK_REFUSED || outcome->stage != 0, "slots of a refused module");
   }
   *type = (uint32_t)(count % 20);
-  try_open(words, count);
+  try_open(words, count, &declared);
 }
 
 /* Leaves the settings out of words that can be read, and returns how many are left. */

@@ -23,6 +23,7 @@ static void require(int holds, const char *what) {
 static void try_nulls(void) {
   require(naga_check_words(NULL, 0, NULL, NULL, 0, NULL) == NAGA_CHECK_OK, "words");
   require(naga_check_functions(NULL, 0, NULL, NULL, 0, NULL) == NAGA_CHECK_OK, "functions");
+  require(naga_check_declarations(NULL, 0, NULL, NULL) == NAGA_CHECK_OK, "declarations");
   require(naga_check_leaves(NULL, 0, NULL, NULL, 0, 0, NULL, 0, NULL, 0, NULL, NULL) == NAGA_CHECK_OK, "leaves");
   require(naga_check_count_leaves(NULL, 0, NULL, NULL, 0, 0, NULL, NULL) == NAGA_CHECK_OK, "counts");
   require(naga_check_slots(NULL, 0, NULL, 0, 0, NULL, NULL) == NAGA_CHECK_NO_TYPE, "slots");
@@ -39,6 +40,7 @@ static void try_closed(void) {
     naga_check_close(modules[at]);
     require(naga_check_module_types(modules[at], NULL, 0, NULL) == NAGA_CHECK_NOT_OPEN, "types of none");
     require(naga_check_module_functions(modules[at], NULL, 0, NULL) == NAGA_CHECK_NOT_OPEN, "functions of none");
+    require(naga_check_module_declarations(modules[at], NULL) == NAGA_CHECK_NOT_OPEN, "declarations of none");
     require(naga_check_module_leaves(modules[at], &type, 1, 0, NULL, 0, NULL, 0, NULL, NULL) == NAGA_CHECK_NOT_OPEN,
             "leaves of none");
     require(naga_check_module_count_leaves(modules[at], &type, 1, 0, NULL, NULL) == NAGA_CHECK_NOT_OPEN,
@@ -50,6 +52,7 @@ static void try_closed(void) {
   require(naga_check_open(NULL, 0, NULL, &module, NULL) == NAGA_CHECK_OK && module.at, "an empty one");
   require(naga_check_module_types(&module, NULL, 0, NULL) == NAGA_CHECK_OK, "types of nothing");
   require(naga_check_module_functions(&module, NULL, 0, NULL) == NAGA_CHECK_OK, "functions of nothing");
+  require(naga_check_module_declarations(&module, NULL) == NAGA_CHECK_OK, "declarations of nothing");
   require(naga_check_module_leaves(&module, NULL, 0, 0, NULL, 0, NULL, 0, NULL, NULL) == NAGA_CHECK_OK, "leaves");
   require(naga_check_module_count_leaves(&module, NULL, 0, 0, NULL, NULL) == NAGA_CHECK_OK, "counts of nothing");
   require(naga_check_module_slots(&module, 0, 0, NULL, NULL) == NAGA_CHECK_NO_TYPE, "slots of nothing");

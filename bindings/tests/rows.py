@@ -7,6 +7,7 @@ many were the same.
 """
 
 import ctypes
+import functools
 import re
 import sys
 
@@ -17,12 +18,17 @@ OK, REFUSED, UNREADABLE, MEMORY, ROOM, NO_TYPE, LIMIT, OPTIONS, SETTINGS, NOT_SH
 STAGES = "handle layout type expression constant override".split()
 ITEMS = {"layout": "T", "type": "T", "expression": "G", "constant": "C", "override": "O"}
 ERRORS = {1: "HANDLE_ERROR", 2: "LAYOUT_ERROR", 3: "TYPE_ERROR", 4: "CONST_EXPRESSION_ERROR", 5: "CONSTANT_ERROR",
-          6: "OVERRIDE_ERROR", 7: "EXPRESSION_ERROR", 8: "EXPRESSION_ERROR"}
+          6: "OVERRIDE_ERROR", 7: "EXPRESSION_ERROR", 8: "EXPRESSION_ERROR", 10: "GLOBAL_VARIABLE_ERROR",
+          11: "FUNCTION_DECLARATION_ERROR", 12: "ENTRY_POINT_ERROR"}
 # The kind of the item that an outcome is about, by its stage; of the stage HANDLE the row says it.
-KINDS = {2: "TYPE", 3: "TYPE", 4: "EXPRESSION", 5: "CONSTANT", 6: "OVERRIDE", 7: "FUNCTION", 8: "ENTRY_POINT"}
+KINDS = {2: "TYPE", 3: "TYPE", 4: "EXPRESSION", 5: "CONSTANT", 6: "OVERRIDE", 7: "FUNCTION", 8: "ENTRY_POINT",
+         10: "GLOBAL_VARIABLE", 11: "FUNCTION", 12: "ENTRY_POINT"}
+# The stages of what a module declares, by the letter that rows have before the index of an item.
+DECLARED = {"V": 10, "F": 11, "N": 12}
 TYPE_FLAGS = "DATA SIZED COPY IO_SHAREABLE HOST_SHAREABLE CREATION_RESOLVED ARGUMENT CONSTRUCTIBLE".split()
 MOST_LEAVES = 1000
 ALL_FLAGS, DEFAULT_CAPABILITIES, ALL_CAPABILITIES = 0x3F, 0x9000, 0xFFFFFFFFFFF
+CONSTANTS = 0x10
 NARROW = 1
 UNLIMITED = 2**64 - 1
 UNKNOWN = object()
@@ -121,6 +127,10 @@ class Library:
         status = self.on_words("functions", module, module.options(self.header), stages, len(stages), outcome)
         return status, outcome, stages[:outcome.written]
 
+    def declarations(self, module):
+        outcome = self.header.outcome()
+        return self.on_words("declarations", module, module.options(self.header), outcome), outcome
+
     def leaves(self, module, ty, length):
         counts, leaves, outcome = self.header.counts(), (self.header.leaf * MOST_LEAVES)(), self.header.outcome()
         paths, types = (ctypes.c_uint32 * (64 * MOST_LEAVES))(), array(ctypes.c_uint32, [ty])
@@ -151,16 +161,19 @@ class Module:
         self.words = writer.words
         self.resolve = writer.resolve
 
-    def setting(self, keyword, default):
-        """The number that a line sets, if it is one."""
+    def setting(self, keyword, default, most):
+        """The number that a line sets, if it is one or all bits that there are."""
         numbers = [line.split()[1] for line in self.lines if line.startswith(keyword + " ") and line.count(" ") == 1]
+        if numbers and numbers[0] == "all":
+            return most
         return int(numbers[0]) if numbers and numbers[0].isdigit() else default
 
     def options(self, header, capable=False):
         """Options that say what the lines say, with which these can agree. Leaves and slots depend on no capability, and
         a call on them validates the module first: it may have all of them, unless a line says which."""
-        capabilities = self.setting("caps", ALL_CAPABILITIES if capable else DEFAULT_CAPABILITIES)
-        flags = self.setting("flags", ALL_FLAGS)
+        by_default = ALL_CAPABILITIES if capable else DEFAULT_CAPABILITIES
+        capabilities = self.setting("caps", by_default, ALL_CAPABILITIES)
+        flags = self.setting("flags", ALL_FLAGS, ALL_FLAGS)
         return header.options(ctypes.sizeof(header.options), flags & ALL_FLAGS, capabilities & ALL_CAPABILITIES,
                               0, NARROW, UNLIMITED, UNLIMITED, UNLIMITED)
 
@@ -290,15 +303,36 @@ def is_slots(library, module, result, ty, offset):
     return status == OK and result[0].startswith(f"{slots:016x} ")
 
 
-def is_callables(library, module, result):
-    status, outcome, _ = library.functions(module)
-    if result[0] == "ok":
-        return status == OK
-    kind, index, expression, error = re.match(r"([FN])(\d+) E(\d+) refused (.*)", result[0]).groups()
+def is_expression(header, outcome, result):
+    """Whether the expression of a row is refused."""
+    kind, index, expression, error = re.match(r"([FN])(\d+) E(\d+) refused (.*)", result).groups()
     stage = 7 if kind == "F" else 8
     is_place = outcome.expression == int(expression)
-    refusal = told(library.header, ERRORS[stage], read(error))
-    return is_place and is_refusal(outcome, library.header, stage, int(index), *refusal)
+    return is_place and is_refusal(outcome, header, stage, int(index), *told(header, ERRORS[stage], read(error)))
+
+
+def is_callables(library, module, result):
+    status, outcome, _ = library.functions(module)
+    return status == OK if result[0] == "ok" else is_expression(library.header, outcome, result[0])
+
+
+def is_declared(library, module, result, query):
+    """Whether what a module declares is accepted or refused as a row says, which may ask for some of it only: then what
+    the call refuses before or after that says nothing."""
+    status, outcome = library.declarations(module)
+    if (query == "interfaces" and outcome.stage == 10) or (query == "variables" and outcome.stage in (7, 8, 11, 12)):
+        return UNKNOWN
+    # The call never leaves out constants.
+    if outcome.stage in (4, 5, 6) and not module.setting("flags", ALL_FLAGS, ALL_FLAGS) & CONSTANTS:
+        return UNKNOWN
+    if result[0] == "ok":
+        return status == OK
+    found = re.match(r"([VFN])(\d+) refused (.*)", result[0])
+    if found is None:
+        return is_expression(library.header, outcome, result[0]) if " E" in result[0] else UNKNOWN
+    kind, index, error = found.groups()
+    refusal = told(library.header, ERRORS[DECLARED[kind]], read(error))
+    return status == REFUSED and is_refusal(outcome, library.header, DECLARED[kind], int(index), *refusal)
 
 
 def is_stages(library, module, result, index, is_entry_point=False):
@@ -311,7 +345,8 @@ def is_stages(library, module, result, index, is_entry_point=False):
 
 CHECKS = {"report": is_report, "handles": is_handles, "validate": is_validated, "type": is_type, "leaves": is_leaves,
           "typeslots": is_slots, "callables": is_callables, "function": is_stages,
-          "entry": lambda library, module, result, at: is_stages(library, module, result, at, True)}
+          "entry": lambda library, module, result, at: is_stages(library, module, result, at, True),
+          **{name: functools.partial(is_declared, query=name) for name in ("variables", "interfaces", "declarations")}}
 
 
 def cases_of(text):
@@ -354,7 +389,7 @@ def is_line_text(lines):
     """Whether all lines have content that the text of naga_check may have."""
     keywords = {"flags", "caps", "resolved", "type", "expr", "const", "override", "doc"}
     return all(not line or line.startswith("#") or line.split(" ")[0] in keywords for line in lines) and not any(
-        map(is_larger_type, lines))
+        is_larger_type(line) or line in ("caps all", "flags all") for line in lines)
 
 
 def is_larger_type(line):

@@ -149,6 +149,7 @@ static void *ask_about(void *at) {
   if (naga_check_words(words, count, &options, infos, 0, &outcome) != modules[which].of_words) return at;
   of_functions = naga_check_functions(words, count, &options, paths, 0, &outcome);
   if (modules[which].of_functions != NONE && of_functions != modules[which].of_functions) return at;
+  if (naga_check_declarations(words, count, &options, &outcome) == NAGA_CHECK_OK && of_functions != NAGA_CHECK_OK) return at;
   naga_check_leaves(words, count, &options, &last_type, 1, 1, leaves, 4, paths, 2 * DEEP, &counts, &outcome);
   if (modules[which].has_slots) naga_check_slots(words, count, &options, last_type, 0, &slots, &outcome);
   return NULL;

@@ -67,6 +67,11 @@ def number(word, most=NONE):
     return int(word)
 
 
+def bits_of(word, most):
+    """A number of bits, or all that there are."""
+    return most if word == "all" else number(word, most)
+
+
 def index(word):
     return number(word, NONE - 1)
 
@@ -511,10 +516,10 @@ class Writer:
         self.name = word
 
     def line_flags(self, bits):
-        self.item(1, number(bits, 63))
+        self.item(1, bits_of(bits, 63))
 
     def line_caps(self, bits):
-        value = number(bits, 17592186044415)
+        value = bits_of(bits, 17592186044415)
         self.item(2, value & NONE, value >> 32)
 
     def line_resolved(self):

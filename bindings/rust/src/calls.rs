@@ -334,7 +334,7 @@ pub fn check_text(text: &[u8], options: &Options) -> Result<Vec<TypeInfo>, Error
 }
 
 /// Validates a module in words: its handles, types, global expressions, constants and overrides. Returns the info of
-/// each type. Of statements, variables, bindings and entry points it says nothing: they are not validated yet.
+/// each type. Of variables, functions and entry points it says nothing: [`check_declarations`] does.
 ///
 /// ```
 /// use naga_check::{check_words, Options, Scalar, TypeFlags, TypeInner, VectorSize, Words};
@@ -384,6 +384,49 @@ pub fn check_functions(words: &[u32], options: &Options) -> Result<FunctionStage
     stages_of(count_items(words, is_function), |stages| {
         raw::check_functions(Subject { words, options }, stages)
     })
+}
+
+/// Validates a module as [`check_functions`] does, its variables before its functions, and after these what they declare:
+/// of each function its local variables, its arguments and its result, and of each entry point its inputs and outputs,
+/// and what its stage asks for. Of statements it says nothing, nor of which variables an entry point uses.
+///
+/// ```
+/// use naga_check::{
+///     check_declarations, AddressSpace, Error, GlobalVariable, GlobalVariableError, Options, Refusal,
+///     ResourceBinding, Scalar, TypeInner, Words,
+/// };
+///
+/// let module_with = |binding: Option<ResourceBinding>| {
+///     let mut words = Words::new();
+///     let number = words.add_type(TypeInner::Scalar(Scalar::U32));
+///     let mut variable = GlobalVariable::new(AddressSpace::Uniform, number);
+///     variable.binding = binding;
+///     words.add_global_variable(&variable);
+///     words.finish()
+/// };
+/// check_declarations(&module_with(Some(ResourceBinding::new(0, 1)))?, &Options::new())?;
+/// let refused = check_declarations(&module_with(None)?, &Options::new());
+/// let Err(Error::Refused(Refusal::GlobalVariable { error, .. })) = refused else {
+///     panic!("uniform buffers are bound");
+/// };
+/// assert_eq!(error, GlobalVariableError::InvalidBinding);
+/// # Ok::<(), Box<dyn std::error::Error>>(())
+/// ```
+///
+/// # Errors
+///
+/// The first rule that the module breaks, or why nothing is known of it.
+pub fn check_declarations(words: &[u32], options: &Options) -> Result<(), Error> {
+    let (status, outcome) = raw::check_declarations(Subject { words, options });
+    declared(status, &outcome)
+}
+
+/// Whether a call accepted what a module declares.
+pub(crate) fn declared(status: NagaCheckStatus, outcome: &NagaCheckOutcome) -> Result<(), Error> {
+    match status {
+        sys::NAGA_CHECK_OK => Ok(()),
+        _ => Err(error_of(status, outcome)),
+    }
 }
 
 /// The stages that a call writes, which is given a buffer of at first `count` elements.

@@ -3,11 +3,15 @@
 //! The errors have naga's names, naga's fields and naga's texts, but for types and texts, which the library doesn't
 //! return: where naga's text shows one, the text here leaves it out.
 
+use crate::bindings::{Interpolation, Sampling};
+use crate::built_in::BuiltIn;
+use crate::declaration_errors::{EntryPointError, FunctionDeclarationError, GlobalVariableError};
 use crate::expression_error::ExpressionError;
 use crate::expressions::Expression;
 use crate::flags::Capabilities;
-use crate::module::{Constant, Function, Override};
+use crate::module::{Constant, Function, GlobalVariable, Override};
 use crate::operands::Handle;
+use crate::stages::ShaderStage;
 use crate::sys::{self, NagaCheckOutcome};
 use crate::told::{errors, ItemKind, Tell, Told};
 use crate::types::{AddressSpace, ImageClass, ImageDimension, Scalar, ScalarKind, Type};
@@ -138,6 +142,27 @@ pub enum Refusal {
         /// Which rule.
         error: ModuleError,
     },
+    /// A variable of the module breaks its rule.
+    GlobalVariable {
+        /// The variable.
+        variable: Handle<GlobalVariable>,
+        /// Which rule.
+        error: GlobalVariableError,
+    },
+    /// A function declares what it may not.
+    Declarations {
+        /// The function.
+        function: Handle<Function>,
+        /// Which rule.
+        error: FunctionDeclarationError,
+    },
+    /// An entry point breaks a rule of its stage, its inputs or its outputs.
+    Interface {
+        /// The index of the entry point.
+        index: u64,
+        /// Which rule.
+        error: EntryPointError,
+    },
 }
 
 /// The handle of an index that a call returned.
@@ -181,7 +206,7 @@ impl Refusal {
         })
     }
 
-    /// The same of the stages after those of `naga_check_words`.
+    /// The same of the stages that `naga_check_functions` has after those of `naga_check_words`.
     fn of_expression(outcome: &NagaCheckOutcome) -> Option<Refusal> {
         let index = outcome.index;
         let told = &mut Told::of_outcome(outcome);
@@ -199,6 +224,27 @@ impl Refusal {
             },
             sys::NAGA_CHECK_STAGE_MODULE => Refusal::Module {
                 error: ModuleError::tell(told)?,
+            },
+            _ => return Refusal::of_declaration(outcome),
+        })
+    }
+
+    /// The same of the stages that only `naga_check_declarations` has.
+    fn of_declaration(outcome: &NagaCheckOutcome) -> Option<Refusal> {
+        let index = outcome.index;
+        let told = &mut Told::of_outcome(outcome);
+        Some(match outcome.stage {
+            sys::NAGA_CHECK_STAGE_GLOBAL_VARIABLE => Refusal::GlobalVariable {
+                variable: handle(index)?,
+                error: GlobalVariableError::tell(told)?,
+            },
+            sys::NAGA_CHECK_STAGE_DECLARATIONS => Refusal::Declarations {
+                function: handle(index)?,
+                error: FunctionDeclarationError::tell(told)?,
+            },
+            sys::NAGA_CHECK_STAGE_INTERFACE => Refusal::Interface {
+                index,
+                error: EntryPointError::tell(told)?,
             },
             _ => return None,
         })
@@ -237,6 +283,13 @@ impl fmt::Display for Refusal {
                 )
             }
             Refusal::Module { .. } => f.write_str("The module is invalid"),
+            Refusal::GlobalVariable { variable, .. } => {
+                write!(f, "Global variable {variable:?} is invalid")
+            }
+            Refusal::Declarations { function, .. } => {
+                write!(f, "Function {function:?} is invalid")
+            }
+            Refusal::Interface { index, .. } => write!(f, "Entry point [{index}] is invalid"),
         }
     }
 }
@@ -252,6 +305,9 @@ impl error::Error for Refusal {
             Refusal::Override { error, .. } => error,
             Refusal::Function { error, .. } | Refusal::EntryPoint { error, .. } => error,
             Refusal::Module { error } => error,
+            Refusal::GlobalVariable { error, .. } => error,
+            Refusal::Declarations { error, .. } => error,
+            Refusal::Interface { error, .. } => error,
         })
     }
 }
@@ -480,7 +536,8 @@ errors! {
 }
 
 errors! {
-    /// Why the members of a struct can't be the two sources of blending (WGSL "blend_src").
+    /// Why an input or output of an entry point is refused, or why the members of a struct can't be the two sources of
+    /// blending (WGSL "User-defined Inputs and Outputs", "blend_src").
     pub enum VaryingError {
         /// A source of blending has another location than 0, or an index other than 0 and 1.
         InvalidBlendSrcIndex {
@@ -490,7 +547,7 @@ errors! {
             blend_src: u32,
         } = sys::NAGA_CHECK_VARYING_ERROR_INVALID_BLEND_SRC_INDEX
             => "A blend source has to be 0 or 1 at location 0, and not {blend_src} at location {location}",
-        /// A member before is the same source.
+        /// An earlier member or output is the same source.
         BindingCollisionBlendSrc {
             /// The index of the source.
             blend_src: u32,
@@ -510,7 +567,7 @@ errors! {
             blend_src_1_type: Handle<Type>,
         } = sys::NAGA_CHECK_VARYING_ERROR_BLEND_SRC_OUTPUT_TYPE_MISMATCH
             => "The blend sources are of the types {blend_src_0_type:?} and {blend_src_1_type:?}, which differ",
-        /// Pipeline stages can't pass values of the sources' type (WGSL "Input-output Locations").
+        /// Pipeline stages can't pass values of the type (WGSL "Input-output Locations").
         NotIOShareableType(ty: Handle<Type>) = sys::NAGA_CHECK_VARYING_ERROR_NOT_IO_SHAREABLE_TYPE
             => "Values of the type {ty:?} can't be passed between pipeline stages",
         /// Only one of the two sources exists.
@@ -519,6 +576,57 @@ errors! {
             present_blend_src: u32,
         } = sys::NAGA_CHECK_VARYING_ERROR_INCOMPLETE_BLEND_SRC_USAGE
             => "Only the blend source {present_blend_src} is there, and not the other one",
+        /// The type at a location is not a scalar or a vector.
+        InvalidType(ty: Handle<Type>) = sys::NAGA_CHECK_VARYING_ERROR_INVALID_TYPE => "The type {ty:?} does not match the varying",
+        /// The values of integers are not interpolated, and the interpolation is not `Flat`.
+        InvalidInterpolation = sys::NAGA_CHECK_VARYING_ERROR_INVALID_INTERPOLATION => "Interpolation is not valid",
+        /// The sampling says nothing of values that are interpolated so (WGSL "Interpolation").
+        InvalidInterpolationSamplingCombination {
+            /// How the value of a fragment is made.
+            interpolation: Interpolation,
+            /// Where it is taken.
+            sampling: Sampling,
+        } = sys::NAGA_CHECK_VARYING_ERROR_INVALID_INTERPOLATION_SAMPLING_COMBINATION
+            => "Cannot combine {interpolation:?} interpolation with the {sampling:?} sample type",
+        /// A floating-point output of a vertex shader or input of a fragment shader has no interpolation.
+        MissingInterpolation = sys::NAGA_CHECK_VARYING_ERROR_MISSING_INTERPOLATION
+            => "Interpolation must be specified on vertex shader outputs and fragment shader inputs",
+        /// The stage has no such built-in value as an input, or as an output.
+        InvalidBuiltInStage(value: BuiltIn) = sys::NAGA_CHECK_VARYING_ERROR_INVALID_BUILT_IN_STAGE
+            => "Built-in {value:?} is not available at this stage",
+        /// The built-in value has another type (WGSL "Built-in Inputs and Outputs").
+        InvalidBuiltInType(value: BuiltIn) = sys::NAGA_CHECK_VARYING_ERROR_INVALID_BUILT_IN_TYPE
+            => "Built-in type for {value:?} is invalid",
+        /// An argument or a result that is not a struct has no binding.
+        MissingBinding = sys::NAGA_CHECK_VARYING_ERROR_MISSING_BINDING
+            => "Entry point arguments and return values must all have bindings",
+        /// The member of this index has no binding.
+        MemberMissingBinding(index: u64) = sys::NAGA_CHECK_VARYING_ERROR_MEMBER_MISSING_BINDING
+            => "Struct member {index} is missing a binding",
+        /// An earlier input, or an earlier output, has the same location.
+        BindingCollision {
+            /// The location.
+            location: u32,
+        } = sys::NAGA_CHECK_VARYING_ERROR_BINDING_COLLISION => "Multiple bindings at location {location} are present",
+        /// An earlier input, or an earlier output, is the same built-in value.
+        DuplicateBuiltIn(value: BuiltIn) = sys::NAGA_CHECK_VARYING_ERROR_DUPLICATE_BUILT_IN
+            => "Built-in {value:?} is present more than once",
+        /// The binding needs a capability that isn't given.
+        UnsupportedCapability(capability: Capabilities) = sys::NAGA_CHECK_VARYING_ERROR_UNSUPPORTED_CAPABILITY
+            => "Capability {capability:?} is not supported",
+        /// A source of blending is an input of this stage, and not an output.
+        InvalidInputAttributeInStage(stage: ShaderStage) = sys::NAGA_CHECK_VARYING_ERROR_INVALID_INPUT_ATTRIBUTE_IN_STAGE
+            => "A blend source is only valid as an output for stage {stage:?}",
+        /// This stage has no sources of blending.
+        InvalidAttributeInStage(stage: ShaderStage) = sys::NAGA_CHECK_VARYING_ERROR_INVALID_ATTRIBUTE_IN_STAGE
+            => "A blend source is not valid for stage {stage:?}",
+        /// The place of an invocation among subgroups is only defined in workgroups of one dimension.
+        InvalidMultiDimensionalSubgroupBuiltIn
+            = sys::NAGA_CHECK_VARYING_ERROR_INVALID_MULTI_DIMENSIONAL_SUBGROUP_BUILT_IN
+            => "Workgroup size is multi dimensional, so built-in values of subgroups are not supported",
+        /// A value of each primitive is not an input of a fragment shader.
+        InvalidPerPrimitive = sys::NAGA_CHECK_VARYING_ERROR_INVALID_PER_PRIMITIVE
+            => "Values of each primitive can only be inputs of fragment shaders",
     }
 }
 

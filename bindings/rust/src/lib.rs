@@ -1,15 +1,16 @@
 //! A validator of shader modules whose verdicts are proved: bindings to `libnaga_check`.
 //!
 //! [`Words`] builds a module from types, expressions and functions that are named as in naga, and the calls read its
-//! words: [`check_words`] and [`check_functions`] validate it, [`leaves`] tells at which bytes of a buffer its values
-//! are, and [`slots`] which immediate data they use. [`check_text`] validates a module in the text that the program
+//! words: [`check_words`], [`check_functions`] and [`check_declarations`] validate it, [`leaves`] tells at which bytes of a
+//! buffer its values are, and [`slots`] which immediate data they use. [`check_text`] validates a module in the text that the program
 //! `naga_check` reads. [`Module`] reads and validates words once, for many questions. [`Options`] say how a module is
 //! validated and how much a call may take: what comes in the words or the text of a stranger can't loosen them.
 //!
-//! `Ok` means that every rule of the module's handles, types, global expressions, constants and overrides holds, and
-//! after [`check_functions`] every rule of the expressions of functions and entry points. It says nothing of statements,
-//! of variables and their bindings, of what entry points hand to each other, nor of whether a type fits the address
-//! space that a variable is in: these are not validated yet.
+//! `Ok` means that every rule of the module's handles, types, global expressions, constants and overrides holds; after
+//! [`check_functions`] also every rule of the expressions of functions and entry points; and after
+//! [`check_declarations`] besides these every rule of the module's variables, of the local variables, arguments and results
+//! of functions, and of the inputs and outputs of entry points. It says nothing of statements, nor of which variables an
+//! entry point uses and whether their bindings collide: these are not validated yet.
 //!
 //! ```
 //! use naga_check::{check_words, Error, Options, Scalar, TypeInner, Words};
@@ -48,6 +49,7 @@
 mod bindings;
 mod built_in;
 mod calls;
+mod declaration_errors;
 #[cfg(test)]
 mod error_texts;
 mod errors;
@@ -74,8 +76,12 @@ mod words;
 pub use bindings::{Binding, Interpolation, MemoryDecorations, ResourceBinding, Sampling};
 pub use built_in::BuiltIn;
 pub use calls::{
-    check_functions, check_text, check_words, leaves, leaves_up_to, report, slots, FunctionStages,
-    FunctionsError, Leaf, LeafIter, Leaves, Report, TypeInfo, Verdict,
+    check_declarations, check_functions, check_text, check_words, leaves, leaves_up_to, report,
+    slots, FunctionStages, FunctionsError, Leaf, LeafIter, Leaves, Report, TypeInfo, Verdict,
+};
+pub use declaration_errors::{
+    AlignmentError, BufferSpace, EntryPointError, FunctionDeclarationError, GlobalVariableError,
+    ImmediateError, LocalVariableError,
 };
 pub use errors::{
     ComposeError, ConstExpressionError, ConstantError, Disalignment, Error, HandleError,

@@ -1,8 +1,8 @@
 //! A module that is read and validated once.
 
 use crate::calls::{
-    error_of, infos_of, leaves_of, may_be_deep, slots, stages_of, FunctionStages, FunctionsError,
-    Leaves, TypeInfo,
+    declared, error_of, infos_of, leaves_of, may_be_deep, slots, stages_of, FunctionStages,
+    FunctionsError, Leaves, TypeInfo,
 };
 use crate::errors::Error;
 use crate::operands::Handle;
@@ -31,6 +31,7 @@ use std::cell::RefCell;
 /// assert_eq!(places, [(vec![0], 0), (vec![1], 8)]);
 /// assert_eq!(module.slots(pair, 0)?, 0b101);
 /// assert!(module.functions()?.functions.is_empty());
+/// module.declarations()?;
 /// # Ok::<(), Box<dyn std::error::Error>>(())
 /// ```
 #[derive(Debug)]
@@ -114,5 +115,15 @@ impl Module {
     pub fn functions(&self) -> Result<FunctionStages, FunctionsError> {
         let mut open = self.open.borrow_mut();
         stages_of(0, |stages| open.functions(stages))
+    }
+    /// Validates what the module declares, as [`check_declarations`](crate::check_declarations) does. Each call validates
+    /// it, and what it stands on, anew.
+    ///
+    /// # Errors
+    ///
+    /// The first rule that the module breaks, or `OutOfMemory`.
+    pub fn declarations(&self) -> Result<(), Error> {
+        let (status, outcome) = self.open.borrow_mut().declarations();
+        declared(status, &outcome)
     }
 }

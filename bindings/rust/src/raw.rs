@@ -107,6 +107,22 @@ pub(crate) fn check_functions(
     (status, outcome)
 }
 
+/// Validates a module with its variables, its functions, and what these declare.
+pub(crate) fn check_declarations(subject: Subject<'_>) -> (NagaCheckStatus, NagaCheckOutcome) {
+    version::require();
+    let mut outcome = NagaCheckOutcome::default();
+    // SAFETY: the words are a slice, the options are a reference, and `outcome` is a variable of its own.
+    let status = unsafe {
+        sys::naga_check_declarations_with(
+            subject.words.as_ptr(),
+            subject.words.len(),
+            subject.options.as_raw(),
+            &raw mut outcome,
+        )
+    };
+    (status, outcome)
+}
+
 /// Counts the leaves of types, and the indexes of their paths.
 pub(crate) fn count_leaves(
     subject: Subject<'_>,
@@ -247,6 +263,15 @@ impl OpenModule {
                 &raw mut outcome,
             )
         };
+        (status, outcome)
+    }
+
+    /// Validates its variables, its functions, and what these declare.
+    pub(crate) fn declarations(&mut self) -> (NagaCheckStatus, NagaCheckOutcome) {
+        let mut outcome = NagaCheckOutcome::default();
+        // SAFETY: the module is as a call left it, and `outcome` is a variable of its own.
+        let status =
+            unsafe { sys::naga_check_module_declarations_with(&raw mut self.0, &raw mut outcome) };
         (status, outcome)
     }
 

@@ -209,6 +209,15 @@ unsafe extern "C" {
         outcome: *mut NagaCheckOutcome,
     ) -> NagaCheckStatus;
 
+    /// Validates a module in words, its variables, the expressions of its functions and entry points, and what these
+    /// declare.
+    pub fn naga_check_declarations_with(
+        words: *const u32,
+        word_count: usize,
+        options: *const NagaCheckOptions,
+        outcome: *mut NagaCheckOutcome,
+    ) -> NagaCheckStatus;
+
     /// Validates a module in words, and writes the leaves of types of it.
     pub fn naga_check_leaves_with(
         words: *const u32,
@@ -270,6 +279,12 @@ unsafe extern "C" {
         module: *mut NagaCheckModule,
         stages: *mut u32,
         stage_count: usize,
+        outcome: *mut NagaCheckOutcome,
+    ) -> NagaCheckStatus;
+
+    /// Validates the variables of an open module, the expressions of its functions and entry points, and what these declare.
+    pub fn naga_check_module_declarations_with(
+        module: *mut NagaCheckModule,
         outcome: *mut NagaCheckOutcome,
     ) -> NagaCheckStatus;
 

@@ -1,9 +1,13 @@
 //! How errors are read from what a call wrote of them: their numbers, and the values that they hold.
 
+use crate::bindings::{Interpolation, Sampling};
+use crate::built_in::BuiltIn;
+use crate::declaration_errors::BufferSpace;
 use crate::expressions::SwizzleComponent;
-use crate::flags::Capabilities;
+use crate::flags::{Capabilities, TypeFlags};
 use crate::operands::Handle;
 use crate::operators::{BinaryOperator, MathFunction, UnaryOperator};
+use crate::stages::ShaderStage;
 use crate::storage_format::StorageFormat;
 use crate::sys::{self, NagaCheckOutcome};
 use crate::types::{
@@ -104,6 +108,19 @@ impl Tell for Capabilities {
     }
 }
 
+impl Tell for TypeFlags {
+    fn tell(told: &mut Told<'_>) -> Option<TypeFlags> {
+        told.next_word().map(TypeFlags::from_bits)
+    }
+}
+
+impl Tell for BuiltIn {
+    fn tell(told: &mut Told<'_>) -> Option<BuiltIn> {
+        let number = told.next_word()?;
+        BuiltIn::ALL.into_iter().find(|it| it.number() == number)
+    }
+}
+
 impl Tell for Scalar {
     fn tell(told: &mut Told<'_>) -> Option<Scalar> {
         Some(Scalar {
@@ -192,6 +209,10 @@ macro_rules! tell_by_number {
 }
 
 tell_by_number! {
+    BufferSpace { Uniform Storage }
+    Interpolation { Perspective Linear Flat PerVertex }
+    Sampling { Center Centroid Sample First Either }
+    ShaderStage { Vertex Task Mesh Fragment Compute RayGeneration Miss AnyHit ClosestHit }
     ScalarKind { Sint Uint Float Bool AbstractInt AbstractFloat }
     VectorSize { Bi Tri Quad }
     ImageDimension { D1 D2 D3 Cube }
