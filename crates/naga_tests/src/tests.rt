@@ -7,6 +7,7 @@ ghost use Rattle.naga_typing.specs.Resolutions.{TypesExist};
 
 mod compose;
 mod const_expressions;
+mod declarations;
 mod deep_types;
 mod expression_errors;
 mod flags;
