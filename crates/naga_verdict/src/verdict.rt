@@ -15,6 +15,7 @@ pub enum Stage {
     Expression,
     Constant,
     Override,
+    GlobalVariable,
     Function,
     EntryPoint,
     /// No part of it alone.
@@ -33,6 +34,7 @@ impl Stage {
             Stage::Expression => "expression",
             Stage::Constant => "constant",
             Stage::Override => "override",
+            Stage::GlobalVariable => "global variable",
             Stage::Function => "function",
             Stage::EntryPoint => "entry point",
             Stage::Module => "module",
