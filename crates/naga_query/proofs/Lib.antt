@@ -1,4 +1,5 @@
 mod Acceptance
 mod Calls
+mod Declarations
 mod Functions
 mod Validation

@@ -1,5 +1,5 @@
 -- What is known of modules that are accepted, and when expressions of their functions can be validated.
-use Rattle.std.specs.Prelude.{◌≡◌, ◌⊎◌, ◌<◌, ◌≤◌, ℕ, Bool as Boolean, List, [], All, IsOk, Some, length, slice_get}
+use Rattle.std.specs.Prelude.{◌≡◌, ◌⊎◌, ◌<◌, ◌≤◌, ℕ, Bool as Boolean, List, [], All, IfSome, IsOk, Option, None, Some, length, slice_get}
 use Rattle.naga_immediates.specs.Slots.{IsTyped}
 use Rattle.naga_info.specs.ModuleInfo.{ModuleInfoLists, ModuleInfoWithRoom}
 use Rattle.naga_ir.specs.Handles.{GlobalReferencesOk, HandlesAccepted}
@@ -18,6 +18,9 @@ use Rattle.naga_typing.specs.Typings.{Resolves}
 use Rattle.naga_valid.specs.Accepted.{Accepts}
 use Rattle.naga_valid.specs.Functions.{IsFunctionReady, AreFunctionsReadyInOrder}
 use Rattle.naga_valid.specs.State.{State, settings_of}
+use Rattle.naga_valid.specs.declared.interface.DeclarationsError.{DeclarationsError}
+use Rattle.naga_valid.specs.declared.interface.DeclarationsError.TheVariants as declarations_error
+use Rattle.naga_valid.specs.declared.interface.VariablesError.TheVariants as variables_error
 
 -- the handles of the module `m` are right
 pub record AreHandlesRight (m : Module) : Type 0 where
@@ -78,3 +81,12 @@ IsThereOrArgument f place x = (slice_get f.expressions place ≡ Some x) ⊎ ((i
 -- the type of the global variable `v` of the module `m` exists, if the variable does
 abbrev pub IsVariableTyped : Module → ℕ → Type 0
 IsVariableTyped m v = IsTyped (global_lists m) (slice_get m.global_variables v)
+
+-- the global variable that the error names
+abbrev pub variable_of : DeclarationsError → Option ℕ
+variable_of (declarations_error.Variable (variables_error.GlobalVariable handle source)) = Some handle
+variable_of _ = None
+
+-- the global variable that the error names, if it names one, is of the module `m`
+abbrev pub IsVariableThere : Module → DeclarationsError → Type 0
+IsVariableThere m error = IfSome (variable_of error) (λ v. v < length m.global_variables)

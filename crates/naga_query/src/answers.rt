@@ -1,5 +1,6 @@
 //! What queries are answered.
 
+pub mod declarations;
 pub mod exchange;
 pub mod functions;
 pub mod leaves;

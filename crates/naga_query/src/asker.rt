@@ -2,6 +2,7 @@
 
 ghost use Rattle.naga_query.specs.Accepted.{AreHandlesRight, IsAcceptedModule};
 
+use crate::answers::declarations::add_declarations;
 use crate::answers::exchange::add_exchange;
 use crate::answers::functions::{add_functions, add_last};
 use crate::answers::leaves::{add_leaf_at, add_leaves};
@@ -307,6 +308,7 @@ fn add_on_case(
             add_on_function(&mut sessions.full, answer, asked, &words, draft)
         }
         Query::Callables => add_callables(&mut sessions.full, answer, draft),
+        Query::Declaration(asked) => add_declarations(&mut sessions.full, answer, draft, asked),
         Query::Change(asked) => add_on_change(sessions, answer, asked, resolved.as_str(), case),
     }
 }

@@ -54,6 +54,14 @@ pub enum FunctionQuery {
     EntryPoint,
 }
 
+/// Queries about what a module declares besides types and values.
+#[derive(Clone, Copy)]
+pub enum DeclarationQuery {
+    Variables,
+    Interfaces,
+    Declarations,
+}
+
 /// Queries about a module that is read once more, with a change.
 #[derive(Clone, Copy)]
 pub enum ChangeQuery {
@@ -73,6 +81,7 @@ pub enum Query {
     Accepted(AcceptedQuery),
     Function(FunctionQuery),
     Callables,
+    Declaration(DeclarationQuery),
     Change(ChangeQuery),
 }
 
@@ -111,6 +120,15 @@ pub fn query_of(word: &[u8]) -> Option<Query> {
         ("function", Query::Function(FunctionQuery::Function)),
         ("entry", Query::Function(FunctionQuery::EntryPoint)),
         ("callables", Query::Callables),
+        ("variables", Query::Declaration(DeclarationQuery::Variables)),
+        (
+            "interfaces",
+            Query::Declaration(DeclarationQuery::Interfaces),
+        ),
+        (
+            "declarations",
+            Query::Declaration(DeclarationQuery::Declarations),
+        ),
         ("functions", Query::Change(ChangeQuery::Functions)),
         ("form", Query::Change(ChangeQuery::Form)),
         ("typing", Query::Change(ChangeQuery::Typing)),
@@ -128,6 +146,7 @@ pub fn needs_module(query: Query) -> bool {
         | Query::Accepted(_)
         | Query::Function(_)
         | Query::Callables
+        | Query::Declaration(_)
         | Query::Change(_) => true,
     }
 }

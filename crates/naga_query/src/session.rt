@@ -1,13 +1,16 @@
 //! The validators that serve all cases of a file.
 
-ghost use Rattle.std.specs.Prelude.{IfOk};
-ghost use Rattle.naga_query.specs.Accepted.{IsAcceptedBy, IsAcceptedModule};
+ghost use Rattle.std.specs.Prelude.{IfErr, IfOk};
+ghost use Rattle.naga_query.specs.Accepted.{IsAcceptedBy, IsAcceptedModule, IsVariableThere};
+ghost use Rattle.naga_valid.specs.Accepted.{Accepts};
+ghost use Rattle.naga_valid.specs.State.{settings_of};
 
+use crate::query::DeclarationQuery;
 use naga_module_text::draft::Draft;
 use naga_module_text::settings::Settings;
 use naga_valid::{
-    Capabilities, FullTyping, FunctionsError, Module, ModuleInfo, OutOfMemory, PlainTyping, Typing,
-    ValidationError, ValidationFlags, Validator, WithSpan, laws,
+    Capabilities, DeclarationsError, FullTyping, FunctionsError, Module, ModuleInfo, OutOfMemory,
+    PlainTyping, Typing, ValidationError, ValidationFlags, Validator, WithSpan, laws,
 };
 use std::alloc::Global;
 
@@ -97,6 +100,52 @@ impl<T: Typing + Copy> Session<T> {
             self.validator
                 .validate_functions(&draft.module, &mut info, resolved),
         )
+    }
+}
+
+/// Validates what an accepted module declares, as far as a query asks; `resolved` says whether overrides have to have their
+/// values.
+#[tactic(auto, using(crate::proofs::Declarations::refused_declaration, crate::proofs::Declarations::refused_variable, naga_valid::proofs::KnownModules::known_at_once, naga_valid::proofs::KnownModules::known_with_functions))]
+fn validate_declared<T: Typing>(
+    validator: &Validator<T>,
+    module: &Module,
+    info: &mut ModuleInfo,
+    resolved: bool,
+    query: DeclarationQuery,
+) -> Result<(), DeclarationsError>
+    requires { Accepts (T.resolves validator.now.typing) «module».now (settings_of validator.now resolved)
+        validator.now.infos info.old.lists }
+    ensures { IfErr result (IsVariableThere «module».now) }
+{
+    match query {
+        DeclarationQuery::Variables => validator
+            .validate_variables(module, info)
+            .map_err(DeclarationsError::Variable),
+        DeclarationQuery::Interfaces => {
+            if let Err(error) = validator.validate_functions(module, info, resolved) {
+                return Err(DeclarationsError::Function(error));
+            }
+            validator
+                .validate_interfaces(module, info)
+                .map_err(DeclarationsError::Interface)
+        }
+        DeclarationQuery::Declarations => validator.validate_declarations(module, info, resolved),
+    }
+}
+
+impl Session<FullTyping> {
+    /// Validates the module of a case with what it declares, as far as a query asks, under its settings.
+    pub fn validate_declarations(
+        &mut self,
+        draft: &Draft,
+        query: DeclarationQuery,
+    ) -> Result<Result<(), DeclarationsError>, WithSpan<ValidationError>>
+        ensures { IfOk result (λ checked. IfErr checked (IsVariableThere draft.now.«module»)) }
+    {
+        self.set(draft.settings);
+        let resolved = draft.settings.resolved();
+        let mut info = validate_module(&mut self.validator, &draft.module, resolved)?;
+        Ok(validate_declared(&self.validator, &draft.module, &mut info, resolved, query))
     }
 }
 

@@ -144,7 +144,7 @@ pub fn add_callable(
 }
 
 /// Adds which function or entry point is refused first, and why.
-fn add_first_refusal(answer: &mut String, error: &FunctionsError) -> Result<(), OutOfMemory> {
+pub fn add_first_refusal(answer: &mut String, error: &FunctionsError) -> Result<(), OutOfMemory> {
     let callable = match error.at {
         ModuleCallable::Function(handle) => Callable::Function(handle.index()),
         ModuleCallable::EntryPoint(index) => Callable::EntryPoint(index),
