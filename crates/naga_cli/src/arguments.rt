@@ -18,6 +18,15 @@ pub struct Shown {
     pub length: u32,
 }
 
+/// How much of a module is validated.
+#[derive(Clone, Copy, Debug, PartialEq)]
+pub enum Coverage {
+    /// Its handles, types and values, and the expressions of its functions and entry points.
+    Values,
+    /// Also its variables, and what its functions and entry points declare.
+    Declarations,
+}
+
 /// How files are read and validated, and how results are written.
 #[derive(Clone, Copy, Debug, PartialEq)]
 pub struct Options {
@@ -29,6 +38,7 @@ pub struct Options {
     pub text: Option<TextKind>,
     /// What is set beside the settings in the files.
     pub asked: Settings,
+    pub coverage: Coverage,
     pub shown: Shown,
 }
 
@@ -119,6 +129,7 @@ enum Name {
     Flags,
     Capabilities,
     Resolved,
+    Values,
     Slots,
     Length,
     Help,
@@ -135,6 +146,7 @@ fn name_of(subcommand: Subcommand, word: &str) -> Option<Name> {
         ("--flags", Name::Flags),
         ("--capabilities", Name::Capabilities),
         ("--resolved", Name::Resolved),
+        ("--values", Name::Values),
         ("--slots", Name::Slots),
         ("--length", Name::Length),
         ("-h", Name::Help),
@@ -144,7 +156,7 @@ fn name_of(subcommand: Subcommand, word: &str) -> Option<Name> {
     ];
     let name = naga_text::words::chosen(&names, word.as_bytes())?;
     match (name, subcommand) {
-        (Name::Quiet, Subcommand::Layout) => None,
+        (Name::Quiet | Name::Values, Subcommand::Layout) => None,
         (Name::Slots | Name::Length, Subcommand::Check) => None,
         _ => Some(name),
     }
@@ -154,8 +166,13 @@ fn name_of(subcommand: Subcommand, word: &str) -> Option<Name> {
 fn has_value(name: Name) -> bool {
     match name {
         Name::Text | Name::Flags | Name::Capabilities | Name::Length => true,
-        Name::Quiet | Name::Json | Name::Resolved | Name::Slots | Name::Help | Name::Version =>
-            false,
+        Name::Quiet
+        | Name::Json
+        | Name::Resolved
+        | Name::Values
+        | Name::Slots
+        | Name::Help
+        | Name::Version => false,
     }
 }
 
@@ -199,6 +216,11 @@ impl Parsed {
                 json: false,
                 text: None,
                 asked: Settings::default(),
+                // Where the parts of a type are in memory depends on no declaration.
+                coverage: match subcommand {
+                    Subcommand::Check => Coverage::Declarations,
+                    Subcommand::Layout => Coverage::Values,
+                },
                 shown: Shown {
                     slots: false,
                     length: 1,
@@ -216,6 +238,7 @@ impl Parsed {
             Name::Quiet => self.options.quiet = true,
             Name::Json => self.options.json = true,
             Name::Resolved => self.options.asked.resolved = Some(true),
+            Name::Values => self.options.coverage = Coverage::Values,
             Name::Slots => self.options.shown.slots = true,
             Name::Help => self.is_help = true,
             Name::Version => self.is_version = true,

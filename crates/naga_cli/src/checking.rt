@@ -3,86 +3,34 @@
 ghost use Rattle.std.specs.Prelude.{◌≡◌, IfOk, None, Some};
 ghost use Rattle.naga_arena.specs.Memory.{UnlessOutOfMemory};
 ghost use Rattle.naga_arena.specs.Span.{inner_of};
-ghost use Rattle.naga_cli.specs.Findings.{IsFound, Says, SaysFunctionError, SaysModuleError, settings_in};
+ghost use Rattle.naga_cli.specs.Findings.{IsFound, Says, SaysDeclarationsError, SaysFunctionError, SaysModuleError, settings_in, state_of};
 ghost use Rattle.naga_types.specs.ErrorNames.{type_error_name};
 ghost use Rattle.naga_typing.specs.FullTyping.{full_resolves};
 ghost use Rattle.naga_valid.specs.Accepted.{Accepts, Refuses};
 ghost use Rattle.naga_valid.specs.ErrorNames.{constant_error_name, override_error_name, validation_error_name};
-ghost use Rattle.naga_valid.specs.State.{new_state, settings_of};
+ghost use Rattle.naga_valid.specs.State.{settings_of};
 ghost use Rattle.naga_valid.specs.declared.error.ValidationError.TheVariants as module_error;
 ghost use Rattle.naga_verdict.specs.declared.item.Item.TheVariants as item;
 ghost use Rattle.naga_verdict.specs.declared.verdict.Stage.TheVariants as stage;
 
+use crate::arguments::Coverage;
+use crate::declarations::{refused_interface, refused_variable};
 use crate::names::{
     Names, of_const_expression_error, of_expression_error, of_handle_error, of_override_error,
     of_type_error, subject_of,
 };
+use crate::refusal::{Wrong, refusal};
 use naga_source::places::Places;
 use naga_source::reading::Subject;
 use naga_valid::{
-    Callable, ConstantError, FullTyping, FunctionError, FunctionsError, InvalidHandleError,
-    LayoutError, ModuleInfo, OutOfMemory, OverrideError, TypeError, ValidationError, Validator,
-    WithSpan,
+    Callable, ConstantError, DeclarationsError, FullTyping, FunctionError, FunctionsError,
+    InvalidHandleError, LayoutError, ModuleInfo, OutOfMemory, OverrideError, TypeError,
+    ValidationError, Validator, WithSpan,
 };
 use naga_verdict::item::{Item, Owner};
-use naga_verdict::verdict::{Named, Refusal, Stage};
-use std::alloc::{AllocError, Global};
+use naga_verdict::verdict::{Refusal, Stage};
+use std::alloc::Global;
 use std::fmt::{Debug, Display};
-
-/// All items that an error names, with what the file says of them.
-fn all_named(alloc: Global, places: &Places, names: Names) -> Result<Vec<Named>, AllocError> {
-    let mut all = Vec::new(alloc);
-    for item in [names.first, names.second, names.third, names.fourth] {
-        if let Some(item) = item
-            && !all.iter().any(|other: &Named| other.item == item)
-        {
-            all.push(places.named(item)?)?;
-        }
-    }
-    Ok(all)
-}
-
-/// What an error holds, in what Rust prints of it: all behind the name of the variant.
-fn fields_of(printed: &str) -> &str {
-    let end = printed
-        .bytes()
-        .position(|byte| !(byte.is_ascii_alphanumeric() || byte == b'_'));
-    end.and_then(|end| printed.get(end..)).unwrap_or("")
-}
-
-/// What is found wrong.
-#[derive(Clone, Copy)]
-struct Wrong<'a> {
-    stage: Stage,
-    item: Option<Item>,
-    /// The name of the error.
-    name: &'a str,
-    names: Names,
-}
-
-/// The refusal for an error.
-fn refusal<E: Debug + Display>(
-    alloc: Global,
-    places: &Places,
-    wrong: Wrong<'_>,
-    error: &E,
-) -> Result<Refusal, OutOfMemory>
-    ensures { IfOk result (Says wrong.entry.stage wrong.entry.item wrong.entry.name.now) }
-{
-    let at = match wrong.item {
-        Some(item) => Some(places.named(item)?),
-        None => None,
-    };
-    let printed = format!(in alloc; "{error:?}")?;
-    Ok(Refusal {
-        stage: wrong.stage,
-        at,
-        error: String::from_str(alloc, wrong.name)?,
-        fields: String::from_str(alloc, fields_of(printed.as_str()))?,
-        text: error.to_string(alloc)?,
-        names: all_named(alloc, places, wrong.names)?,
-    })
-}
 
 /// The refusal for an error of handles.
 fn refused_handle(
@@ -293,18 +241,18 @@ fn validate(
     }
 }
 
-/// What is found of the functions of a module that is accepted without them.
+/// What is found of a module that is accepted without its functions, by the expressions of its functions and entry
+/// points.
 fn check_functions(
     alloc: Global,
     validator: Validator<FullTyping>,
     subject: &Subject,
     info: &mut ModuleInfo,
 ) -> Result<Checked, OutOfMemory>
-    requires settings { validator ≡ record (new_state subject.now.flags subject.now.capabilities validator.typing) {
-      infos = validator.infos;
-    } }
-    requires accepted { Accepts full_resolves subject.now.«module» (settings_in subject.now) validator.infos info.old.lists }
-    ensures { IfOk result (IsFound subject.now) }
+    requires settings { validator ≡ state_of subject.now validator.typing validator.infos }
+    requires accepted { Accepts full_resolves subject.now.«module» (settings_in subject.now) validator.infos
+        info.old.lists }
+    ensures { IfOk result (IsFound Coverage.Values subject.now) }
 {
     match validator.validate_functions(&subject.module, info, subject.resolved) {
         Ok(()) => Ok(Checked::Accepted(validator)),
@@ -315,14 +263,51 @@ fn check_functions(
     }
 }
 
-/// What is found of the module of a subject: whether it is accepted with its functions and entry points, or else the
-/// first rule that it breaks.
+/// The refusal for an error of what a module declares.
+fn refused_declarations(
+    alloc: Global,
+    places: &Places,
+    error: &DeclarationsError,
+) -> Result<Refusal, OutOfMemory>
+    ensures { IfOk result (SaysDeclarationsError error.now) }
+{
+    match error {
+        DeclarationsError::Variable(error) => refused_variable(alloc, places, error),
+        DeclarationsError::Function(error) => refused_function(alloc, places, error),
+        DeclarationsError::Interface(error) => refused_interface(alloc, places, error),
+    }
+}
+
+/// What is found of a module that is accepted without its functions, by all that it declares.
+fn check_declarations(
+    alloc: Global,
+    validator: Validator<FullTyping>,
+    subject: &Subject,
+    info: &mut ModuleInfo,
+) -> Result<Checked, OutOfMemory>
+    requires settings { validator ≡ state_of subject.now validator.typing validator.infos }
+    requires accepted { Accepts full_resolves subject.now.«module» (settings_in subject.now) validator.infos
+        info.old.lists }
+    ensures { IfOk result (IsFound Coverage.Declarations subject.now) }
+{
+    match validator.validate_declarations(&subject.module, info, subject.resolved) {
+        Ok(()) => Ok(Checked::Accepted(validator)),
+        Err(error) => {
+            let refusal = refused_declarations(alloc, &subject.places, &error)?;
+            Ok(Checked::Refused(refusal))
+        }
+    }
+}
+
+/// What is found of the module of a subject, as far as it is to be validated: it is accepted, or refused by the first
+/// rule that it breaks. Its variables come before its functions, and the expressions of all functions and entry points
+/// before what these declare.
 ///
 /// # Errors
 ///
 /// `OutOfMemory` if a request for memory was refused.
-pub fn check(alloc: Global, subject: &Subject) -> Result<Checked, OutOfMemory>
-    ensures { IfOk result (IsFound subject.now) }
+pub fn check(alloc: Global, subject: &Subject, coverage: Coverage) -> Result<Checked, OutOfMemory>
+    ensures { IfOk result (IsFound coverage subject.now) }
 {
     let mut validator = Validator::with_typing(
         alloc,
@@ -331,7 +316,10 @@ pub fn check(alloc: Global, subject: &Subject) -> Result<Checked, OutOfMemory>
         FullTyping,
     );
     match validate(&mut validator, subject) {
-        Ok(mut info) => check_functions(alloc, validator, subject, &mut info),
+        Ok(mut info) => match coverage {
+            Coverage::Values => check_functions(alloc, validator, subject, &mut info),
+            Coverage::Declarations => check_declarations(alloc, validator, subject, &mut info),
+        },
         Err(error) => {
             let refusal = refused(alloc, &subject.places, error.as_inner())?;
             Ok(Checked::Refused(refusal))

@@ -3,12 +3,14 @@
 
 mod arguments;
 mod checking;
+mod declarations;
 mod layout;
 mod layout_objects;
 mod layouts;
 mod leaf_types;
 mod names;
 mod paths;
+mod refusal;
 mod rows;
 mod run;
 mod tables;

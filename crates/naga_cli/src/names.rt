@@ -1,8 +1,9 @@
 //! The items that errors name.
 
 use naga_valid::{
-    ComposeError, ConstExpressionError, ExpressionError, ExpressionTag, FwdDepError, Handle,
-    InvalidHandleError, OverrideError, TypeError, TypeInner, TypeTag, VaryingError,
+    ComposeError, ConstExpressionError, ExpressionError, ExpressionTag, FwdDepError,
+    GlobalVariableError, Handle, InvalidHandleError, LocalVariableError, OverrideError, TypeError,
+    TypeInner, TypeTag, VaryingError,
 };
 use naga_verdict::item::{Item, Owner};
 
@@ -81,14 +82,14 @@ pub fn of_handle_error(error: &InvalidHandleError) -> Names {
     }
 }
 
-/// The types that an error of blend sources names.
-fn of_varying_error(error: &VaryingError) -> Names {
+/// The types that an error of inputs, outputs or blend sources names.
+pub fn of_varying_error(error: &VaryingError) -> Names {
     match error {
         VaryingError::BlendSrcOutputTypeMismatch {
             blend_src_0_type,
             blend_src_1_type,
         } => two(of_type(blend_src_0_type), of_type(blend_src_1_type)),
-        VaryingError::NotIOShareableType(ty) => one(of_type(ty)),
+        VaryingError::InvalidType(ty) | VaryingError::NotIOShareableType(ty) => one(of_type(ty)),
         _ => Names::default(),
     }
 }
@@ -136,6 +137,26 @@ pub fn of_override_error(error: &OverrideError) -> Names {
     match error {
         OverrideError::ConstExpression { handle, .. } => one(of_global(handle)),
         _ => Names::default(),
+    }
+}
+
+/// The type that an error of a variable of a module names.
+pub fn of_global_variable_error(error: &GlobalVariableError) -> Names {
+    match error {
+        GlobalVariableError::Alignment(_, ty, _) | GlobalVariableError::InvalidBindingArray(ty) => {
+            one(of_type(ty))
+        }
+        _ => Names::default(),
+    }
+}
+
+/// The type that an error of a local variable names.
+pub fn of_local_variable_error(error: &LocalVariableError) -> Names {
+    match error {
+        LocalVariableError::InvalidType(ty) => one(of_type(ty)),
+        LocalVariableError::InitializerType | LocalVariableError::NonConstOrOverrideInitializer => {
+            Names::default()
+        }
     }
 }
 

@@ -179,7 +179,7 @@ fn do_with_subject(
         let file = job.file;
         eprint!(rt; "{file}: it describes no item\n")?;
     }
-    match (check(alloc, subject)?, job.layouts) {
+    match (check(alloc, subject, job.options.coverage)?, job.layouts) {
         (Checked::Refused(refusal), _) => {
             write_verdict(rt, job, case, Verdict::Refused(refusal))
         }

@@ -6,7 +6,8 @@ use crate::arguments::Subcommand;
 const CHECK: &str = "usage: check [OPTIONS] FILE..
 
 Validates the shader modules that files describe; - is standard input. An accepted module has the line
-FILE: ok on standard output, and all else has lines on standard error that say where and why.
+FILE: ok on standard output, and all else has lines on standard error that say where and why. The bodies of
+functions are not validated, nor which variables they use.
 
   -q, --quiet           print nothing on accepted modules
       --json            print an object of JSON for each module, on standard output
@@ -15,6 +16,7 @@ FILE: ok on standard output, and all else has lines on standard error that say w
       --flags F         which parts are validated: a number, all, default, or names with commas between
       --capabilities C  what modules may use: a number, all, default, or names with commas between
       --resolved        overrides have to have their values
+      --values          validate types, values and expressions alone, and nothing that is declared
   -h, --help            print this
   -V, --version         print the version
 
