@@ -8,6 +8,7 @@
 mod awkward;
 mod build;
 mod functions;
+mod interfaces;
 mod modules_in_words;
 mod packing;
 mod passes;
@@ -20,6 +21,7 @@ mod types;
 mod values;
 
 use crate::awkward::validate_awkward;
+use crate::interfaces::declare_many;
 use crate::modules_in_words::check_many;
 use crate::packing::pack_many;
 use crate::passes::ask_many;
@@ -50,6 +52,7 @@ fn run(
         "packing" => pack_many(alloc, count, random, totals)?,
         "passes" => ask_many(alloc, count, random, totals)?,
         "awkward" => validate_awkward(alloc, count, random, totals)?,
+        "interfaces" => declare_many(alloc, count, random, totals)?,
         _ => bail!("there is no job {job}"),
     }
     Ok(())
@@ -73,6 +76,7 @@ fn check(rt: &(impl AllocGlobal + Print)) -> Result<()> {
         ("items", 8),
         ("packing", 1),
         ("passes", 1),
+        ("interfaces", 4),
     ] {
         let mut totals = Totals::default();
         run(rt.alloc(), job, count, &mut Random::new(1), &mut totals)?;
