@@ -5,9 +5,12 @@
                                           results; after the header, if that is asked for
 """
 
+import os
 import re
 import sys
 
+FLAGS_HEADER = f"{os.path.dirname(os.path.realpath(__file__))}/../c/naga_check_flags.h"
+ALL_CAPABILITIES = 17592186044415
 NONE = 0xFFFFFFFF
 # The header, which may stand before all items: an item of the bytes of a file by which it is known, and a version.
 HEADER = [2 << 8 | 15, int.from_bytes(b"NAGW", "little"), 1]
@@ -70,6 +73,18 @@ def number(word, most=NONE):
 def bits_of(word, most):
     """A number of bits, or all that there are."""
     return most if word == "all" else number(word, most)
+
+
+def capabilities_of(word):
+    """The bits of some capabilities: a number, all that there are, or names of the header with commas between them."""
+    if word == "all" or word[:1].isdigit():
+        return bits_of(word, ALL_CAPABILITIES)
+    with open(FLAGS_HEADER, encoding="utf-8") as header:
+        bits = dict(re.findall(r"#define NAGA_CHECK_CAPABILITY_(\w+) UINT64_C\((\w+)\)", header.read()))
+    names = set(word.split(","))
+    if names - bits.keys():
+        raise Unreadable(word)
+    return sum(int(bits[name], 16) for name in names)
 
 
 def index(word):
@@ -519,7 +534,7 @@ class Writer:
         self.item(1, bits_of(bits, 63))
 
     def line_caps(self, bits):
-        value = bits_of(bits, 17592186044415)
+        value = capabilities_of(bits)
         self.item(2, value & NONE, value >> 32)
 
     def line_resolved(self):
